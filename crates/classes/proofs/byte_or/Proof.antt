@@ -1,0 +1,20 @@
+-- Past the end the definition's `getD` gives 0 too. Assumes nothing.
+use lib.ListN.{List·getD-eq-default}
+use mathlib.Core.Path.{sym}
+use borrow.Author.Needs.{needs}
+use Rattle.classes.proofs.byte_or.Statement.{statement}
+use Rattle.classes.proofs.byte_or.Tie as tie
+use Rattle.classes.proofs.byte_or.Reads as reads
+use Rattle.classes.proofs.byte_or.Lts as lts
+
+shared-slice-read-result : tie.Need-shared-slice-read-result
+shared-slice-read-result c = search needs
+
+returns : tie.Need-returns
+returns c = search needs
+
+returns-2 : tie.Need-returns-2
+returns-2 c = sym (List·getD-eq-default (c .before .args .s .now) 0 (c .if1 .left))
+
+pub byte-or-spec : {M : Type 1} → statement M
+byte-or-spec = tie.close (tie.spec shared-slice-read-result returns returns-2)

@@ -1,0 +1,14 @@
+-- The test is the definition's own. Assumes nothing.
+use Rattle.classes.specs.Bytes.{isGraphic}
+use mathlib.Core.Path.{refl}
+use Rattle.classes.proofs.is_graphic.Statement.{statement}
+use Rattle.classes.proofs.is_graphic.Tie as tie
+use Rattle.classes.proofs.is_graphic.Reads as reads
+use Rattle.classes.proofs.is_graphic.Lts as lts
+
+returns : tie.Need-returns
+unfolding isGraphic
+returns c = refl
+
+pub is-graphic-spec : {M : Type 1} → statement M
+is-graphic-spec = tie.close (tie.spec returns)

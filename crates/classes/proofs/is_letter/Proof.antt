@@ -1,0 +1,14 @@
+-- The test is the definition's own. Assumes nothing.
+use Rattle.classes.specs.Bytes.{isLetter}
+use mathlib.Core.Path.{refl}
+use Rattle.classes.proofs.is_letter.Statement.{statement}
+use Rattle.classes.proofs.is_letter.Tie as tie
+use Rattle.classes.proofs.is_letter.Reads as reads
+use Rattle.classes.proofs.is_letter.Lts as lts
+
+returns : tie.Need-returns
+unfolding isLetter
+returns c = refl
+
+pub is-letter-spec : {M : Type 1} → statement M
+is-letter-spec = tie.close (tie.spec returns)

@@ -1,0 +1,26 @@
+-- A letter of upper case, or any other byte, by the two tests. Assumes nothing.
+use borrow.Author.Tests.{le-leb, lt-leb}
+use Rattle.classes.specs.Bytes.{lower}
+use borrow.Author.Needs.{needs}
+use Rattle.classes.proofs.lower_case.Statement.{statement}
+use Rattle.classes.proofs.lower_case.Tie as tie
+use Rattle.classes.proofs.lower_case.Reads as reads
+use Rattle.classes.proofs.lower_case.Lts as lts
+
+add-result : tie.Need-add-result
+add-result c = search needs
+
+returns : tie.Need-returns
+unfolding lower
+returns c = simp (le-leb _ _ (c .before .if1 .taken), le-leb _ _ (c .if2 .taken))
+
+returns-2 : tie.Need-returns-2
+unfolding lower
+returns-2 c = simp (le-leb _ _ (c .before .if1 .taken), lt-leb _ _ (c .if2 .left))
+
+returns-3 : tie.Need-returns-3
+unfolding lower
+returns-3 c = simp (lt-leb _ _ (c .if1 .left))
+
+pub lower-case-spec : {M : Type 1} → statement M
+lower-case-spec = tie.close (tie.spec add-result returns returns-2 returns-3)

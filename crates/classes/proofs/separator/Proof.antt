@@ -1,0 +1,14 @@
+-- The test is the definition's own. Assumes nothing.
+use Rattle.classes.specs.Bytes.{separates}
+use mathlib.Core.Path.{refl}
+use Rattle.classes.proofs.separator.Statement.{statement}
+use Rattle.classes.proofs.separator.Tie as tie
+use Rattle.classes.proofs.separator.Reads as reads
+use Rattle.classes.proofs.separator.Lts as lts
+
+returns : tie.Need-returns
+unfolding separates
+returns c = refl
+
+pub separator-spec : {M : Type 1} → statement M
+separator-spec = tie.close (tie.spec returns)

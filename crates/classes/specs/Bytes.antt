@@ -1,0 +1,36 @@
+-- The classes of bytes that 01's section "Elements" speaks of. Request 04 (accented letters) changes `isLetter` and `lower` and nothing else.
+-- Assumes nothing.
+use Prim.Native.Nat.{ℕ, _+_, _-_}
+use mathlib.Core.Bool.{Bool, cond, _&&_, _||_}
+use lib.Dec.{leb, eqb}
+
+-- from one byte to another, both included
+abbrev pub within : ℕ → ℕ → ℕ → Bool
+within low high b = leb low b && leb b high
+
+-- "Bytes 10, 11, 12 and 13 each end a line."
+unfoldable pub endsLine : ℕ → Bool
+endsLine b = within 10 13 b
+
+-- "Bytes 9, 32 and 160 separate."
+unfoldable pub separates : ℕ → Bool
+separates b = eqb b 9 || eqb b 32 || eqb b 160
+
+-- "Letters are A-Z and a-z"
+unfoldable pub isLetter : ℕ → Bool
+isLetter b = within 65 90 b || within 97 122 b
+
+-- ", and case is ignored": a letter as its lower case
+unfoldable pub lower : ℕ → ℕ
+lower b = cond (within 65 90 b) (b + 32) b
+
+unfoldable pub isDigit : ℕ → Bool
+isDigit b = within 48 57 b
+
+-- "Strings, extended identifiers and character literals hold bytes 32-126 and 160-255."
+unfoldable pub isGraphic : ℕ → Bool
+isGraphic b = within 32 126 b || within 160 255 b
+
+-- the number that a digit stands for, A to F and a to f being 10 to 15; 16, which is below no base, for any other byte
+unfoldable pub digitValue : ℕ → ℕ
+digitValue b = cond (isDigit b) (b - 48) (cond (within 65 70 b) (b - 55) (cond (within 97 102 b) (b - 87) 16))

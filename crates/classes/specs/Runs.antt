@@ -1,0 +1,28 @@
+-- Runs of bytes: how long a word or a row of digits is, "single underscores between them". Past the end of a list `getD` gives 0, a byte
+-- of no class. Assumes nothing.
+use Prim.Native.Nat.{ℕ, suc}
+use mathlib.Core.Bool.{Bool, true, false, _&&_, _||_}
+use mathlib.Core.List.{List, [], _∷_}
+use lib.Dec.{eqb, ltb}
+use lib.ListN.{getD}
+use Rattle.classes.specs.Bytes.{isLetter, isDigit, digitValue}
+use Rattle.classes.specs.declared.Run.{Run}
+use Rattle.classes.specs.declared.Run.the-variants.{Word, Below}
+
+-- "letters and digits" of an identifier; digits below a base
+unfoldable pub inRun : Run → ℕ → Bool
+inRun Word b = isLetter b || isDigit b
+inRun (Below base) b = ltb (digitValue b) base
+
+-- how many bytes at the front, while the rest from each of them passes the test
+unfoldable pub count : (List ℕ → Bool) → List ℕ → ℕ
+count q [] = 0
+count q (b ∷ s) = elim (q (b ∷ s)) [ true ↦ suc (count q s) | false ↦ 0 ]
+
+-- at the front stands a byte of the run, or an underscore (95) with one behind it
+unfoldable pub goesOn : Run → List ℕ → Bool
+goesOn c s = inRun c (getD s 0 0) || eqb (getD s 0 0) 95 && inRun c (getD s 1 0)
+
+-- the length of a run whose first byte is known to be of it
+unfoldable pub run : Run → List ℕ → ℕ
+run c s = count (goesOn c) s

@@ -1,0 +1,238 @@
+-- The ways of the definitions of `Element`, in the code's terms: each premise is what a call, a test or a match gives. Assumes nothing.
+use mathlib.Core.Path.{_≡_, refl, sym, ap, _∙_}
+use mathlib.Core.Bool.{Bool, true, false, not, _&&_, _||_}
+use mathlib.Core.List.{List, [], _∷_}
+use Prim.Native.Nat.{ℕ, zero, suc, _+_, _-_, _^_, _≤_, _<_}
+use native.Mathlib.Omega.{arith}
+use borrow.Author.Tests.{eq-eqb, ne-eqb, lt-ltb, le-ltb}
+use mir.Val.{Fits}
+use mir.Syntax.{w8, w64}
+use lib.Dec.{eqb}
+use lib.ListN.{length, take, drop, getD, length-drop}
+use lib.Seq.{length-take-le}
+use Rattle.classes.specs.Bytes.{separates, isLetter, isDigit, isGraphic}
+use Rattle.classes.specs.Runs.{run}
+use Rattle.classes.specs.declared.Run.the-variants.{Word}
+use Rattle.classes.proofs.Laws.{part-rest, run-le}
+use Rattle.words.specs.Words.{placeIn, reservedWords, delimiters, bytesOf, begins, spells, placeFrom}
+use Rattle.words.specs.declared.Place.{Place}
+use Rattle.words.specs.declared.Place.the-variants.{At, Nowhere}
+use Rattle.words.proofs.Laws.{place-below}
+use Rattle.numbers.specs.Numbers.{number}
+use Rattle.numbers.specs.declared.Number.{Number}
+use Rattle.numbers.specs.declared.Number.the-variants.{Integer, Real, Neither}
+use Rattle.quoted.proofs.Laws.{closed-in}
+use Rattle.quoted.specs.Quoted.{closedFrom}
+use Rattle.quoted.specs.declared.Closed.{Closed}
+use Rattle.quoted.specs.declared.Closed.the-variants.{After, Never}
+use Rattle.elements.specs.Element.{unreadable, identifier, word, extended, extendedBy, followsNone, numeral, numeralBy, string, stringBy, apostrophe, single, delimiter, delimiterBy, other, opensOf, elementAt, elementBy}
+use Rattle.elements.specs.declared.Kind.{Kind}
+use Rattle.elements.specs.declared.Literal.{Literal}
+use Rattle.elements.specs.declared.Opens.{Opens}
+use Rattle.elements.specs.declared.Found.{Found}
+use Rattle.elements.specs.declared.Found.the-variants.{Skip, Element}
+
+-- a place in either list fits a byte
+pub reserved-fits : (p : Place) (w : List ℕ) (k : ℕ) → p ≡ placeIn w reservedWords → p ≡ At k → Fits w8 k
+unfolding reservedWords
+reserved-fits p w k e m = omega (arith, place-below reservedWords 0 k w (sym e ∙ m))
+
+pub delimiter-fits : (p : Place) (w : List ℕ) (k : ℕ) → p ≡ placeIn w delimiters → p ≡ At k → Fits w8 k
+unfolding delimiters
+delimiter-fits p w k e m = omega (arith, place-below delimiters 0 k w (sym e ∙ m))
+
+-- a mark closes within the text
+pub closed-fits : (q : ℕ) (s : List ℕ) (cl : Closed) (n : ℕ) → cl ≡ closedFrom q 0 0 (take (length s - 1) (drop 1 s)) → cl ≡ After n → 0 < length s → length s < 2 ^ 64 → Fits w64 (n + 1)
+closed-fits q s cl n e m l h = omega (arith, closed-in q (drop 1 s) 0 0 n (sym (rw (part-rest s 1) at e) ∙ m), length-drop 1 s)
+
+-- identifiers and reserved words: n bytes, and `next` behind them
+module _ (s : List ℕ) (n next : ℕ) (h : n ≡ run Word s) (q : next ≡ getD s n 0) where
+  pub word-part : n ≤ length s
+  word-part = omega (arith, h, run-le Word s)
+
+  pub word-broken : (f : Found) → next ≡ 95 → f ≡ unreadable s → f ≡ word s
+  unfolding word
+  word-broken f e g = simp (← h, ← q, eq-eqb next 95 e, g)
+
+  module _ (p : Place) (x : next ≡ 95 → ⊥) (e : p ≡ placeIn (take n s) reservedWords) where
+    pub word-reserved : (k : ℕ) → p ≡ At k → Element (Kind.Reserved k) n ≡ word s
+    unfolding word
+    word-reserved k m = simp (← h, ← q, ne-eqb next 95 x, ← e, m)
+
+    pub word-quote : (f : Found) → p ≡ Nowhere → next ≡ 34 → f ≡ unreadable s → f ≡ word s
+    unfolding word identifier
+    word-quote f m y g = simp (← h, ← q, ne-eqb next 95 x, ← e, m, eq-eqb next 34 y, g)
+
+    pub word-name : p ≡ Nowhere → (next ≡ 34 → ⊥) → Element Kind.Identifier n ≡ word s
+    unfolding word identifier
+    word-name m y = simp (← h, ← q, ne-eqb next 95 x, ← e, m, ne-eqb next 34 y)
+
+-- what stands between marks: the mark at 0, then the answer of `closing`
+module _ (s : List ℕ) (cl : Closed) (e : cl ≡ closedFrom 92 0 0 (take (length s - 1) (drop 1 s))) where
+  extended-is : extended s ≡ extendedBy cl s
+  unfolding extended
+  extended-is = rw (e, part-rest s 1)
+
+  pub extended-open : (f : Found) → cl ≡ Never → f ≡ unreadable s → f ≡ extended s
+  extended-open f m g = g ∙ sym (rw m at extended-is)
+
+  module _ (n next : ℕ) (x : Bool) (m : cl ≡ After n) (q : next ≡ getD s (n + 1) 0) (y : x ≡ (eqb n 1 || eqb next 95 || eqb next 34)) where
+    pub extended-spoilt : (f : Found) → x ≡ true → f ≡ unreadable s → f ≡ extended s
+    extended-spoilt f t g = g ∙ sym (rw (m, ← q, ← y, t) at extended-is)
+
+    pub extended-whole : x ≡ false → Element Kind.Extended (n + 1) ≡ extended s
+    extended-whole t = sym (rw (m, ← q, ← y, t) at extended-is)
+
+module _ (s : List ℕ) (cl : Closed) (e : cl ≡ closedFrom 34 0 0 (take (length s - 1) (drop 1 s))) where
+  string-is : string s ≡ stringBy cl s
+  unfolding string
+  string-is = rw (e, part-rest s 1)
+
+  pub string-open : (f : Found) → cl ≡ Never → f ≡ unreadable s → f ≡ string s
+  string-open f m g = g ∙ sym (rw m at string-is)
+
+  pub string-whole : (n : ℕ) → cl ≡ After n → Element (Kind.Literal Literal.String) (n + 1) ≡ string s
+  string-whole n m = sym (rw m at string-is)
+
+-- numbers, and what stands behind them
+module _ (s : List ℕ) (r : Number) (e : r ≡ number s) where
+  numeral-is : numeral s ≡ numeralBy r s
+  unfolding numeral
+  numeral-is = rw e
+
+  pub numeral-none : (f : Found) → r ≡ Neither → f ≡ unreadable s → f ≡ numeral s
+  numeral-none f m g = g ∙ sym (rw m at numeral-is)
+
+  module _ (n b : ℕ) (x : Bool) (q : b ≡ getD s n 0) (y : x ≡ followsNone b) where
+    pub integer-spoilt : (f : Found) → r ≡ Integer n → x ≡ true → f ≡ unreadable s → f ≡ numeral s
+    integer-spoilt f m t g = g ∙ sym (rw (m, ← q, ← y, t) at numeral-is)
+
+    pub integer-whole : r ≡ Integer n → x ≡ false → Element (Kind.Literal Literal.Integer) n ≡ numeral s
+    integer-whole m t = sym (rw (m, ← q, ← y, t) at numeral-is)
+
+    pub real-spoilt : (f : Found) → r ≡ Real n → x ≡ true → f ≡ unreadable s → f ≡ numeral s
+    real-spoilt f m t g = g ∙ sym (rw (m, ← q, ← y, t) at numeral-is)
+
+    pub real-whole : r ≡ Real n → x ≡ false → Element (Kind.Literal Literal.Real) n ≡ numeral s
+    real-whole m t = sym (rw (m, ← q, ← y, t) at numeral-is)
+
+-- the apostrophe
+module _ (s : List ℕ) (ticks : Bool) where
+  pub tick-after : ticks ≡ true → Element (Kind.Delimiter 8) 1 ≡ apostrophe ticks s
+  unfolding apostrophe
+  tick-after t = simp t
+
+  module _ (b : ℕ) (t : ticks ≡ false) (q : b ≡ getD s 2 0) where
+    pub tick-alone : (b ≡ 39 → ⊥) → Element (Kind.Delimiter 8) 1 ≡ apostrophe ticks s
+    unfolding apostrophe
+    tick-alone n = simp (t, ← q, ne-eqb b 39 n)
+
+    module _ (d : ℕ) (x : Bool) (e : b ≡ 39) (q′ : d ≡ getD s 1 0) (y : x ≡ isGraphic d) where
+      pub character-whole : x ≡ true → Element (Kind.Literal Literal.Character) 3 ≡ apostrophe ticks s
+      unfolding apostrophe
+      character-whole u = simp (t, ← q, eq-eqb b 39 e, ← q′, ← y, u)
+
+      pub character-broken : (f : Found) → x ≡ false → f ≡ unreadable s → f ≡ apostrophe ticks s
+      unfolding apostrophe
+      character-broken f u g = simp (t, ← q, eq-eqb b 39 e, ← q′, ← y, u, g)
+
+-- delimiters
+module _ (s : List ℕ) (p : Place) where
+  pub single-found : (k : ℕ) → p ≡ placeIn (take 1 s) delimiters → p ≡ At k → Element (Kind.Delimiter k) 1 ≡ single s
+  unfolding single
+  single-found k e m = simp (← e, m)
+
+  pub single-none : (f : Found) → p ≡ placeIn (take 1 s) delimiters → p ≡ Nowhere → f ≡ unreadable s → f ≡ single s
+  unfolding single
+  single-none f e m g = simp (← e, m, g)
+
+  pub double-found : (k : ℕ) → 2 ≤ length s → p ≡ placeIn (take 2 s) delimiters → p ≡ At k → Element (Kind.Delimiter k) 2 ≡ delimiter s
+  unfolding delimiter
+  double-found k l e m = simp (le-ltb (length s) 2 l, ← e, m)
+
+  pub double-none : (f : Found) → 2 ≤ length s → p ≡ placeIn (take 2 s) delimiters → p ≡ Nowhere → f ≡ single s → f ≡ delimiter s
+  unfolding delimiter
+  double-none f l e m g = simp (le-ltb (length s) 2 l, ← e, m, g)
+
+pub double-short : (s : List ℕ) (f : Found) → length s < 2 → f ≡ single s → f ≡ delimiter s
+unfolding delimiter
+double-short s f l g = simp (lt-ltb (length s) 2 l, g)
+
+-- comments and the rest
+module _ (s : List ℕ) (b d : ℕ) (q : b ≡ getD s 0 0) (q′ : d ≡ getD s 1 0) where
+  pub other-comment : (eqb b 45 && eqb d 45) ≡ true → Skip (length s) ≡ other s
+  unfolding other
+  other-comment t = simp (← q, ← q′, t)
+
+  pub other-delimited : (f : Found) → (eqb b 45 && eqb d 45) ≡ false → (eqb b 47 && eqb d 42) ≡ true → f ≡ unreadable s → f ≡ other s
+  unfolding other
+  other-delimited f t u g = simp (← q, ← q′, t, u, g)
+
+  pub other-plain : (f : Found) → (eqb b 45 && eqb d 45) ≡ false → (eqb b 47 && eqb d 42) ≡ false → f ≡ delimiter s → f ≡ other s
+  unfolding other
+  other-plain f t u g = simp (← q, ← q′, t, u, g)
+
+-- with what a byte opens
+module _ (b : ℕ) (x : Bool) (e : x ≡ separates b) where
+  pub opens-separator : x ≡ true → Opens.Separator ≡ opensOf b
+  unfolding opensOf
+  opens-separator t = simp (← e, t)
+
+  module _ (y : Bool) (t : x ≡ false) (f : y ≡ isLetter b) where
+    pub opens-letter : y ≡ true → Opens.Letter ≡ opensOf b
+    unfolding opensOf
+    opens-letter u = simp (← e, t, ← f, u)
+
+    module _ (z : Bool) (u : y ≡ false) (g : z ≡ isDigit b) where
+      pub opens-digit : z ≡ true → Opens.Digit ≡ opensOf b
+      unfolding opensOf
+      opens-digit v = simp (← e, t, ← f, u, ← g, v)
+
+      pub opens-quote : z ≡ false → b ≡ 34 → Opens.Quote ≡ opensOf b
+      unfolding opensOf
+      opens-quote v w = simp (← e, t, ← f, u, ← g, v, eq-eqb b 34 w)
+
+      pub opens-backslash : z ≡ false → (b ≡ 34 → ⊥) → b ≡ 92 → Opens.Backslash ≡ opensOf b
+      unfolding opensOf
+      opens-backslash v n w = simp (← e, t, ← f, u, ← g, v, ne-eqb b 34 n, eq-eqb b 92 w)
+
+      pub opens-apostrophe : z ≡ false → (b ≡ 34 → ⊥) → (b ≡ 92 → ⊥) → b ≡ 39 → Opens.Apostrophe ≡ opensOf b
+      unfolding opensOf
+      opens-apostrophe v n m w = simp (← e, t, ← f, u, ← g, v, ne-eqb b 34 n, ne-eqb b 92 m, eq-eqb b 39 w)
+
+      pub opens-other : z ≡ false → (b ≡ 34 → ⊥) → (b ≡ 92 → ⊥) → (b ≡ 39 → ⊥) → Opens.Other ≡ opensOf b
+      unfolding opensOf
+      opens-other v n m w = simp (← e, t, ← f, u, ← g, v, ne-eqb b 34 n, ne-eqb b 92 m, ne-eqb b 39 w)
+
+-- what stands there, by what its first byte opens
+module _ (s : List ℕ) (ticks : Bool) (b : ℕ) (o : Opens) (q : b ≡ getD s 0 0) (e : o ≡ opensOf b) where
+  opened : (k : Opens) → o ≡ k → elementBy k ticks s ≡ elementAt ticks s
+  unfolding elementAt
+  opened k m = rw (← q, ← e, m)
+
+  pub opened-separator : o ≡ Opens.Separator → Skip 1 ≡ elementAt ticks s
+  opened-separator m = opened Opens.Separator m
+
+  pub opened-letter : (f : Found) → o ≡ Opens.Letter → f ≡ word s → f ≡ elementAt ticks s
+  opened-letter f m g = g ∙ opened Opens.Letter m
+
+  pub opened-digit : (f : Found) → o ≡ Opens.Digit → f ≡ numeral s → f ≡ elementAt ticks s
+  opened-digit f m g = g ∙ opened Opens.Digit m
+
+  pub opened-quote : (f : Found) → o ≡ Opens.Quote → f ≡ string s → f ≡ elementAt ticks s
+  opened-quote f m g = g ∙ opened Opens.Quote m
+
+  pub opened-backslash : (f : Found) → o ≡ Opens.Backslash → f ≡ extended s → f ≡ elementAt ticks s
+  opened-backslash f m g = g ∙ opened Opens.Backslash m
+
+  pub opened-apostrophe : (f : Found) → o ≡ Opens.Apostrophe → f ≡ apostrophe ticks s → f ≡ elementAt ticks s
+  opened-apostrophe f m g = g ∙ opened Opens.Apostrophe m
+
+  pub opened-other : (f : Found) → o ≡ Opens.Other → f ≡ other s → f ≡ elementAt ticks s
+  opened-other f m g = g ∙ opened Opens.Other m
+
+-- an empty rest
+pub by-nothing : (s : List ℕ) (ticks : Bool) (f : Found) → length s ≡ 0 → f ≡ unreadable s → f ≡ elementAt ticks s
+unfolding elementAt opensOf other delimiter single unreadable separates isLetter isDigit placeFrom delimiters spells begins bytesOf
+by-nothing [] ticks f e g = g
+by-nothing (b ∷ s) ticks f e g = absurd (omega (arith, e))

@@ -1,0 +1,22 @@
+-- The tests are the definition's own. Assumes nothing.
+use Rattle.elements.specs.Element.{followsNone}
+use borrow.Author.Needs.{needs}
+use Rattle.elements.proofs.follows_none.Statement.{statement}
+use Rattle.elements.proofs.follows_none.Tie as tie
+use Rattle.elements.proofs.follows_none.Reads as reads
+use Rattle.elements.proofs.follows_none.Lts as lts
+use Rattle.classes.proofs.is_digit.Reads as is-digit-reads
+use Rattle.classes.proofs.is_letter.Reads as is-letter-reads
+
+is-letter-requires : tie.Need-is-letter-requires
+is-letter-requires c κs = search needs
+
+is-digit-requires : tie.Need-is-digit-requires
+is-digit-requires c κs = search needs
+
+returns : tie.Need-returns
+unfolding followsNone
+returns c = simp (← c .before .is-letter .ensures, ← c .is-digit .ensures)
+
+pub follows-none-spec : {M : Type 1} → statement M
+follows-none-spec = tie.close (tie.spec is-letter-requires is-digit-requires returns)

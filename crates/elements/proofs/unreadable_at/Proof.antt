@@ -1,0 +1,14 @@
+-- The whole rest is unreadable. Assumes nothing.
+use Rattle.elements.specs.Element.{unreadable}
+use mathlib.Core.Path.{refl}
+use Rattle.elements.proofs.unreadable_at.Statement.{statement}
+use Rattle.elements.proofs.unreadable_at.Tie as tie
+use Rattle.elements.proofs.unreadable_at.Reads as reads
+use Rattle.elements.proofs.unreadable_at.Lts as lts
+
+returns : tie.Need-returns
+unfolding unreadable
+returns c = refl
+
+pub unreadable-at-spec : {M : Type 1} → statement M
+unreadable-at-spec = tie.close (tie.spec returns)

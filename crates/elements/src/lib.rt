@@ -1,0 +1,256 @@
+// What stands at the front of a line's rest: a stretch that is no element, or an element of a kind and a length.
+use classes::Run;
+use numbers::Number;
+use quoted::Closed;
+use words::Place;
+ghost use mathlib.Core.Path.{_≡_};
+ghost use mathlib.Core.Bool.{_||_};
+ghost use Prim.Native.Nat.{_<_};
+ghost use lib.Dec.{eqb};
+ghost use lib.ListN.{length, drop};
+ghost use Rattle.elements.specs.Kinds.{kindNumber, ticksAfter};
+ghost use Rattle.elements.specs.Element.{unreadable, identifier, word, extended, followsNone, numeral, string, apostrophe, single, delimiter, other, opensOf, elementAt};
+
+pub enum Literal {
+    Integer,
+    Real,
+    Character,
+    String,
+}
+
+pub enum Kind {
+    Identifier,
+    Extended,
+    Literal(Literal),
+    Unreadable,
+    Delimiter(u8),
+    Reserved(u8),
+}
+
+// So many bytes that are no element, or an element of so many bytes.
+pub enum Found {
+    Skip(usize),
+    Element(Kind, usize),
+}
+
+// What a first byte opens.
+pub enum Opens {
+    Separator,
+    Letter,
+    Digit,
+    Quote,
+    Backslash,
+    Apostrophe,
+    Other,
+}
+
+pub fn kind_number(k: Kind) -> u64
+    ensures { λ r. ⌜ r ≡ kindNumber k ⌝ }
+{
+    match k {
+        Kind::Identifier => 1,
+        Kind::Extended => 2,
+        Kind::Literal(l) => match l {
+            Literal::Integer => 3,
+            Literal::Real => 4,
+            Literal::Character => 5,
+            Literal::String => 6,
+        },
+        Kind::Unreadable => 7,
+        Kind::Delimiter(n) => 8 + (n as u64),
+        Kind::Reserved(n) => 33 + (n as u64),
+    }
+}
+
+// Whether an apostrophe behind an element of this kind, on its line, is a tick.
+pub fn ticks_after(k: Kind) -> bool
+    ensures { λ r. ⌜ r ≡ ticksAfter k ⌝ }
+{
+    match k {
+        Kind::Identifier => true,
+        Kind::Extended => true,
+        Kind::Literal(_) => false,
+        Kind::Unreadable => false,
+        Kind::Delimiter(n) => n == 10,
+        Kind::Reserved(_) => false,
+    }
+}
+
+fn unreadable_at(s: &[u8]) -> Found
+    ensures { λ r. ⌜ r ≡ unreadable (now (s .entry)) ⌝ }
+{
+    Found::Element(Kind::Unreadable, s.len())
+}
+
+fn word_at(s: &[u8]) -> Found
+    ensures { λ r. ⌜ r ≡ word (now (s .entry)) ⌝ }
+{
+    let n = classes::run_length(Run::Word, s);
+    let next = classes::byte_or(s, n);
+    if next == 95 {
+        return unreadable_at(s);
+    }
+    match words::reserved_word(&s[..n]) {
+        Place::At(k) => Found::Element(Kind::Reserved(k as u8), n),
+        Place::Nowhere => {
+            if next == 34 {
+                return unreadable_at(s);
+            }
+            Found::Element(Kind::Identifier, n)
+        },
+    }
+}
+
+// Whether nothing stands between the backslashes, or what stands behind them makes the whole unreadable.
+fn spoils_extended(n: usize, next: u8) -> bool
+    ensures { λ r. ⌜ r ≡ (eqb n 1 || eqb next 95 || eqb next 34) ⌝ }
+{
+    (n == 1) | (next == 95) | (next == 34)
+}
+
+fn extended_at(s: &[u8]) -> Found
+    requires { ⌜ 0 < length (now s) ⌝ }
+    ensures { λ r. ⌜ r ≡ extended (now (s .entry)) ⌝ }
+{
+    match quoted::closing(92, &s[1..]) {
+        Closed::After(n) => {
+            let m = n + 1;
+            if spoils_extended(n, classes::byte_or(s, m)) {
+                return unreadable_at(s);
+            }
+            Found::Element(Kind::Extended, m)
+        },
+        Closed::Never => unreadable_at(s),
+    }
+}
+
+fn follows_none(b: u8) -> bool
+    ensures { λ r. ⌜ r ≡ followsNone b ⌝ }
+{
+    classes::is_letter(b) | classes::is_digit(b) | (b == 95) | (b == 46) | (b == 35) | (b == 34)
+}
+
+fn numeral_at(s: &[u8]) -> Found
+    ensures { λ r. ⌜ r ≡ numeral (now (s .entry)) ⌝ }
+{
+    match numbers::number_at(s) {
+        Number::Integer(n) => {
+            if follows_none(classes::byte_or(s, n)) {
+                return unreadable_at(s);
+            }
+            Found::Element(Kind::Literal(Literal::Integer), n)
+        },
+        Number::Real(n) => {
+            if follows_none(classes::byte_or(s, n)) {
+                return unreadable_at(s);
+            }
+            Found::Element(Kind::Literal(Literal::Real), n)
+        },
+        Number::Neither => unreadable_at(s),
+    }
+}
+
+fn string_at(s: &[u8]) -> Found
+    requires { ⌜ 0 < length (now s) ⌝ }
+    ensures { λ r. ⌜ r ≡ string (now (s .entry)) ⌝ }
+{
+    match quoted::closing(34, &s[1..]) {
+        Closed::After(n) => Found::Element(Kind::Literal(Literal::String), n + 1),
+        Closed::Never => unreadable_at(s),
+    }
+}
+
+fn apostrophe_at(s: &[u8], ticks: bool) -> Found
+    ensures { λ r. ⌜ r ≡ apostrophe ticks (now (s .entry)) ⌝ }
+{
+    if ticks {
+        return Found::Element(Kind::Delimiter(8), 1);
+    }
+    if classes::byte_or(s, 2) != 39 {
+        return Found::Element(Kind::Delimiter(8), 1);
+    }
+    if classes::is_graphic(classes::byte_or(s, 1)) {
+        return Found::Element(Kind::Literal(Literal::Character), 3);
+    }
+    unreadable_at(s)
+}
+
+fn single_at(s: &[u8]) -> Found
+    requires { ⌜ 0 < length (now s) ⌝ }
+    ensures { λ r. ⌜ r ≡ single (now (s .entry)) ⌝ }
+{
+    match words::delimiter(&s[..1]) {
+        Place::At(k) => Found::Element(Kind::Delimiter(k as u8), 1),
+        Place::Nowhere => unreadable_at(s),
+    }
+}
+
+fn delimiter_at(s: &[u8]) -> Found
+    requires { ⌜ 0 < length (now s) ⌝ }
+    ensures { λ r. ⌜ r ≡ delimiter (now (s .entry)) ⌝ }
+{
+    if s.len() < 2 {
+        return single_at(s);
+    }
+    match words::delimiter(&s[..2]) {
+        Place::At(k) => Found::Element(Kind::Delimiter(k as u8), 2),
+        Place::Nowhere => single_at(s),
+    }
+}
+
+fn other_at(s: &[u8]) -> Found
+    requires { ⌜ 0 < length (now s) ⌝ }
+    ensures { λ r. ⌜ r ≡ other (now (s .entry)) ⌝ }
+{
+    let b = classes::byte_or(s, 0);
+    let d = classes::byte_or(s, 1);
+    if (b == 45) & (d == 45) {
+        return Found::Skip(s.len());
+    }
+    if (b == 47) & (d == 42) {
+        return unreadable_at(s);
+    }
+    delimiter_at(s)
+}
+
+fn opens_with(b: u8) -> Opens
+    ensures { λ r. ⌜ r ≡ opensOf b ⌝ }
+{
+    if classes::separator(b) {
+        return Opens::Separator;
+    }
+    if classes::is_letter(b) {
+        return Opens::Letter;
+    }
+    if classes::is_digit(b) {
+        return Opens::Digit;
+    }
+    if b == 34 {
+        return Opens::Quote;
+    }
+    if b == 92 {
+        return Opens::Backslash;
+    }
+    if b == 39 {
+        return Opens::Apostrophe;
+    }
+    Opens::Other
+}
+
+// What stands at the front of a line's rest. An empty rest is an unreadable element of no bytes: no reader of lines asks for it.
+pub fn element_at(s: &[u8], ticks: bool) -> Found
+    ensures { λ r. ⌜ r ≡ elementAt ticks (now (s .entry)) ⌝ }
+{
+    if s.len() == 0 {
+        return unreadable_at(s);
+    }
+    match opens_with(classes::byte_or(s, 0)) {
+        Opens::Separator => Found::Skip(1),
+        Opens::Letter => word_at(s),
+        Opens::Digit => numeral_at(s),
+        Opens::Quote => string_at(s),
+        Opens::Backslash => extended_at(s),
+        Opens::Apostrophe => apostrophe_at(s, ticks),
+        Opens::Other => other_at(s),
+    }
+}

@@ -1,0 +1,224 @@
+-- The ways of the definitions of numbers, in the code's terms: each premise is what a call or a test gives. Assumes nothing.
+use mathlib.Core.Path.{_≡_, refl, sym, ap, _∙_}
+use mathlib.Core.Bool.{Bool, true, false, cond, not, _&&_, _||_}
+use mathlib.Core.List.{List, [], _∷_}
+use Prim.Native.Nat.{ℕ, zero, suc, _+_, _-_, _*_, _≤_, _<_, min}
+use native.Mathlib.Numerals.{add-one}
+use native.Mathlib.Omega.{arith}
+use borrow.Author.Tests.{eq-eqb, ne-eqb, eqb-true, not-true, not-false, le-leb, lt-leb}
+use lib.Dec.{eqb, leb}
+use lib.ListN.{length, take, drop, getD, length-drop, drop-of-length-le}
+use lib.Seq.{drop-cons, length-take-le}
+use Rattle.classes.specs.Bytes.{within, lower, isDigit, digitValue}
+use Rattle.classes.specs.Runs.{run, inRun}
+use Rattle.classes.specs.declared.Run.the-variants.{Below}
+use Rattle.classes.proofs.Laws.{part-rest, run-le, byte-inside, digit-inside, digit-value-le, by-test, and-right}
+use Rattle.numbers.specs.Numbers.{digits, digitOn, valueFrom, baseOf, exponentHead, exponent, belowBase, integerPast, based, pointed, number}
+use Rattle.numbers.specs.declared.Number.{Number}
+use Rattle.numbers.specs.declared.Number.the-variants.{Integer, Real, Neither}
+use Rattle.numbers.specs.declared.Size.{Size}
+use Rattle.numbers.specs.declared.Size.the-variants.{Of, Nothing}
+
+and-false : (x : Bool) → (x && false) ≡ false
+and-false true = refl
+and-false false = refl
+
+-- one digit more, where 17 stands for what is above 16
+module _ (v b : ℕ) where
+  on-under : b ≡ 95 → digitOn v b ≡ v
+  unfolding digitOn
+  on-under e = rw (eq-eqb b 95 e)
+
+  on-digit : (b ≡ 95 → ⊥) → digitOn v b ≡ v * 10 + digitValue b
+  unfolding digitOn
+  on-digit e = rw (ne-eqb b 95 e)
+
+  pub capped-under : b ≡ 95 → 17 < v → _≡_ {A = ℕ} 17 (min 17 (digitOn v b))
+  capped-under e h = omega (arith, on-under e)
+
+  pub kept-under : b ≡ 95 → v ≤ 17 → v ≡ min 17 (digitOn v b)
+  kept-under e h = omega (arith, on-under e)
+
+  pub capped-large : (b ≡ 95 → ⊥) → 1 < v → _≡_ {A = ℕ} 17 (min 17 (digitOn v b))
+  capped-large e h = omega (arith, on-digit e)
+
+  pub capped-digit : (n : ℕ) → n ≡ digitValue b → (b ≡ 95 → ⊥) → 17 < v * 10 + n → _≡_ {A = ℕ} 17 (min 17 (digitOn v b))
+  capped-digit n d e h = omega (arith, on-digit e)
+
+  pub kept-digit : (n : ℕ) → n ≡ digitValue b → (b ≡ 95 → ⊥) → v * 10 + n ≤ 17 → v * 10 + n ≡ min 17 (digitOn v b)
+  kept-digit n d e h = omega (arith, on-digit e)
+
+-- to cap on the way changes nothing
+capped-step : (v b : ℕ) → min 17 (digitOn (min 17 v) b) ≡ min 17 (digitOn v b)
+unfolding digitOn
+capped-step v b = go (eqb b 95) refl
+  where
+    go : (x : Bool) → eqb b 95 ≡ x → min 17 (digitOn (min 17 v) b) ≡ min 17 (digitOn v b)
+    go true e = rw e (omega arith)
+    go false e = rw e (omega arith)
+
+capped-value : (v : ℕ) (s : List ℕ) → min 17 (valueFrom (min 17 v) s) ≡ min 17 (valueFrom v s)
+unfolding valueFrom
+capped-value v [] = omega arith
+capped-value v (b ∷ s) =
+    sym (capped-value (digitOn (min 17 v) b) s)
+    ∙ ap (λ (n : ℕ). min 17 (valueFrom n s)) (capped-step v b)
+    ∙ capped-value (digitOn v b) s
+
+-- the turns of `small_value`
+pub value-turn : (s : List ℕ) (i v w whole : ℕ) → min 17 (valueFrom v (drop i s)) ≡ whole → i < length s → w ≡ min 17 (digitOn v (getD s i 0)) → min 17 (valueFrom w (drop (i + 1) s)) ≡ whole
+unfolding valueFrom
+value-turn s i v w whole h l e = rw (e, add-one) (capped-value (digitOn v (getD s i 0)) (drop (suc i) s) ∙ (rw (drop-cons s i 0 l) at h))
+
+pub value-end : (s : List ℕ) (i v whole : ℕ) → min 17 (valueFrom v (drop i s)) ≡ whole → v ≤ 17 → length s ≤ i → v ≡ whole
+unfolding valueFrom
+value-end s i v whole h k l = omega (arith, rw (drop-of-length-le s l) at h)
+
+-- the ways of an exponent
+module _ (s : List ℕ) (either : Bool) where
+  pub head-two : (b : ℕ) → b ≡ getD s 1 0 → (eqb b 43 || either && eqb b 45) ≡ true → _≡_ {A = ℕ} 2 (exponentHead either s)
+  unfolding exponentHead
+  head-two b p e = simp (← p, e)
+
+  pub head-one : (b : ℕ) → b ≡ getD s 1 0 → (eqb b 43 || either && eqb b 45) ≡ false → _≡_ {A = ℕ} 1 (exponentHead either s)
+  unfolding exponentHead
+  head-one b p e = simp (← p, e)
+
+  module _ (b e : ℕ) (p : b ≡ getD s 0 0) (l : e ≡ lower b) where
+    pub exponent-other : (e ≡ 101 → ⊥) → _≡_ {A = ℕ} 0 (exponent either s)
+    unfolding exponent
+    exponent-other n = simp (← p, ← l, ne-eqb e 101 n)
+
+    module _ (n d : ℕ) (x : Bool) (t : e ≡ 101) (h : n ≡ exponentHead either s) (q : d ≡ getD s n 0) (y : x ≡ isDigit d) where
+      pub exponent-none : not x ≡ true → _≡_ {A = ℕ} 0 (exponent either s)
+      unfolding exponent
+      exponent-none z = simp (← p, ← l, eq-eqb e 101 t, ← h, ← q, ← y, not-true x z)
+
+      pub exponent-in : not x ≡ false → n < length s
+      exponent-in z = digit-inside s n (ap isDigit (sym q) ∙ sym y ∙ not-false x z)
+
+      pub exponent-whole : (r : ℕ) → not x ≡ false → r ≡ run (Below 10) (take (length s - n) (drop n s)) → n + r ≡ exponent either s
+      unfolding exponent digits
+      exponent-whole r z k = simp (← p, ← l, eq-eqb e 101 t, ← h, ← q, ← y, not-false x z) (ap (λ (m : ℕ). n + m) (rw (part-rest s n) at k))
+
+-- digits below a base, a `#`, perhaps an exponent
+module _ (base : ℕ) (s : List ℕ) (b : ℕ) (x : Bool) (p : b ≡ getD s 0 0) (y : x ≡ inRun (Below base) b) where
+  pub below-none : not x ≡ true → Nothing ≡ belowBase base s
+  unfolding belowBase
+  below-none z = simp (← p, ← y, not-true x z)
+
+  module _ (n d : ℕ) (z : not x ≡ false) (h : n ≡ run (Below base) s) (q : d ≡ getD s n 0) where
+    pub below-open : (d ≡ 35 → ⊥) → Nothing ≡ belowBase base s
+    unfolding belowBase
+    below-open t = simp (← p, ← y, not-false x z, ← h, ← q, ne-eqb d 35 t)
+
+    pub below-whole : (r : ℕ) → d ≡ 35 → r ≡ exponent false (take (length s - (n + 1)) (drop (n + 1) s)) → Of (n + 1 + r) ≡ belowBase base s
+    unfolding belowBase
+    below-whole r t k = simp (← p, ← y, not-false x z, ← h, ← q, eq-eqb d 35 t) (ap (λ (m : ℕ). Of (n + 1 + m)) (rw (part-rest s (n + 1)) at k))
+
+-- a byte that is neither 0 nor past the end
+pub byte-at : (s : List ℕ) (n d : ℕ) (k : ℕ) → d ≡ getD s n 0 → d ≡ suc k → n < length s
+byte-at s n d k q e = byte-inside s n (λ z. omega (arith, q, e, z))
+
+-- the parts of a number
+exponent-le : (either : Bool) (s : List ℕ) → exponent either s ≤ length s
+unfolding exponent digits
+exponent-le either s =
+    by-test (λ (n : ℕ). n ≤ length s) (eqb (lower (getD s 0 0)) 101 && isDigit (getD s (exponentHead either s) 0))
+    (λ e. omega (arith, run-le (Below 10) (drop (exponentHead either s) s), length-drop (exponentHead either s) s, digit-inside s (exponentHead either s) (and-right (eqb (lower (getD s 0 0)) 101) _ e)))
+    (λ _. omega arith)
+
+-- an exponent behind n bytes stays within the text
+pub exponent-fits : (either : Bool) (s : List ℕ) (n r : ℕ) → n ≤ length s → r ≡ exponent either (take (length s - n) (drop n s)) → n + r ≤ length s
+exponent-fits either s n r h e = omega (arith, exponent-le either (drop n s), length-drop n s, e ∙ ap (exponent either) (part-rest s n))
+
+-- a run behind n bytes stays within the text
+pub run-fits : (k : ℕ) (s : List ℕ) (n r : ℕ) → n ≤ length s → r ≡ run (Below k) (take (length s - n) (drop n s)) → n + r ≤ length s
+run-fits k s n r h e = omega (arith, run-le (Below k) (drop n s), length-drop n s, e ∙ ap (run (Below k)) (part-rest s n))
+
+-- the front of a text as a part
+pub part-front : (s : List ℕ) (n : ℕ) → n < length s → n ≡ length (take n s)
+part-front s n h = sym (length-take-le n s (omega arith))
+
+-- the digits behind a point, with the exponent
+pub fraction-whole : (s : List ℕ) (n r : ℕ) → n ≡ run (Below 10) s → r ≡ exponent true (take (length s - n) (drop n s)) → n + r ≡ digits s + exponent true (drop (digits s) s)
+unfolding digits
+fraction-whole s n r h e = rw (← h) (ap (λ (m : ℕ). n + m) (rw (part-rest s n) at e))
+
+pub fraction-le : (s : List ℕ) → digits s + exponent true (drop (digits s) s) ≤ length s
+unfolding digits
+fraction-le s = omega (arith, run-le (Below 10) s, exponent-le true (drop (run (Below 10) s) s), length-drop (run (Below 10) s) s)
+
+-- a number whose n digits stand before a point
+module _ (s : List ℕ) (n d : ℕ) (x : Bool) (h : n ≡ digits s) (q : d ≡ getD s (n + 1) 0) (y : x ≡ isDigit d) where
+  pub pointed-none : not x ≡ true → Neither ≡ pointed s
+  unfolding pointed
+  pointed-none z = simp (← h, ← q, ← y, not-true x z)
+
+  pub pointed-whole : (r : ℕ) → not x ≡ false → r ≡ digits (take (length s - (n + 1)) (drop (n + 1) s)) + exponent true (drop (digits (take (length s - (n + 1)) (drop (n + 1) s))) (take (length s - (n + 1)) (drop (n + 1) s))) → Real (n + 1 + r) ≡ pointed s
+  unfolding pointed
+  pointed-whole r z e = simp (← h, ← q, ← y, not-false x z) (ap (λ (m : ℕ). Real (n + 1 + m)) (rw (part-rest s (n + 1)) at e))
+
+pub fraction-fits : (s : List ℕ) (n r : ℕ) → n ≤ length s → r ≡ digits (take (length s - n) (drop n s)) + exponent true (drop (digits (take (length s - n) (drop n s))) (take (length s - n) (drop n s))) → n + r ≤ length s
+fraction-fits s n r h e = omega (arith, fraction-le (drop n s), length-drop n s, rw (part-rest s n) at e)
+
+-- a number whose n digits stand before a `#`; v is their value, as far as 17
+abbrev SizeIn : ℕ → Size → Type 0
+SizeIn n (Of k) = k ≤ n
+SizeIn n Nothing = Unit {0}
+
+below-in : (base : ℕ) (s : List ℕ) → SizeIn (length s) (belowBase base s)
+unfolding belowBase
+below-in base s =
+    by-test (SizeIn (length s)) (inRun (Below base) (getD s 0 0) && eqb (getD s (run (Below base) s) 0) 35)
+    (λ e. let i = byte-at s (run (Below base) s) (getD s (run (Below base) s) 0) 34 refl (eqb-true _ _ (and-right (inRun (Below base) (getD s 0 0)) _ e)) in
+    omega (arith, i, exponent-le false (drop (run (Below base) s + 1) s), length-drop (run (Below base) s + 1) s))
+    (λ _. tt)
+
+below-le : (base : ℕ) (s : List ℕ) (k : ℕ) → belowBase base s ≡ Of k → k ≤ length s
+below-le base s k e = rw e at (below-in base s)
+
+module _ (s : List ℕ) (n v : ℕ) (h : n ≡ digits s) (w : v ≡ min 17 (valueFrom 0 (take n s))) where
+  base-is : v ≤ 16 → v ≡ baseOf s
+  unfolding baseOf
+  base-is l = rw (← h) (omega (arith, w))
+
+  pub base-small : v < 2 → Neither ≡ based s
+  unfolding based
+  base-small l = rw (← base-is (omega arith), lt-leb 2 v l)
+
+  pub base-large : 16 < v → Neither ≡ based s
+  unfolding based baseOf
+  base-large l = rw (← h, lt-leb (valueFrom 0 (take n s)) 16 (omega (arith, w)), and-false (leb 2 (valueFrom 0 (take n s))))
+
+  module _ (st : Size) (g : 2 ≤ v) (l : v ≤ 16) (e : st ≡ belowBase v (take (length s - (n + 1)) (drop (n + 1) s))) where
+    based-as : based s ≡ integerPast (n + 1) st
+    unfolding based
+    based-as = rw (← base-is l, le-leb 2 v g, le-leb v 16 l, ← h, e, part-rest s (n + 1))
+
+    pub based-whole : (k : ℕ) → st ≡ Of k → Integer (n + 1 + k) ≡ based s
+    based-whole k m = sym (rw m at based-as)
+
+    pub based-none : st ≡ Nothing → Neither ≡ based s
+    based-none m = sym (rw m at based-as)
+
+    pub based-fits : (k : ℕ) → n < length s → st ≡ Of k → n + 1 + k ≤ length s
+    based-fits k i m = omega (arith, below-le v (drop (n + 1) s) k (ap (belowBase v) (sym (part-rest s (n + 1))) ∙ sym e ∙ m), length-drop (n + 1) s)
+
+-- the three ways of a number; b is the byte behind its digits
+module _ (s : List ℕ) (n b : ℕ) (h : n ≡ run (Below 10) s) (q : b ≡ getD s n 0) where
+  pub number-asks : (k : ℕ) → b ≡ suc k → (n ≡ digits s) × (n < length s)
+  unfolding digits
+  number-asks k e = (h, byte-at s n b k q e)
+
+  pub number-based : (f : Number) → b ≡ 35 → f ≡ based s → f ≡ number s
+  unfolding number digits
+  number-based f e g = simp (← h, ← q, eq-eqb b 35 e, g)
+
+  pub number-pointed : (f : Number) → (b ≡ 35 → ⊥) → b ≡ 46 → f ≡ pointed s → f ≡ number s
+  unfolding number digits
+  number-pointed f x e g = simp (← h, ← q, ne-eqb b 35 x, eq-eqb b 46 e, g)
+
+  pub number-plain : (r : ℕ) → (b ≡ 35 → ⊥) → (b ≡ 46 → ⊥) → r ≡ exponent false (take (length s - n) (drop n s)) → Integer (n + r) ≡ number s
+  unfolding number digits
+  number-plain r x y e = simp (← h, ← q, ne-eqb b 35 x, ne-eqb b 46 y) (ap (λ (m : ℕ). Integer (n + m)) (rw (part-rest s n) at e))

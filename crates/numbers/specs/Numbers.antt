@@ -1,0 +1,68 @@
+-- The integer and real literals of 01's section "Elements": how far a number goes that begins with a digit at the front of a line's rest.
+-- Past the end of a list `getD` gives 0, a byte of no class. Assumes nothing.
+use Prim.Native.Nat.{ℕ, _+_, _*_}
+use mathlib.Core.Bool.{Bool, true, false, cond, _&&_, _||_}
+use mathlib.Core.List.{List, [], _∷_}
+use lib.Dec.{eqb}
+use lib.ListN.{getD, take, drop}
+use Rattle.classes.specs.Bytes.{within, lower, isDigit, digitValue}
+use Rattle.classes.specs.Runs.{run, inRun}
+use Rattle.classes.specs.declared.Run.the-variants.{Below}
+use Rattle.numbers.specs.declared.Number.{Number}
+use Rattle.numbers.specs.declared.Number.the-variants.{Integer, Real, Neither}
+use Rattle.numbers.specs.declared.Size.{Size}
+use Rattle.numbers.specs.declared.Size.the-variants.{Of, Nothing}
+
+-- "digits with single underscores between"
+unfoldable pub digits : List ℕ → ℕ
+digits s = run (Below 10) s
+
+-- the number that digits and underscores spell, behind those that spell v
+unfoldable pub digitOn : ℕ → ℕ → ℕ
+digitOn v b = cond (eqb b 95) v (v * 10 + digitValue b)
+
+unfoldable pub valueFrom : ℕ → List ℕ → ℕ
+valueFrom v [] = v
+valueFrom v (b ∷ s) = valueFrom (digitOn v b) s
+
+-- "base 2 to 16": the digits in front of the `#`
+unfoldable pub baseOf : List ℕ → ℕ
+baseOf s = valueFrom 0 (take (digits s) s)
+
+-- "then perhaps E, an optional plus and digits"; of a real literal, "its exponent of either sign". First E and a sign, then all of it
+unfoldable pub exponentHead : Bool → List ℕ → ℕ
+exponentHead either s = cond (eqb (getD s 1 0) 43 || either && eqb (getD s 1 0) 45) 2 1
+
+unfoldable pub exponent : Bool → List ℕ → ℕ
+exponent either s =
+    cond (eqb (lower (getD s 0 0)) 101 && isDigit (getD s (exponentHead either s) 0))
+    (exponentHead either s + digits (drop (exponentHead either s) s))
+    0
+
+-- "digits below the base, `#`; then perhaps" an exponent, from behind the first `#`
+unfoldable pub belowBase : ℕ → List ℕ → Size
+belowBase base s =
+    cond (inRun (Below base) (getD s 0 0) && eqb (getD s (run (Below base) s) 0) 35)
+    (Of (run (Below base) s + 1 + exponent false (drop (run (Below base) s + 1) s)))
+    Nothing
+
+abbrev pub integerPast : ℕ → Size → Number
+integerPast n (Of k) = Integer (n + k)
+integerPast n Nothing = Neither
+
+-- the three ways that a number goes on behind its digits: `#` (35), a point (46), or neither
+unfoldable pub based : List ℕ → Number
+based s = cond (within 2 16 (baseOf s)) (integerPast (digits s + 1) (belowBase (baseOf s) (drop (digits s + 1) s))) Neither
+
+-- "decimal with a point and digits on both sides"
+unfoldable pub pointed : List ℕ → Number
+pointed s =
+    cond (isDigit (getD s (digits s + 1) 0))
+    (Real (digits s + 1 + (digits (drop (digits s + 1) s) + exponent true (drop (digits (drop (digits s + 1) s)) (drop (digits s + 1) s)))))
+    Neither
+
+unfoldable pub number : List ℕ → Number
+number s =
+    cond (eqb (getD s (digits s) 0) 35) (based s)
+    (cond (eqb (getD s (digits s) 0) 46) (pointed s)
+    (Integer (digits s + exponent false (drop (digits s) s))))

@@ -1,0 +1,144 @@
+// How far an integer or real literal goes. Every function looks at the front of a line's rest, of any bytes.
+use classes::Run;
+ghost use mathlib.Core.Path.{_≡_};
+ghost use mathlib.Core.Bool.{true, false};
+ghost use Prim.Native.Nat.{_+_, _≤_, _<_, min};
+ghost use lib.ListN.{length, getD, drop};
+ghost use Rattle.numbers.specs.Numbers.{digits, digitOn, valueFrom, exponentHead, exponent, belowBase, based, pointed, number};
+
+// A number's size in bytes, or none: a `#` or a point with nothing fitting behind it.
+pub enum Number {
+    Integer(usize),
+    Real(usize),
+    Neither,
+}
+
+pub enum Size {
+    Of(usize),
+    Nothing,
+}
+
+// One digit more, where 17 stands for any number above 16.
+fn with_digit(v: u8, b: u8) -> u8
+    ensures { λ r. ⌜ r ≡ min 17 (digitOn v b) ⌝ }
+{
+    if b == 95 {
+        if 17 < v {
+            return 17;
+        }
+        return v;
+    }
+    if 1 < v {
+        return 17;
+    }
+    let n = v * 10 + classes::digit_value(b);
+    if 17 < n {
+        return 17;
+    }
+    n
+}
+
+// The number that digits and underscores spell, or 17 where it is above 16.
+fn small_value(s: &[u8]) -> u8
+    ensures { λ r. ⌜ r ≡ min 17 (valueFrom 0 (now (s .entry))) ⌝ }
+{
+    let mut v: u8 = 0;
+    let mut i = 0;
+    while i < s.len() {
+        v = with_digit(v, s[i]);
+        i += 1;
+    }
+    v
+}
+
+fn exponent_head(s: &[u8], either: bool) -> usize
+    ensures { λ r. ⌜ r ≡ exponentHead either (now (s .entry)) ⌝ }
+{
+    let b = classes::byte_or(s, 1);
+    if (b == 43) | (either & (b == 45)) {
+        return 2;
+    }
+    1
+}
+
+// How many bytes an exponent has, 0 where there is none; `either` allows a minus.
+fn exponent_length(s: &[u8], either: bool) -> usize
+    ensures { λ r. ⌜ r ≡ exponent either (now (s .entry)) ⌝ }
+{
+    if classes::lower_case(classes::byte_or(s, 0)) != 101 {
+        return 0;
+    }
+    let n = exponent_head(s, either);
+    if !classes::is_digit(classes::byte_or(s, n)) {
+        return 0;
+    }
+    n + classes::run_length(Run::Below(10), &s[n..])
+}
+
+fn below_base(base: u8, s: &[u8]) -> Size
+    ensures { λ r. ⌜ r ≡ belowBase base (now (s .entry)) ⌝ }
+{
+    if !classes::in_run(Run::Below(base), classes::byte_or(s, 0)) {
+        return Size::Nothing;
+    }
+    let n = classes::run_length(Run::Below(base), s);
+    if classes::byte_or(s, n) != 35 {
+        return Size::Nothing;
+    }
+    let m = n + 1;
+    Size::Of(m + exponent_length(&s[m..], false))
+}
+
+// A number whose n digits stand before a `#`.
+fn based_at(s: &[u8], n: usize) -> Number
+    requires { ⌜ (n ≡ digits (now s)) × (n < length (now s)) ⌝ }
+    ensures { λ r. ⌜ r ≡ based (now (s .entry)) ⌝ }
+{
+    let base = small_value(&s[..n]);
+    if base < 2 {
+        return Number::Neither;
+    }
+    if 16 < base {
+        return Number::Neither;
+    }
+    let m = n + 1;
+    match below_base(base, &s[m..]) {
+        Size::Of(k) => Number::Integer(m + k),
+        Size::Nothing => Number::Neither,
+    }
+}
+
+// A number whose n digits stand before a point.
+fn pointed_at(s: &[u8], n: usize) -> Number
+    requires { ⌜ (n ≡ digits (now s)) × (n < length (now s)) ⌝ }
+    ensures { λ r. ⌜ r ≡ pointed (now (s .entry)) ⌝ }
+{
+    let m = n + 1;
+    if !classes::is_digit(classes::byte_or(s, m)) {
+        return Number::Neither;
+    }
+    Number::Real(m + fraction_length(&s[m..]))
+}
+
+// How many bytes the digits behind a point have, with the exponent behind them.
+fn fraction_length(s: &[u8]) -> usize
+    ensures { λ r. ⌜ r ≡ digits (now (s .entry)) + exponent true (drop (digits (now (s .entry))) (now (s .entry))) ⌝ }
+{
+    let n = classes::run_length(Run::Below(10), s);
+    n + exponent_length(&s[n..], true)
+}
+
+// The number at the front, where a digit stands.
+pub fn number_at(s: &[u8]) -> Number
+    ensures { λ r. ⌜ r ≡ number (now (s .entry)) ⌝ }
+{
+    let n = classes::run_length(Run::Below(10), s);
+    let b = classes::byte_or(s, n);
+    if b == 35 {
+        return based_at(s, n);
+    }
+    if b == 46 {
+        return pointed_at(s, n);
+    }
+    Number::Integer(n + exponent_length(&s[n..], false))
+}

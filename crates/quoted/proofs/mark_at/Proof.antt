@@ -1,0 +1,42 @@
+-- The four ways that `markAt` goes. Assumes nothing.
+use Rattle.quoted.proofs.Laws.{is-doubled, is-closing, is-inside, is-breaking}
+use borrow.Author.Needs.{needs}
+use Rattle.quoted.proofs.mark_at.Statement.{statement}
+use Rattle.quoted.proofs.mark_at.Tie as tie
+use Rattle.quoted.proofs.mark_at.Reads as reads
+use Rattle.quoted.proofs.mark_at.Lts as lts
+use Rattle.classes.proofs.byte_or.Reads as byte-or-reads
+use Rattle.classes.proofs.is_graphic.Reads as is-graphic-reads
+
+byte-or-requires : tie.Need-byte-or-requires
+byte-or-requires c κs = search needs
+
+byte-or-requires-2 : tie.Need-byte-or-requires-2
+byte-or-requires-2 c κs = search needs
+
+returns : tie.Need-returns
+returns c = search is-doubled
+
+returns-2 : tie.Need-returns-2
+returns-2 c = search is-closing
+
+is-graphic-requires : tie.Need-is-graphic-requires
+is-graphic-requires c κs = search needs
+
+returns-3 : tie.Need-returns-3
+returns-3 c = search is-inside
+
+returns-4 : tie.Need-returns-4
+returns-4 c = search is-breaking
+
+pub mark-at-spec : {M : Type 1} → statement M
+mark-at-spec =
+    tie.close
+    (tie.spec
+    byte-or-requires
+    byte-or-requires-2
+    returns
+    returns-2
+    is-graphic-requires
+    returns-3
+    returns-4)

@@ -1,0 +1,90 @@
+-- The invariant: the search from here, in the rest of the list, is the search in the whole. Assumes nothing.
+use borrow.Author.Needs.{needs}
+use Rattle.words.proofs.Laws.{search-hit, search-past, search-out, search-end}
+use Rattle.words.specs.Packed.{searched}
+use lib.ListN.{length, drop}
+use native.Mathlib.Omega.{arith}
+use Prim.Native.Nat.{_-_, _≤_}
+use mathlib.Core.Path.{_≡_, refl}
+use Rattle.words.proofs.search.Statement.{statement}
+use Rattle.words.proofs.search.Tie as tie
+use Rattle.words.proofs.search.Reads as reads
+use Rattle.words.proofs.search.Lts as lts
+use Rattle.words.proofs.entry_is.Reads as entry-is-reads
+
+abbrev Inv-loop : tie.InvT-loop
+Inv-loop w list i₀ k₀ i k = (i ≤ length list) × (k ≤ i) × (searched 0 k w (drop i list) ≡ searched 0 0 w list)
+
+abbrev μ-loop : tie.MeasureT-loop
+μ-loop w list i₀ k₀ i k = length list - i
+
+loop-holds : tie.Need-loop-holds Inv-loop μ-loop
+loop-holds c = (omega arith, omega arith, refl)
+
+shared-slice-read-n : tie.Need-shared-slice-read-n Inv-loop μ-loop
+shared-slice-read-n c = search needs
+
+cast-n : tie.Need-cast-n Inv-loop μ-loop
+cast-n c = omega (arith, c .shared-slice-known3 .given (c .before .before .loop .i))
+
+add-i : tie.Need-add-i Inv-loop μ-loop
+add-i c = search needs
+
+sub-entry-is : tie.Need-sub-entry-is Inv-loop μ-loop
+sub-entry-is c = search needs
+
+part-entry-is-start : tie.Need-part-entry-is-start Inv-loop μ-loop
+part-entry-is-start c = search needs
+
+part-entry-is-end : tie.Need-part-entry-is-end Inv-loop μ-loop
+part-entry-is-end c = search needs
+
+entry-is-requires : tie.Need-entry-is-requires Inv-loop μ-loop
+entry-is-requires c κs = search needs
+
+returns : tie.Need-returns Inv-loop μ-loop
+returns c = search search-hit
+
+sub-if2 : tie.Need-sub-if2 Inv-loop μ-loop
+sub-if2 c = search needs
+
+returns-2 : tie.Need-returns-2 Inv-loop μ-loop
+returns-2 c = search search-out
+
+add-i-2 : tie.Need-add-i-2 Inv-loop μ-loop
+add-i-2 c = search needs
+
+add-k : tie.Need-add-k Inv-loop μ-loop
+add-k c = search needs
+
+loop-less : tie.Need-loop-less Inv-loop μ-loop
+loop-less c = search needs
+
+loop-again : tie.Need-loop-again Inv-loop μ-loop
+loop-again c = (omega arith, omega arith, search search-past)
+
+returns-3 : tie.Need-returns-3 Inv-loop μ-loop
+returns-3 c = search search-end
+
+pub search-spec : {M : Type 1} → statement M
+search-spec =
+    tie.close
+    (tie.spec
+    Inv-loop
+    μ-loop
+    loop-holds
+    shared-slice-read-n
+    cast-n
+    add-i
+    sub-entry-is
+    part-entry-is-start
+    part-entry-is-end
+    entry-is-requires
+    returns
+    sub-if2
+    returns-2
+    add-i-2
+    add-k
+    loop-less
+    loop-again
+    returns-3)
