@@ -6,13 +6,14 @@ use Prim.Native.Nat.{ℕ, zero, suc, _+_, _-_, _≤_, _<_, zero-le, suc-le-suc}
 use native.Mathlib.Nat.{not-suc-le-zero, le-of-suc-le-suc, le-refl}
 use native.Mathlib.Numerals.{add-one}
 use native.Mathlib.Omega.{arith}
-use borrow.Author.Tests.{eq-eqb, ne-eqb, leb-true, leb-false, not-true, not-false}
+use borrow.Author.Tests.{eq-eqb, ne-eqb, lt-ltb, leb-true, leb-false, not-true, not-false}
 use lib.Dec.{leb}
 use lib.ListN.{length, take, drop, getD, length-drop, drop-of-length-le, List·getD-eq-default}
 use lib.Seq.{drop-cons, take-all}
-use Rattle.classes.specs.Bytes.{within, isDigit, digitValue}
+use Rattle.classes.specs.Bytes.{within, isLetter, isDigit, digitValue}
 use Rattle.classes.specs.Runs.{count, run, inRun, goesOn}
 use Rattle.classes.specs.declared.Run.{Run}
+use Rattle.classes.specs.declared.Run.the-variants.{Word, Below}
 
 module _ (q : List ℕ → Bool) where
   pub count-more : (b : ℕ) (s : List ℕ) → q (b ∷ s) ≡ true → count q (b ∷ s) ≡ suc (count q s)
@@ -131,6 +132,22 @@ module _ (c : Run) (s : List ℕ) (b : ℕ) (x : Bool) where
 pub run-le : (c : Run) (s : List ℕ) → run c s ≤ length s
 unfolding run
 run-le c s = count-le (goesOn c) s
+
+-- a run that begins has a byte at least
+pub run-some : (c : Run) (b : ℕ) (s : List ℕ) → inRun c b ≡ true → 1 ≤ run c (b ∷ s)
+unfolding run
+run-some c b s e = rw (count-more (goesOn c) b s (goes b s e)) (suc-le-suc zero-le)
+  where
+    goes : (b : ℕ) (s : List ℕ) → inRun c b ≡ true → goesOn c (b ∷ s) ≡ true
+    goes b s e = sym (goes-yes c (b ∷ s) b true refl (sym e) refl)
+
+pub letter-in-word : (b : ℕ) → isLetter b ≡ true → inRun Word b ≡ true
+unfolding inRun
+letter-in-word b e = rw e
+
+pub digit-in-ten : (b : ℕ) → isDigit b ≡ true → inRun (Below 10) b ≡ true
+unfolding inRun digitValue isDigit
+digit-in-ten b e = rw e (lt-ltb (b - 48) 10 (omega (arith, within-high 48 57 b e)))
 
 -- one turn of the loop over a run, in the code's terms
 module _ (q : List ℕ → Bool) (s : List ℕ) (i total : ℕ) (x : Bool) where

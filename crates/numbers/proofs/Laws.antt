@@ -12,7 +12,7 @@ use lib.Seq.{drop-cons, length-take-le}
 use Rattle.classes.specs.Bytes.{within, lower, isDigit, digitValue}
 use Rattle.classes.specs.Runs.{run, inRun}
 use Rattle.classes.specs.declared.Run.the-variants.{Below}
-use Rattle.classes.proofs.Laws.{part-rest, run-le, byte-inside, digit-inside, digit-value-le, by-test, and-right}
+use Rattle.classes.proofs.Laws.{part-rest, run-le, byte-inside, digit-inside, digit-value-le, by-test, and-right, run-some, digit-in-ten}
 use Rattle.numbers.specs.Numbers.{digits, digitOn, valueFrom, baseOf, exponentHead, exponent, belowBase, integerPast, based, pointed, number}
 use Rattle.numbers.specs.declared.Number.{Number}
 use Rattle.numbers.specs.declared.Number.the-variants.{Integer, Real, Neither}
@@ -222,3 +222,36 @@ module _ (s : List ℕ) (n b : ℕ) (h : n ≡ run (Below 10) s) (q : b ≡ getD
   pub number-plain : (r : ℕ) → (b ≡ 35 → ⊥) → (b ≡ 46 → ⊥) → r ≡ exponent false (take (length s - n) (drop n s)) → Integer (n + r) ≡ number s
   unfolding number digits
   number-plain r x y e = simp (← h, ← q, ne-eqb b 35 x, ne-eqb b 46 y) (ap (λ (m : ℕ). Integer (n + m)) (rw (part-rest s n) at e))
+
+-- a number that begins with a digit has a byte at least, and stays within the text
+abbrev pub NumberIn : ℕ → Number → Type 0
+NumberIn w (Integer n) = (1 ≤ n) × (n ≤ w)
+NumberIn w (Real n) = (1 ≤ n) × (n ≤ w)
+NumberIn w Neither = Unit {0}
+
+based-in : (s : List ℕ) → digits s < length s → NumberIn (length s) (based s)
+unfolding based
+based-in s l = by-test (NumberIn (length s)) (within 2 16 (baseOf s)) (λ _. go (belowBase (baseOf s) (drop (digits s + 1) s)) refl) (λ _. tt)
+  where
+    go : (z : Size) → belowBase (baseOf s) (drop (digits s + 1) s) ≡ z → NumberIn (length s) (integerPast (digits s + 1) z)
+    go (Of k) e = (omega arith, omega (arith, below-le (baseOf s) (drop (digits s + 1) s) k e, length-drop (digits s + 1) s))
+    go Nothing e = tt
+
+pointed-in : (s : List ℕ) → digits s < length s → NumberIn (length s) (pointed s)
+unfolding pointed
+pointed-in s l =
+    by-test (NumberIn (length s)) (isDigit (getD s (digits s + 1) 0))
+    (λ _. (omega arith, omega (arith, fraction-le (drop (digits s + 1) s), length-drop (digits s + 1) s)))
+    (λ _. tt)
+
+digits-some : (b : ℕ) (s : List ℕ) → isDigit b ≡ true → (1 ≤ digits (b ∷ s)) × (digits (b ∷ s) ≤ length (b ∷ s))
+unfolding digits
+digits-some b s e = (run-some (Below 10) b s (digit-in-ten b e), run-le (Below 10) (b ∷ s))
+
+pub number-in : (b : ℕ) (s : List ℕ) → isDigit b ≡ true → NumberIn (length (b ∷ s)) (number (b ∷ s))
+unfolding number
+number-in b s e = let d = digits-some b s e in
+    let t : List ℕ = b ∷ s in
+    by-test (NumberIn (length t)) (eqb (getD t (digits t) 0) 35) (λ x. based-in t (byte-at t (digits t) (getD t (digits t) 0) 34 refl (eqb-true _ _ x)))
+    (λ _. by-test (NumberIn (length t)) (eqb (getD t (digits t) 0) 46) (λ x. pointed-in t (byte-at t (digits t) (getD t (digits t) 0) 45 refl (eqb-true _ _ x)))
+    (λ _. (omega arith, omega (arith, exponent-le false (drop (digits t) t), length-drop (digits t) t))))

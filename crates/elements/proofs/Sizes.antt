@@ -1,0 +1,126 @@
+-- What stands at the front of a rest that is not empty has a byte at least, and no more than there are. Assumes nothing.
+use mathlib.Core.Path.{_≡_, refl, sym, ap, _∙_}
+use mathlib.Core.Bool.{Bool, true, false, cond, not, _&&_, _||_}
+use mathlib.Core.List.{List, [], _∷_}
+use Prim.Native.Nat.{ℕ, zero, suc, _+_, _≤_, _<_, zero-le, suc-le-suc}
+use native.Mathlib.Omega.{arith}
+use borrow.Author.Tests.{eqb-true, ltb-false}
+use lib.Dec.{eqb, ltb}
+use lib.ListN.{length, take, drop, getD}
+use Rattle.classes.specs.Bytes.{separates, isLetter, isDigit, isGraphic}
+use Rattle.classes.specs.Runs.{run}
+use Rattle.classes.specs.declared.Run.the-variants.{Word}
+use Rattle.classes.proofs.Laws.{by-test, and-right, run-le, run-some, letter-in-word, byte-inside}
+use Rattle.words.specs.Words.{placeIn, reservedWords, delimiters}
+use Rattle.words.specs.declared.Place.{Place}
+use Rattle.words.specs.declared.Place.the-variants.{At, Nowhere}
+use Rattle.numbers.specs.Numbers.{number}
+use Rattle.numbers.specs.declared.Number.{Number}
+use Rattle.numbers.specs.declared.Number.the-variants.{Integer, Real, Neither}
+use Rattle.numbers.proofs.Laws.{NumberIn, number-in}
+use Rattle.quoted.specs.Quoted.{closedFrom}
+use Rattle.quoted.specs.declared.Closed.{Closed}
+use Rattle.quoted.specs.declared.Closed.the-variants.{After, Never}
+use Rattle.quoted.proofs.Laws.{closed-in}
+use Rattle.elements.specs.Element.{unreadable, identifier, word, wordBy, extended, extendedBy, followsNone, numeral, numeralBy, string, stringBy, apostrophe, single, delimiter, delimiterBy, other, opensOf, elementAt, elementBy}
+use Rattle.elements.specs.declared.Kind.{Kind}
+use Rattle.elements.specs.declared.Opens.{Opens}
+use Rattle.elements.specs.declared.Found.{Found}
+use Rattle.elements.specs.declared.Found.the-variants.{Skip, Element}
+
+abbrev pub sizeOf : Found → ℕ
+sizeOf (Skip n) = n
+sizeOf (Element k n) = n
+
+abbrev pub Good : List ℕ → Found → Type 0
+Good s f = (1 ≤ sizeOf f) × (sizeOf f ≤ length s)
+
+module _ (b : ℕ) (t : List ℕ) where
+  abbrev s : List ℕ
+  s = b ∷ t
+
+  one : (1 ≤ 1) × (1 ≤ length s)
+  one = (omega arith, suc-le-suc zero-le)
+
+  unreadable-good : Good s (unreadable s)
+  unfolding unreadable
+  unreadable-good = (suc-le-suc zero-le, omega arith)
+
+  word-good : isLetter b ≡ true → Good s (word s)
+  unfolding word identifier
+  word-good e = let n = run-some Word b t (letter-in-word b e) in
+      let m = run-le Word s in
+      by-test (Good s) (eqb (getD s (run Word s) 0) 95) (λ _. unreadable-good)
+      (λ _. go (placeIn (take (run Word s) s) reservedWords) (n, m))
+    where
+      go : (p : Place) → (1 ≤ run Word s) × (run Word s ≤ length s) → Good s (wordBy p s)
+      go (At k) h = h
+      go Nowhere h = by-test (Good s) (eqb (getD s (run Word s) 0) 34) (λ _. unreadable-good) (λ _. h)
+
+  closed-good : (q n : ℕ) → closedFrom q 0 0 t ≡ After n → (1 ≤ n + 1) × (n + 1 ≤ length s)
+  closed-good q n e = let h = closed-in q t 0 0 n e in (omega arith, omega arith)
+
+  extended-good : Good s (extended s)
+  unfolding extended
+  extended-good = go (closedFrom 92 0 0 t) refl
+    where
+      go : (c : Closed) → closedFrom 92 0 0 t ≡ c → Good s (extendedBy c s)
+      go (After n) e = by-test (Good s) (eqb n 1 || eqb (getD s (n + 1) 0) 95 || eqb (getD s (n + 1) 0) 34) (λ _. unreadable-good) (λ _. closed-good 92 n e)
+      go Never e = unreadable-good
+
+  string-good : Good s (string s)
+  unfolding string
+  string-good = go (closedFrom 34 0 0 t) refl
+    where
+      go : (c : Closed) → closedFrom 34 0 0 t ≡ c → Good s (stringBy c s)
+      go (After n) e = closed-good 34 n e
+      go Never e = unreadable-good
+
+  numeral-good : isDigit b ≡ true → Good s (numeral s)
+  unfolding numeral
+  numeral-good e = go (number s) (number-in b t e)
+    where
+      go : (r : Number) → NumberIn (length s) r → Good s (numeralBy r s)
+      go (Integer n) h = by-test (Good s) (followsNone (getD s n 0)) (λ _. unreadable-good) (λ _. h)
+      go (Real n) h = by-test (Good s) (followsNone (getD s n 0)) (λ _. unreadable-good) (λ _. h)
+      go Neither h = unreadable-good
+
+  apostrophe-good : (ticks : Bool) → Good s (apostrophe ticks s)
+  unfolding apostrophe
+  apostrophe-good ticks =
+      by-test (Good s) (not ticks && eqb (getD s 2 0) 39)
+      (λ e. by-test (Good s) (isGraphic (getD s 1 0)) (λ _. (omega arith, omega (arith, byte-inside s 2 (λ z. omega (arith, eqb-true (getD s 2 0) 39 (and-right (not ticks) (eqb (getD s 2 0) 39) e), z))))) (λ _. unreadable-good))
+      (λ _. one)
+
+  delimiter-good : Good s (delimiter s)
+  unfolding delimiter single
+  delimiter-good =
+      by-test (Good s) (ltb (length s) 2) (λ _. by-one (placeIn (take 1 s) delimiters))
+      (λ e. by-two (placeIn (take 2 s) delimiters) (ltb-false (length s) 2 e))
+    where
+      by-one : (p : Place) → Good s (delimiterBy p 1 (unreadable s))
+      by-one (At k) = one
+      by-one Nowhere = unreadable-good
+      by-two : (p : Place) → 2 ≤ length s → Good s (delimiterBy p 2 (delimiterBy (placeIn (take 1 s) delimiters) 1 (unreadable s)))
+      by-two (At k) h = (omega arith, h)
+      by-two Nowhere h = by-one (placeIn (take 1 s) delimiters)
+
+  other-good : Good s (other s)
+  unfolding other
+  other-good =
+      by-test (Good s) (eqb (getD s 0 0) 45 && eqb (getD s 1 0) 45) (λ _. (suc-le-suc zero-le, omega arith))
+      (λ _. by-test (Good s) (eqb (getD s 0 0) 47 && eqb (getD s 1 0) 42) (λ _. unreadable-good) (λ _. delimiter-good))
+
+  abbrev By : Bool → Opens → Type 0
+  By ticks o = Good s (elementBy o ticks s)
+
+  pub element-good : (ticks : Bool) → Good s (elementAt ticks s)
+  unfolding elementAt opensOf
+  element-good ticks =
+      by-test (By ticks) (separates b) (λ _. one)
+      (λ _. by-test (By ticks) (isLetter b) (λ e. word-good e)
+      (λ _. by-test (By ticks) (isDigit b) (λ e. numeral-good e)
+      (λ _. by-test (By ticks) (eqb b 34) (λ _. string-good)
+      (λ _. by-test (By ticks) (eqb b 92) (λ _. extended-good)
+      (λ _. by-test (By ticks) (eqb b 39) (λ _. apostrophe-good ticks)
+      (λ _. other-good))))))

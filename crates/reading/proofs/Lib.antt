@@ -1,0 +1,5 @@
+pub mod LineLaws
+pub mod TextLaws
+pub mod TableLaws
+pub mod Turns
+pub mod Answers

@@ -1,0 +1,4 @@
+pub mod Rows
+pub mod Lines
+pub mod Table
+pub mod Reading

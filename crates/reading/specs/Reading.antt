@@ -1,0 +1,49 @@
+-- What reading a text into a table of so many words answers, and what the table holds then: 01's "Refusals and their order", of which
+-- 1, 3 and 4 concern the elements. Assumes nothing.
+use Prim.Native.Nat.{ℕ, _-_, _*_, _/_}
+use mathlib.Core.Bool.{cond}
+use mathlib.Core.List.{List, _++_}
+use lib.Dec.{ltb}
+use lib.ListN.{length, replicate}
+use Rattle.reading.specs.Rows.{rowsOf}
+use Rattle.reading.specs.Table.{cells}
+use Rattle.reading.specs.declared.BytePlace.{BytePlace}
+use Rattle.reading.specs.declared.ElementNumber.{ElementNumber}
+use Rattle.reading.specs.declared.Refusal.{Refusal}
+use Rattle.reading.specs.declared.Refusal.the-variants.{TextTooLong, TooManyElements, TableShort}
+use Rattle.reading.specs.declared.Reading.{Reading}
+use Rattle.reading.specs.declared.Reading.the-variants.{Read, Refused}
+
+-- "a text has at most 65,536 bytes and 8,192 elements"
+abbrev pub mostBytes : ℕ
+mostBytes = 65536
+
+abbrev pub mostElements : ℕ
+mostElements = 8192
+
+-- a refusal's number in 01, and its place
+abbrev pub refusalNumber : Refusal → ℕ
+refusalNumber (TextTooLong p) = 1
+refusalNumber (TooManyElements e) = 3
+refusalNumber (TableShort e) = 4
+
+abbrev pub refusalPlace : Refusal → ℕ
+refusalPlace (TextTooLong p) = p .0
+refusalPlace (TooManyElements e) = e .0
+refusalPlace (TableShort e) = e .0
+
+-- 1: text too long; 3: more than 8,192 elements; 4: element table short, "rows it has". "They are tested in this order"
+unfoldable pub readingOf : List ℕ → ℕ → Reading
+readingOf s words =
+    cond (ltb mostBytes (length s)) (Refused (TextTooLong (record { 0 = mostBytes })))
+    (cond (ltb mostElements (length (rowsOf s))) (Refused (TooManyElements (record { 0 = mostElements })))
+    (cond (ltb (words / 3) (length (rowsOf s))) (Refused (TableShort (record { 0 = words / 3 })))
+    (Read (record { 0 = length (rowsOf s) }))))
+
+-- "On refusal every lent table is all zeros. On success unused rows are zeros."
+abbrev pub tableBy : Reading → List ℕ → ℕ → List ℕ
+tableBy (Refused r) s words = replicate words 0
+tableBy (Read n) s words = cells (rowsOf s) ++ replicate (words - 3 * length (rowsOf s)) 0
+
+unfoldable pub tableOf : List ℕ → ℕ → List ℕ
+tableOf s words = tableBy (readingOf s words) s words

@@ -1,0 +1,165 @@
+// Reads a text's elements into a table that the caller lends, line by line, in one pass. Any bytes and any table may be given.
+use elements::Found;
+ghost use mathlib.Core.Path.{_≡_};
+ghost use mathlib.Core.Bool.{false};
+ghost use Prim.Native.Nat.{_+_, _≤_};
+ghost use lib.ListN.{length, replicate};
+ghost use Rattle.classes.specs.Runs.{count};
+ghost use Rattle.reading.specs.Rows.{lineRows, rowsOf};
+ghost use Rattle.reading.specs.Lines.{inLine};
+ghost use Rattle.reading.specs.Table.{put, puts, firstOf};
+ghost use Rattle.reading.specs.Reading.{refusalNumber, refusalPlace, readingOf, tableOf};
+
+// A place in the text, counted in bytes.
+pub struct BytePlace(pub usize);
+
+// A number of an element, or a count of elements.
+pub struct ElementNumber(pub usize);
+
+pub enum Refusal {
+    TextTooLong(BytePlace),
+    TooManyElements(ElementNumber),
+    TableShort(ElementNumber),
+}
+
+pub enum Reading {
+    Read(ElementNumber),
+    Refused(Refusal),
+}
+
+pub fn refusal_number(r: Refusal) -> u64
+    ensures { λ n. ⌜ n ≡ refusalNumber r ⌝ }
+{
+    match r {
+        Refusal::TextTooLong(_) => 1,
+        Refusal::TooManyElements(_) => 3,
+        Refusal::TableShort(_) => 4,
+    }
+}
+
+pub fn refusal_place(r: Refusal) -> usize
+    ensures { λ n. ⌜ n ≡ refusalPlace r ⌝ }
+{
+    match r {
+        Refusal::TextTooLong(p) => p.0,
+        Refusal::TooManyElements(e) => e.0,
+        Refusal::TableShort(e) => e.0,
+    }
+}
+
+// The byte place of an element: the only way from one counting to the other.
+pub fn place_of(t: &[u64], e: ElementNumber) -> BytePlace
+    ensures { λ r. ⌜ r .0 ≡ firstOf (now (t .entry)) (e .0) ⌝ }
+{
+    let n = e.0;
+    if n < t.len() / 3 {
+        let w = n * 3 + 1;
+        return BytePlace(t[w] as usize);
+    }
+    BytePlace(0)
+}
+
+fn zero_all(t: &mut [u64])
+    ensures { λ _. ⌜ now (t .exit) ≡ replicate (length (now (t .entry))) 0 ⌝ }
+{
+    let mut i = 0;
+    while i < t.len() {
+        t[i] = 0;
+        i += 1;
+    }
+}
+
+// Puts a row at its number, where the table has room for it.
+fn put_row(t: &mut [u64], e: ElementNumber, kind: u64, first: BytePlace, size: usize)
+    ensures { λ _. ⌜ now (t .exit) ≡ put (now (t .entry)) (e .0) kind (first .0) size ⌝ }
+{
+    let n = e.0;
+    if n < t.len() / 3 {
+        let w = n * 3;
+        t[w] = kind;
+        t[w + 1] = first.0 as u64;
+        t[w + 2] = size as u64;
+    }
+}
+
+// Reads a line that begins at a byte place; n elements stand before it. Answers how many stand behind it.
+fn read_line(l: &[u8], at: usize, t: &mut [u64], before: usize) -> usize
+    requires { ⌜ (at + length (now l) ≤ 65536) × (before ≤ at) ⌝ }
+    ensures { λ r. ⌜ r ≡ before + length (lineRows 0 at false (now (l .entry))) ⌝ }
+    ensures { λ r. ⌜ now (t .exit) ≡ puts (now (t .entry)) before (lineRows 0 at false (now (l .entry))) ⌝ }
+{
+    let mut i = 0;
+    let mut n = before;
+    let mut ticks = false;
+    while i < l.len() {
+        match elements::element_at(&l[i..], ticks) {
+            Found::Skip(k) => {
+                i += k;
+            },
+            Found::Element(kind, k) => {
+                put_row(
+                    t,
+                    ElementNumber(n),
+                    elements::kind_number(kind),
+                    BytePlace(at + i),
+                    k,
+                );
+                ticks = elements::ticks_after(kind);
+                n += 1;
+                i += k;
+            },
+        }
+    }
+    n
+}
+
+// How many bytes the line at the front has.
+fn line_length(s: &[u8]) -> usize
+    ensures { λ r. ⌜ r ≡ count inLine (now (s .entry)) ⌝ }
+{
+    let mut i = 0;
+    while i < s.len() {
+        if classes::ends_line(s[i]) {
+            return i;
+        }
+        i += 1;
+    }
+    i
+}
+
+// Reads line after line. Answers how many elements there are.
+fn read_lines(s: &[u8], t: &mut [u64]) -> usize
+    requires { ⌜ length (now s) ≤ 65536 ⌝ }
+    ensures { λ r. ⌜ r ≡ length (rowsOf (now (s .entry))) ⌝ }
+    ensures { λ r. ⌜ now (t .exit) ≡ puts (now (t .entry)) 0 (rowsOf (now (s .entry))) ⌝ }
+{
+    let mut at = 0;
+    let mut n = 0;
+    while at < s.len() {
+        let end = at + line_length(&s[at..]);
+        n = read_line(&s[at..end], at, t, n);
+        at = end + 1;
+    }
+    n
+}
+
+pub fn read_elements(s: &[u8], t: &mut [u64]) -> Reading
+    ensures { λ r. ⌜ r ≡ readingOf (now (s .entry)) (length (now (t .entry))) ⌝ }
+    ensures { λ r. ⌜ now (t .exit) ≡ tableOf (now (s .entry)) (length (now (t .entry))) ⌝ }
+{
+    zero_all(t);
+    if 65536 < s.len() {
+        return Reading::Refused(Refusal::TextTooLong(BytePlace(65536)));
+    }
+    let n = read_lines(s, t);
+    if 8192 < n {
+        zero_all(t);
+        return Reading::Refused(Refusal::TooManyElements(ElementNumber(8192)));
+    }
+    let rows = t.len() / 3;
+    if rows < n {
+        zero_all(t);
+        return Reading::Refused(Refusal::TableShort(ElementNumber(rows)));
+    }
+    Reading::Read(ElementNumber(n))
+}
