@@ -1,0 +1,24 @@
+-- The arguments of a program: what a value is, and when two words are the same. Assumes nothing.
+use Prim.Native.Nat.{ℕ, _+_, _*_, min}
+use mathlib.Core.Bool.{Bool, true, false, cond, _&&_}
+use mathlib.Core.List.{List, [], _∷_}
+use lib.Dec.{eqb}
+use lib.ListN.{length}
+use Rattle.classes.specs.Bytes.{isDigit, digitValue}
+use Rattle.arguments.specs.declared.Value.{Value}
+use Rattle.arguments.specs.declared.Value.the-variants.{Is, Nothing}
+
+-- digits alone, behind those that spell v; "above the most counts as the most"
+unfoldable pub valueFrom : ℕ → ℕ → List ℕ → Value
+valueFrom most v [] = Is v
+valueFrom most v (b ∷ s) = elim (isDigit b) [ true ↦ valueFrom most (min most (v * 10 + digitValue b)) s | false ↦ Nothing ]
+
+unfoldable pub valueOf : ℕ → List ℕ → Value
+valueOf most s = cond (eqb (length s) 0) Nothing (valueFrom most 0 s)
+
+-- the same bytes
+unfoldable pub same : List ℕ → List ℕ → Bool
+same [] [] = true
+same [] (x ∷ t) = false
+same (b ∷ s) [] = false
+same (b ∷ s) (x ∷ t) = eqb b x && same s t

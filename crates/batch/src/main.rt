@@ -1,0 +1,63 @@
+// Many texts in one run, for comparing with a second program. A case on standard input is ten bytes and then the text: the mode, then three
+// numbers of three bytes each, high byte first: element rows, other rows, length. After what a case prints stands a line with a point.
+use console::Got;
+use libc::STDIN_FILENO;
+ghost use Prim.Native.Nat.{_≤_};
+
+fn least(a: usize, b: usize) -> usize
+    ensures { λ r. ⌜ r ≤ b ⌝ }
+{
+    if a <= b { a } else { b }
+}
+
+fn wide(b: u8) -> usize
+    ensures { λ r. ⌜ r ≤ 255 ⌝ }
+{
+    b as usize
+}
+
+// A number of three bytes.
+fn number_at(head: &[u8], at: usize) -> usize {
+    if head.len() < 10 {
+        return 0;
+    }
+    if 7 < at {
+        return 0;
+    }
+    wide(head[at]) * 65536 + wide(head[at + 1]) * 256 + wide(head[at + 2])
+}
+
+// One case: false where there is none.
+fn one(head: &mut [u8], text: &mut [u8], table: &mut [u64]) -> bool {
+    let Got::Bytes(n) = console::read_text(STDIN_FILENO, head) else {
+        return false;
+    };
+    if n < 10 {
+        return false;
+    }
+    let size = least(number_at(head, 7), text.len());
+    let Got::Bytes(k) = console::read_text(STDIN_FILENO, &mut text[..size]) else {
+        return false;
+    };
+    console::elements(console::front(text, k), table, number_at(head, 1));
+    console::words(b".\n");
+    true
+}
+
+// At most so many cases.
+fn cases(head: &mut [u8], text: &mut [u8], table: &mut [u64]) {
+    let mut left: u64 = 1000000000;
+    while 0 < left {
+        if !one(head, text, table) {
+            return;
+        }
+        left -= 1;
+    }
+}
+
+fn main() {
+    let mut head = [0u8; 10];
+    let mut text = [0u8; 131072];
+    let mut table = [0u64; 24576];
+    cases(&mut head, &mut text, &mut table);
+}

@@ -1,0 +1,76 @@
+-- At most as many turns as there are arguments; the word keeps its length. Assumes nothing.
+use lib.ListN.{length}
+use mathlib.Core.Path.{_≡_}
+use borrow.Author.Needs.{needs}
+use Rattle.strict.proofs.read_options.Statement.{statement}
+use Rattle.strict.proofs.read_options.Tie as tie
+use Rattle.strict.proofs.read_options.Reads as reads
+use Rattle.strict.proofs.read_options.Lts as lts
+use Rattle.os.proofs.arg_count.Reads as arg-count-reads
+use Rattle.strict.proofs.Options.new.Reads as new-reads
+use Rattle.strict.proofs.Options.taken.Reads as taken-reads
+
+abbrev Inv-loop : tie.InvT-loop
+Inv-loop word₀ count o₀ left₀ word o left = length word ≡ length word₀
+
+abbrev μ-loop : tie.MeasureT-loop
+μ-loop word₀ count o₀ left₀ word o left = left
+
+arg-count-requires : tie.Need-arg-count-requires Inv-loop μ-loop
+arg-count-requires c κs = search needs
+
+new-requires : tie.Need-new-requires Inv-loop μ-loop
+new-requires c κs = search needs
+
+loop-holds : tie.Need-loop-holds Inv-loop μ-loop
+loop-holds c = search needs
+
+same-length : tie.Need-same-length Inv-loop μ-loop
+same-length c = search needs
+
+returns : tie.Need-returns Inv-loop μ-loop
+returns c = search needs
+
+same-length-2 : tie.Need-same-length-2 Inv-loop μ-loop
+same-length-2 c = search needs
+
+returns-2 : tie.Need-returns-2 Inv-loop μ-loop
+returns-2 c = search needs
+
+taken-requires : tie.Need-taken-requires Inv-loop μ-loop
+taken-requires c κs = search needs
+
+sub-left : tie.Need-sub-left Inv-loop μ-loop
+sub-left c = search needs
+
+loop-less : tie.Need-loop-less Inv-loop μ-loop
+loop-less c = search needs
+
+loop-again : tie.Need-loop-again Inv-loop μ-loop
+loop-again c = search needs
+
+same-length-3 : tie.Need-same-length-3 Inv-loop μ-loop
+same-length-3 c = search needs
+
+returns-3 : tie.Need-returns-3 Inv-loop μ-loop
+returns-3 c = search needs
+
+pub read-options-spec : {M : Type 1} → statement M
+read-options-spec =
+    tie.close
+    (tie.spec
+    Inv-loop
+    μ-loop
+    arg-count-requires
+    new-requires
+    loop-holds
+    same-length
+    returns
+    same-length-2
+    returns-2
+    taken-requires
+    sub-left
+    loop-less
+    loop-again
+    same-length-3
+    returns-3)
