@@ -6,7 +6,7 @@ use Prim.Native.Nat.{ℕ, zero, suc, _+_, _-_, _≤_, _<_, zero-le, suc-le-suc}
 use native.Mathlib.Nat.{not-suc-le-zero, le-of-suc-le-suc, le-refl}
 use native.Mathlib.Numerals.{add-one}
 use native.Mathlib.Omega.{arith}
-use borrow.Author.Tests.{eq-eqb, ne-eqb, lt-ltb, leb-true, leb-false, not-true, not-false}
+use borrow.Author.Tests.{eq-eqb, ne-eqb, lt-ltb, le-leb, leb-true, leb-false, not-true, not-false}
 use lib.Dec.{leb}
 use lib.ListN.{length, take, drop, getD, length-drop, drop-of-length-le, List·getD-eq-default}
 use lib.Seq.{drop-cons, take-all}
@@ -70,7 +70,7 @@ pub by-test : {A : Type 0} (P : A → Type 0) (t : Bool) {x y : A} → (t ≡ tr
 by-test P true f g = f refl
 by-test P false f g = g refl
 
-within-high : (low high b : ℕ) → within low high b ≡ true → b ≤ high
+pub within-high : (low high b : ℕ) → within low high b ≡ true → b ≤ high
 within-high low high b e = leb-true b high (and-right (leb low b) (leb b high) e)
 
 pub digit-value-le : (b : ℕ) → digitValue b ≤ 16
@@ -148,6 +148,19 @@ letter-in-word b e = rw e
 pub digit-in-ten : (b : ℕ) → isDigit b ≡ true → inRun (Below 10) b ≡ true
 unfolding inRun digitValue isDigit
 digit-in-ten b e = rw e (lt-ltb (b - 48) 10 (omega (arith, within-high 48 57 b e)))
+
+-- what is no letter is no letter of upper or lower case
+pub not-upper : (x : ℕ) → isLetter x ≡ false → 65 ≤ x → x ≤ 90 → ⊥
+unfolding isLetter
+not-upper x e l h = false≢true (sym e ∙ rw (le-leb 65 x l, le-leb x 90 h))
+
+pub not-lower : (x : ℕ) → isLetter x ≡ false → 97 ≤ x → x ≤ 122 → ⊥
+unfolding isLetter
+not-lower x e l h = false≢true (sym e ∙ rw (le-leb 97 x l, le-leb x 122 h, or-true (within 65 90 x)))
+  where
+    or-true : (y : Bool) → (y || true) ≡ true
+    or-true true = refl
+    or-true false = refl
 
 -- one turn of the loop over a run, in the code's terms
 module _ (q : List ℕ → Bool) (s : List ℕ) (i total : ℕ) (x : Bool) where

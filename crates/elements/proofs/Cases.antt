@@ -137,22 +137,39 @@ module _ (s : List ℕ) (ticks : Bool) where
       character-broken f u g = simp (t, ← q, eq-eqb b 39 e, ← q′, ← y, u, g)
 
 -- delimiters
-module _ (s : List ℕ) (p : Place) where
-  pub single-found : (k : ℕ) → p ≡ placeIn (take 1 s) delimiters → p ≡ At k → Element (Kind.Delimiter k) 1 ≡ single s
-  unfolding single
-  single-found k e m = simp (← e, m)
+take-one : (s : List ℕ) → 0 < length s → take 1 s ≡ getD s 0 0 ∷ []
+take-one [] h = absurd (omega (arith, h))
+take-one (b ∷ s) h = refl
 
-  pub single-none : (f : Found) → p ≡ placeIn (take 1 s) delimiters → p ≡ Nowhere → f ≡ unreadable s → f ≡ single s
-  unfolding single
-  single-none f e m g = simp (← e, m, g)
+take-two : (s : List ℕ) → 2 ≤ length s → take 2 s ≡ getD s 0 0 ∷ getD s 1 0 ∷ []
+take-two [] h = absurd (omega (arith, h))
+take-two (b ∷ []) h = absurd (omega (arith, h))
+take-two (b ∷ d ∷ s) h = refl
 
-  pub double-found : (k : ℕ) → 2 ≤ length s → p ≡ placeIn (take 2 s) delimiters → p ≡ At k → Element (Kind.Delimiter k) 2 ≡ delimiter s
-  unfolding delimiter
-  double-found k l e m = simp (le-ltb (length s) 2 l, ← e, m)
+module _ (s : List ℕ) (p : Place) (b : ℕ) (q : b ≡ getD s 0 0) where
+  module _ (h : 0 < length s) (e : p ≡ placeIn (b ∷ []) delimiters) where
+    one-as : p ≡ placeIn (take 1 s) delimiters
+    one-as = rw (take-one s h, ← q) e
 
-  pub double-none : (f : Found) → 2 ≤ length s → p ≡ placeIn (take 2 s) delimiters → p ≡ Nowhere → f ≡ single s → f ≡ delimiter s
-  unfolding delimiter
-  double-none f l e m g = simp (le-ltb (length s) 2 l, ← e, m, g)
+    pub single-found : (k : ℕ) → p ≡ At k → Element (Kind.Delimiter k) 1 ≡ single s
+    unfolding single
+    single-found k m = simp (← one-as, m)
+
+    pub single-none : (f : Found) → p ≡ Nowhere → f ≡ unreadable s → f ≡ single s
+    unfolding single
+    single-none f m g = simp (← one-as, m, g)
+
+  module _ (d : ℕ) (q′ : d ≡ getD s 1 0) (l : 2 ≤ length s) (e : p ≡ placeIn (b ∷ d ∷ []) delimiters) where
+    two-as : p ≡ placeIn (take 2 s) delimiters
+    two-as = rw (take-two s l, ← q, ← q′) e
+
+    pub double-found : (k : ℕ) → p ≡ At k → Element (Kind.Delimiter k) 2 ≡ delimiter s
+    unfolding delimiter
+    double-found k m = simp (le-ltb (length s) 2 l, ← two-as, m)
+
+    pub double-none : (f : Found) → p ≡ Nowhere → f ≡ single s → f ≡ delimiter s
+    unfolding delimiter
+    double-none f m g = simp (le-ltb (length s) 2 l, ← two-as, m, g)
 
 pub double-short : (s : List ℕ) (f : Found) → length s < 2 → f ≡ single s → f ≡ delimiter s
 unfolding delimiter

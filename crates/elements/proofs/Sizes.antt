@@ -101,6 +101,7 @@ module _ (b : ℕ) (t : List ℕ) where
       by-one : (p : Place) → Good s (delimiterBy p 1 (unreadable s))
       by-one (At k) = one
       by-one Nowhere = unreadable-good
+
       by-two : (p : Place) → 2 ≤ length s → Good s (delimiterBy p 2 (delimiterBy (placeIn (take 1 s) delimiters) 1 (unreadable s)))
       by-two (At k) h = (omega arith, h)
       by-two Nowhere h = by-one (placeIn (take 1 s) delimiters)

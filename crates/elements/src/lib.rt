@@ -179,7 +179,7 @@ fn single_at(s: &[u8]) -> Found
     requires { ⌜ 0 < length (now s) ⌝ }
     ensures { λ r. ⌜ r ≡ single (now (s .entry)) ⌝ }
 {
-    match words::delimiter(&s[..1]) {
+    match words::delimiter_one(classes::byte_or(s, 0)) {
         Place::At(k) => Found::Element(Kind::Delimiter(k as u8), 1),
         Place::Nowhere => unreadable_at(s),
     }
@@ -192,7 +192,7 @@ fn delimiter_at(s: &[u8]) -> Found
     if s.len() < 2 {
         return single_at(s);
     }
-    match words::delimiter(&s[..2]) {
+    match words::delimiter_two(classes::byte_or(s, 0), classes::byte_or(s, 1)) {
         Place::At(k) => Found::Element(Kind::Delimiter(k as u8), 2),
         Place::Nowhere => single_at(s),
     }

@@ -55,8 +55,10 @@ puts-sets t n (r ∷ rs) h =
   where
     k : ℕ
     k = kindNumber (r .kind)
+
     three : (n : ℕ) → suc n * 3 ≡ n * 3 + 3
     three n = omega arith
+
     stored : (t : List ℕ) (w a b d : ℕ) (rest : List ℕ) → sets (set (set (set t w a) (w + 1) b) (w + 2) d) (w + 3) rest ≡ sets t w (a ∷ b ∷ d ∷ rest)
     stored t w a b d rest = rw (add-one, add-two, add-three)
 

@@ -19,3 +19,8 @@ searched zero k w [] = Nowhere
 searched (suc n) k w [] = Nowhere
 searched (suc n) k w (x ∷ t) = searched n k w t
 searched zero k w (n ∷ t) = elim (eqb n (length w) && begins w t) [ true ↦ At k | false ↦ searched n (suc k) w t ]
+
+-- the search for a byte in a list of bytes, the first of which is number k
+unfoldable pub byteFrom : ℕ → ℕ → List ℕ → Place
+byteFrom k b [] = Nowhere
+byteFrom k b (x ∷ t) = elim (eqb x b) [ true ↦ At k | false ↦ byteFrom (suc k) b t ]

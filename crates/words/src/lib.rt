@@ -2,10 +2,12 @@
 // `search` and its proof, and nothing outside this crate.
 ghost use mathlib.Core.Path.{_≡_};
 ghost use mathlib.Core.Bool.{_&&_};
+ghost use mathlib.Core.List.{[], _∷_};
+ghost use Prim.Native.Nat.{_≤_};
 ghost use lib.Dec.{eqb};
 ghost use lib.ListN.{length};
 ghost use Rattle.words.specs.Words.{begins, placeIn, reservedWords, delimiters};
-ghost use Rattle.words.specs.Packed.{searched};
+ghost use Rattle.words.specs.Packed.{searched, byteFrom};
 
 // The number of a word in its list, counted from 0.
 pub enum Place {
@@ -47,14 +49,11 @@ fn search(w: &[u8], list: &[u8]) -> Place
     let mut k = 0;
     while i < list.len() {
         let n = list[i] as usize;
-        i += 1;
-        if entry_is(w, &list[i..], n) {
+        let from = i + 1;
+        if entry_is(w, &list[from..], n) {
             return Place::At(k);
         }
-        if list.len() - i < n {
-            return Place::Nowhere;
-        }
-        i += n;
+        i = from + n;
         k += 1;
     }
     Place::Nowhere
@@ -69,11 +68,34 @@ pub fn reserved_word(w: &[u8]) -> Place
     )
 }
 
-pub fn delimiter(w: &[u8]) -> Place
-    ensures { λ r. ⌜ r ≡ placeIn (now (w .entry)) delimiters ⌝ }
+// The place of a byte in a list of bytes, the first of which has the number k.
+fn byte_place(b: u8, list: &[u8], k: usize) -> Place
+    requires { ⌜ k ≤ 25 ⌝ }
+    ensures { λ r. ⌜ r ≡ byteFrom k b (now (list .entry)) ⌝ }
 {
-    search(
-        w,
-        b"\x02=>\x02**\x02:=\x02/=\x02>=\x02<=\x02<>\x01&\x01'\x01(\x01)\x01*\x01+\x01,\x01-\x01.\x01/\x01:\x01;\x01<\x01=\x01>\x01|\x01[\x01]",
-    )
+    let mut i = 0;
+    while i < list.len() {
+        if list[i] == b {
+            return Place::At(k + i);
+        }
+        i += 1;
+    }
+    Place::Nowhere
+}
+
+// A delimiter of one byte: they stand behind the seven of two bytes.
+pub fn delimiter_one(b: u8) -> Place
+    ensures { λ r. ⌜ r ≡ placeIn (b ∷ []) delimiters ⌝ }
+{
+    byte_place(b, b"&'()*+,-./:;<=>|[]", 7)
+}
+
+// A delimiter of two bytes: each ends with `=`, `>` or `*`.
+pub fn delimiter_two(b: u8, d: u8) -> Place
+    ensures { λ r. ⌜ r ≡ placeIn (b ∷ d ∷ []) delimiters ⌝ }
+{
+    if (d == 61) | (d == 62) | (d == 42) {
+        return search(&[b, d], b"\x02=>\x02**\x02:=\x02/=\x02>=\x02<=\x02<>");
+    }
+    Place::Nowhere
 }

@@ -1,15 +1,13 @@
 -- The three ways of a delimiter. Assumes nothing.
-use lib.Seq.{length-take-le}
-use native.Mathlib.Omega.{arith}
-use mathlib.Core.Path.{sym}
 use Rattle.elements.proofs.Cases.{delimiter-fits, double-short, double-found, double-none}
 use borrow.Author.Needs.{needs}
 use Rattle.elements.proofs.delimiter_at.Statement.{statement}
 use Rattle.elements.proofs.delimiter_at.Tie as tie
 use Rattle.elements.proofs.delimiter_at.Reads as reads
 use Rattle.elements.proofs.delimiter_at.Lts as lts
+use Rattle.classes.proofs.byte_or.Reads as byte-or-reads
 use Rattle.elements.proofs.single_at.Reads as single-at-reads
-use Rattle.words.proofs.delimiter.Reads as delimiter-reads
+use Rattle.words.proofs.delimiter_two.Reads as delimiter-two-reads
 
 single-at-requires : tie.Need-single-at-requires
 single-at-requires c κs = search needs
@@ -17,11 +15,14 @@ single-at-requires c κs = search needs
 returns : tie.Need-returns
 returns c = search double-short
 
-slice-aggregate-delimiter : tie.Need-slice-aggregate-delimiter
-slice-aggregate-delimiter c = sym (length-take-le 2 (c .before .before .before .args .s .now) (search needs))
+byte-or-requires : tie.Need-byte-or-requires
+byte-or-requires c κs = search needs
 
-delimiter-requires : tie.Need-delimiter-requires
-delimiter-requires c κs = search needs
+byte-or-requires-2 : tie.Need-byte-or-requires-2
+byte-or-requires-2 c κs = search needs
+
+delimiter-two-requires : tie.Need-delimiter-two-requires
+delimiter-two-requires c κs = search needs
 
 enum-known-k : tie.Need-enum-known-k
 enum-known-k c = search needs
@@ -47,8 +48,9 @@ delimiter-at-spec =
     (tie.spec
     single-at-requires
     returns
-    slice-aggregate-delimiter
-    delimiter-requires
+    byte-or-requires
+    byte-or-requires-2
+    delimiter-two-requires
     enum-known-k
     cast-t9
     enum-told

@@ -1,6 +1,6 @@
 -- The invariant: the search from here, in the rest of the list, is the search in the whole. Assumes nothing.
 use borrow.Author.Needs.{needs}
-use Rattle.words.proofs.Laws.{search-hit, search-past, search-out, search-end}
+use Rattle.words.proofs.Laws.{search-hit, search-past, search-end}
 use Rattle.words.specs.Packed.{searched}
 use lib.ListN.{length, drop}
 use native.Mathlib.Omega.{arith}
@@ -13,13 +13,13 @@ use Rattle.words.proofs.search.Lts as lts
 use Rattle.words.proofs.entry_is.Reads as entry-is-reads
 
 abbrev Inv-loop : tie.InvT-loop
-Inv-loop w list i₀ k₀ i k = (i ≤ length list) × (k ≤ i) × (searched 0 k w (drop i list) ≡ searched 0 0 w list)
+Inv-loop w list i₀ k₀ i k = (k ≤ i) × (searched 0 k w (drop i list) ≡ searched 0 0 w list)
 
 abbrev μ-loop : tie.MeasureT-loop
 μ-loop w list i₀ k₀ i k = length list - i
 
 loop-holds : tie.Need-loop-holds Inv-loop μ-loop
-loop-holds c = (omega arith, omega arith, refl)
+loop-holds c = (omega arith, refl)
 
 shared-slice-read-n : tie.Need-shared-slice-read-n Inv-loop μ-loop
 shared-slice-read-n c = search needs
@@ -27,8 +27,8 @@ shared-slice-read-n c = search needs
 cast-n : tie.Need-cast-n Inv-loop μ-loop
 cast-n c = omega (arith, c .shared-slice-known3 .given (c .before .before .loop .i))
 
-add-i : tie.Need-add-i Inv-loop μ-loop
-add-i c = search needs
+add-from : tie.Need-add-from Inv-loop μ-loop
+add-from c = search needs
 
 sub-entry-is : tie.Need-sub-entry-is Inv-loop μ-loop
 sub-entry-is c = search needs
@@ -45,14 +45,9 @@ entry-is-requires c κs = search needs
 returns : tie.Need-returns Inv-loop μ-loop
 returns c = search search-hit
 
-sub-if2 : tie.Need-sub-if2 Inv-loop μ-loop
-sub-if2 c = search needs
-
-returns-2 : tie.Need-returns-2 Inv-loop μ-loop
-returns-2 c = search search-out
-
-add-i-2 : tie.Need-add-i-2 Inv-loop μ-loop
-add-i-2 c = search needs
+add-i : tie.Need-add-i Inv-loop μ-loop
+add-i c = let k = c .before .before .before in
+    omega (arith, k .shared-slice-known3 .given (k .before .before .loop .i))
 
 add-k : tie.Need-add-k Inv-loop μ-loop
 add-k c = search needs
@@ -61,10 +56,10 @@ loop-less : tie.Need-loop-less Inv-loop μ-loop
 loop-less c = search needs
 
 loop-again : tie.Need-loop-again Inv-loop μ-loop
-loop-again c = (omega arith, omega arith, search search-past)
+loop-again c = (omega arith, search search-past)
 
-returns-3 : tie.Need-returns-3 Inv-loop μ-loop
-returns-3 c = search search-end
+returns-2 : tie.Need-returns-2 Inv-loop μ-loop
+returns-2 c = search search-end
 
 pub search-spec : {M : Type 1} → statement M
 search-spec =
@@ -75,16 +70,14 @@ search-spec =
     loop-holds
     shared-slice-read-n
     cast-n
-    add-i
+    add-from
     sub-entry-is
     part-entry-is-start
     part-entry-is-end
     entry-is-requires
     returns
-    sub-if2
-    returns-2
-    add-i-2
+    add-i
     add-k
     loop-less
     loop-again
-    returns-3)
+    returns-2)

@@ -1,0 +1,74 @@
+"""What the test scripts share: where the programs stand, how one is run, how a failure is shown, how a script ends.
+
+BIN names the folder of the programs that rt built (target/bin), RUN the words before a program (tools/run64 run; empty
+for one that runs as it is)."""
+import os
+import pathlib
+import shlex
+import subprocess
+import sys
+
+os.chdir(pathlib.Path(__file__).resolve().parent.parent)
+BIN = os.environ.get('BIN', 'target/bin')
+RUN = shlex.split(os.environ.get('RUN', 'tools/run64 run'))
+
+
+def built(path):
+    """The path of a program; the script ends where it isn't there."""
+    if not os.path.exists(path):
+        print(f'{path} is not built', '0 passed, 1 failed', sep='\n')
+        sys.exit(1)
+    return path
+
+
+def proved(program):
+    """The words that start a program which rt proved and built."""
+    return RUN + [built(f'{BIN}/{program}')]
+
+
+def second(job):
+    """The words that start the second program on a job."""
+    return [built('target/second'), job]
+
+
+def run(words, text=b'', seconds=120):
+    """Standard output and standard error of one run on a text."""
+    try:
+        done = subprocess.run(words, input=text, capture_output=True, timeout=seconds)
+        return done.stdout, done.stderr
+    except subprocess.TimeoutExpired:
+        return b'', b'no end within %d s\n' % seconds
+
+
+def shown(data, most=300):
+    """Bytes in a printable form."""
+    return repr(data[:most])[1:] + (f' and so on, {len(data)} bytes' if len(data) > most else '')
+
+
+def differences(expected, printed, sides=('expected', 'printed'), most=12):
+    """The first lines in which two outputs differ, in words."""
+    outputs = expected.split(b'\n'), printed.split(b'\n')
+    lines = []
+    for number in range(max(map(len, outputs))):
+        one, other = (shown(output[number]) if number < len(output) else 'no such line' for output in outputs)
+        if one != other:
+            lines.append(f'  line {number + 1}: {sides[0]} {one}, {sides[1]} {other}')
+    return lines[:most] + ([f'  and {len(lines) - most} lines more'] if len(lines) > most else [])
+
+
+class Tally:
+    """Counts the tests of a script and prints each failure."""
+
+    def __init__(self):
+        self.passed = self.failed = 0
+
+    def test(self, holds, *lines):
+        if holds:
+            self.passed += 1
+        else:
+            self.failed += 1
+            print(*lines, sep='\n', flush=True)
+
+    def close(self):
+        print(f'{self.passed} passed, {self.failed} failed')
+        sys.exit(0 if self.passed and not self.failed else 1)
