@@ -3,3 +3,4 @@ pub mod TextLaws
 pub mod TableLaws
 pub mod Turns
 pub mod Answers
+pub mod Promises

@@ -26,13 +26,13 @@ line-over (suc k) at ticks [] = refl
 line-over (suc k) at ticks (b ∷ l) = line-over k (suc at) ticks l ∙ rw (suc-add, ← add-suc)
 
 -- at the front of a rest
-front-skip : (r : List ℕ) (at n : ℕ) (ticks : Bool) → 0 < length r → elementAt ticks r ≡ Skip n → lineRows 0 at ticks r ≡ lineRows 0 (at + n) ticks (drop n r)
+pub front-skip : (r : List ℕ) (at n : ℕ) (ticks : Bool) → 0 < length r → elementAt ticks r ≡ Skip n → lineRows 0 at ticks r ≡ lineRows 0 (at + n) ticks (drop n r)
 unfolding lineRows
 front-skip [] at n ticks l e = absurd (not-suc-le-zero l)
 front-skip (b ∷ r) at zero ticks l e = absurd (not-suc-le-zero (rw e at (element-good b r ticks .0)))
 front-skip (b ∷ r) at (suc m) ticks l e = rw (e, lineRows) (line-over m (suc at) ticks r ∙ rw (suc-add, ← add-suc))
 
-front-element : (r : List ℕ) (at n : ℕ) (ticks : Bool) (k : Kind) → 0 < length r → elementAt ticks r ≡ Element k n → lineRows 0 at ticks r ≡ rowAt k at n ∷ lineRows 0 (at + n) (ticksAfter k) (drop n r)
+pub front-element : (r : List ℕ) (at n : ℕ) (ticks : Bool) (k : Kind) → 0 < length r → elementAt ticks r ≡ Element k n → lineRows 0 at ticks r ≡ rowAt k at n ∷ lineRows 0 (at + n) (ticksAfter k) (drop n r)
 unfolding lineRows
 front-element [] at n ticks k l e = absurd (not-suc-le-zero l)
 front-element (b ∷ r) at zero ticks k l e = absurd (not-suc-le-zero (rw e at (element-good b r ticks .0)))

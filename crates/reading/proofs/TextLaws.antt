@@ -16,19 +16,19 @@ use Rattle.reading.specs.Rows.{Row, onto, linesOf, lineRows, linesRows}
 use Rattle.reading.specs.Lines.{inLine}
 
 module _ (b : ℕ) (s : List ℕ) where
-  count-ended : endsLine b ≡ true → count inLine (b ∷ s) ≡ 0
+  pub count-ended : endsLine b ≡ true → count inLine (b ∷ s) ≡ 0
   unfolding inLine
   count-ended e = count-none inLine b s (rw e)
 
-  count-byte : endsLine b ≡ false → count inLine (b ∷ s) ≡ suc (count inLine s)
+  pub count-byte : endsLine b ≡ false → count inLine (b ∷ s) ≡ suc (count inLine s)
   unfolding inLine
   count-byte e = count-more inLine b s (rw e)
 
-  lines-ended : endsLine b ≡ true → linesOf (b ∷ s) ≡ [] ∷ linesOf s
+  pub lines-ended : endsLine b ≡ true → linesOf (b ∷ s) ≡ [] ∷ linesOf s
   unfolding linesOf
   lines-ended e = rw (e, linesOf)
 
-  lines-byte : endsLine b ≡ false → linesOf (b ∷ s) ≡ onto b (linesOf s)
+  pub lines-byte : endsLine b ≡ false → linesOf (b ∷ s) ≡ onto b (linesOf s)
   unfolding linesOf
   lines-byte e = rw (e, linesOf)
 

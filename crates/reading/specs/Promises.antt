@@ -1,0 +1,64 @@
+-- What the element reader promises beside its contract, as statements: proofs/Promises.antt proves each. Assumes nothing: these are
+-- definitions.
+use Prim.Native.Nat.{ℕ, suc, _+_, _≤_}
+use mathlib.Core.Path.{_≡_}
+use mathlib.Core.Bool.{true, false}
+use mathlib.Core.List.{List, [], _∷_, _++_}
+use lib.ListN.{length, getD}
+use Rattle.classes.specs.Bytes.{endsLine, separates}
+use Rattle.elements.specs.declared.Kind.{Kind}
+use Rattle.reading.specs.Rows.{Row, lineRows, linesOf, rowsOf}
+use Rattle.reading.specs.Reading.{readingOf, tableOf}
+use Rattle.reading.specs.declared.Reading.{Reading}
+
+-- Any two permitted answers coincide: what `read_elements` ensures leaves no choice.
+abbrev pub NoChoice : Type 0
+NoChoice =
+    (s : List ℕ) (words : ℕ) (r r′ : Reading) (t t′ : List ℕ)
+    → r ≡ readingOf s words → t ≡ tableOf s words → r′ ≡ readingOf s words → t′ ≡ tableOf s words → (r ≡ r′) × (t ≡ t′)
+
+-- no byte of these ends a line
+abbrev pub Inside : List ℕ → Type 0
+Inside [] = Unit {0}
+Inside (b ∷ s) = (endsLine b ≡ false) × Inside s
+
+-- a line ends here, or the text does
+abbrev pub Ended : List ℕ → Type 0
+Ended [] = Unit {0}
+Ended (b ∷ s) = endsLine b ≡ true
+
+-- How a text that begins at the byte `at` is laid out: line ends, separators, comments up to a line's end, and elements, each of which is
+-- the next row. An element has a byte at least and none that ends a line.
+pub data Laid : ℕ → List ℕ → List Row → Type 0 where
+  nothing : {at : ℕ} → Laid at [] []
+  line-end : {at b : ℕ} {s : List ℕ} {rs : List Row} → endsLine b ≡ true → Laid (suc at) s rs → Laid at (b ∷ s) rs
+  separator : {at b : ℕ} {s : List ℕ} {rs : List Row} → separates b ≡ true → Laid (suc at) s rs → Laid at (b ∷ s) rs
+  comment : {at : ℕ} {s u : List ℕ} {rs : List Row} (c : List ℕ) → u ≡ c ++ s → (getD c 0 0 ≡ 45) × (getD c 1 0 ≡ 45) → Inside c → Ended s → Laid (at + length c) s rs → Laid at u rs
+  element : {at : ℕ} {s u : List ℕ} {rs : List Row} (k : Kind) (e : List ℕ) → u ≡ e ++ s → 1 ≤ length e → Inside e → Laid (at + length e) s rs → Laid at u (record { kind = k; first = at; size = length e } ∷ rs)
+
+-- Nothing is lost: every byte of a text lies in exactly one element, or is a separator, a line end or part of a comment.
+abbrev pub NothingLost : Type 0
+NothingLost = (s : List ℕ) → Laid 0 s (rowsOf s)
+
+-- rows one behind the other, from the byte `at` to the byte `end`, each of a byte at least
+abbrev pub InOrder : ℕ → List Row → ℕ → Type 0
+InOrder at [] end = at ≤ end
+InOrder at (r ∷ rs) end = (at ≤ r .first) × (1 ≤ r .size) × InOrder (r .first + r .size) rs end
+
+-- The elements stand in order and do not overlap.
+abbrev pub StandInOrder : Type 0
+StandInOrder = (s : List ℕ) → InOrder 0 (rowsOf s) (length s)
+
+-- the same rows n bytes further on
+abbrev pub moved : ℕ → List Row → List Row
+moved n [] = []
+moved n (r ∷ rs) = record { kind = r .kind; first = n + r .first; size = r .size } ∷ moved n rs
+
+-- The elements of a text are those of its lines one after the other: a line end may stand anywhere, and what stands before it and behind
+-- it are two texts of their own.
+abbrev pub LinesApart : Type 0
+LinesApart = (s t : List ℕ) (b : ℕ) → endsLine b ≡ true → rowsOf (s ++ b ∷ t) ≡ rowsOf s ++ moved (suc (length s)) (rowsOf t)
+
+-- Each line's elements depend on that line alone: where it begins only moves them.
+abbrev pub LineAlone : Type 0
+LineAlone = (l : List ℕ) → Inside l → (linesOf l ≡ l ∷ []) × ((at : ℕ) → lineRows 0 at false l ≡ moved at (rowsOf l))
