@@ -27,8 +27,20 @@ fn number_at(head: &[u8], at: usize) -> usize {
     wide(head[at]) * 65536 + wide(head[at + 1]) * 256 + wide(head[at + 2])
 }
 
+// What a case asks for: the mode `e` lists elements, `s` the tree.
+fn show(head: &[u8], text: &[u8], table: &mut [u64], trees: &mut [u64]) {
+    if head.len() < 10 {
+        return;
+    }
+    if head[0] == 101 {
+        console::elements(text, table, number_at(head, 1));
+        return;
+    }
+    console::tree(text, table, number_at(head, 1), trees, number_at(head, 4));
+}
+
 // One case: false where there is none.
-fn one(head: &mut [u8], text: &mut [u8], table: &mut [u64]) -> bool {
+fn one(head: &mut [u8], text: &mut [u8], table: &mut [u64], trees: &mut [u64]) -> bool {
     let Got::Bytes(n) = console::read_text(STDIN_FILENO, head) else {
         return false;
     };
@@ -39,16 +51,16 @@ fn one(head: &mut [u8], text: &mut [u8], table: &mut [u64]) -> bool {
     let Got::Bytes(k) = console::read_text(STDIN_FILENO, &mut text[..size]) else {
         return false;
     };
-    console::elements(console::front(text, k), table, number_at(head, 1));
+    show(head, console::front(text, k), table, trees);
     console::words(b".\n");
     true
 }
 
 // At most so many cases.
-fn cases(head: &mut [u8], text: &mut [u8], table: &mut [u64]) {
+fn cases(head: &mut [u8], text: &mut [u8], table: &mut [u64], trees: &mut [u64]) {
     let mut left: u64 = 1000000000;
     while 0 < left {
-        if !one(head, text, table) {
+        if !one(head, text, table, trees) {
             return;
         }
         left -= 1;
@@ -59,5 +71,6 @@ fn main() {
     let mut head = [0u8; 10];
     let mut text = [0u8; 131072];
     let mut table = [0u64; 24576];
-    cases(&mut head, &mut text, &mut table);
+    let mut trees = [0u64; 40960];
+    cases(&mut head, &mut text, &mut table, &mut trees);
 }

@@ -1,7 +1,9 @@
 // What the programs read and write. What is written here is tested, not proved: no contract can speak of a file.
+use files::Strict;
 use libc::STDERR_FILENO;
 use libc::STDOUT_FILENO;
 use reading::Reading;
+use verdict::Verdict;
 ghost use mathlib.Core.Path.{_≡_};
 ghost use Prim.Native.Nat.{_≤_};
 ghost use lib.ListN.{take};
@@ -107,19 +109,15 @@ fn element_lines(t: &[u64], count: usize) {
     }
 }
 
-// The words that so many rows of a table take, of those that it has.
-fn words_of(rows: usize, room: usize) -> usize
-    ensures { λ r. ⌜ r ≤ room ⌝ }
+fn least(a: usize, b: usize) -> usize
+    ensures { λ r. ⌜ r ≤ b ⌝ }
 {
-    if rows < room / 3 {
-        return rows * 3;
-    }
-    room
+    if a <= b { a } else { b }
 }
 
 // The listing of a text's elements, or the refusal, with so many rows of a table lent.
 pub fn elements(text: &[u8], table: &mut [u64], rows: usize) {
-    let size = words_of(rows, table.len());
+    let size = least(least(rows, 8192) * 3, table.len());
     match reading::read_elements(text, &mut table[..size]) {
         Reading::Read(e) => {
             let count = e.0;
@@ -130,6 +128,63 @@ pub fn elements(text: &[u8], table: &mut [u64], rows: usize) {
         },
         Reading::Refused(r) => {
             refused(reading::refusal_number(r), reading::refusal_place(r));
+        },
+    }
+}
+
+// A row of a tree: its number and its five numbers.
+fn row_line(i: usize, t: &[u64], at: usize) {
+    number(i as u64);
+    let mut j = 0;
+    while j < 5 {
+        if t.len() <= j {
+            return;
+        }
+        if t.len() - j <= at {
+            return;
+        }
+        words(b" ");
+        number(t[at + j]);
+        j += 1;
+    }
+    words(b"\n");
+}
+
+fn row_lines(t: &[u64], count: usize) {
+    let mut i = 0;
+    while i < count {
+        if t.len() / 5 <= i {
+            return;
+        }
+        row_line(i, t, i * 5);
+        i += 1;
+    }
+}
+
+fn tree_head(count: usize, v: Verdict) {
+    words(b"rows ");
+    number(count as u64);
+    match v {
+        Verdict::Passes => words(b" passes yes\n"),
+        Verdict::NotSupported(row) => {
+            words(b" passes no at ");
+            number(row as u64);
+            words(b"\n");
+        },
+    }
+}
+
+// The listing of a text's tree, or the refusal, with so many rows of each table lent.
+pub fn tree(text: &[u8], table: &mut [u64], rows: usize, trees: &mut [u64], tree_rows: usize) {
+    let size = least(least(rows, 8192) * 3, table.len());
+    let room = least(least(tree_rows, 8192) * 5, trees.len());
+    match files::read_strict(text, &mut table[..size], &mut trees[..room]) {
+        Strict::Read(count, v) => {
+            tree_head(count, v);
+            row_lines(trees, count);
+        },
+        Strict::Refused(r) => {
+            refused(files::strict_number(r), files::strict_place(r));
         },
     }
 }

@@ -4,16 +4,19 @@ use mathlib.Core.Path.{_≡_, refl, sym, ap, _∙_}
 use mathlib.Core.List.{List, _++_}
 use Prim.Native.Nat.{ℕ, _-_, _*_, _/_, _≤_, _<_}
 use native.Mathlib.Omega.{arith}
-use borrow.Author.Tests.{lt-ltb, le-ltb}
-use lib.ListN.{length, replicate, length-replicate}
+use borrow.Author.Tests.{lt-ltb, le-ltb, ltb-false}
+use lib.Dec.{ltb}
+use Rattle.classes.proofs.Laws.{by-test}
+use lib.ListN.{length, replicate, length-append, length-replicate}
 use Rattle.reading.specs.Rows.{rowsOf}
 use Rattle.reading.specs.Table.{cells, puts}
 use Rattle.reading.specs.declared.ElementNumber.{ElementNumber}
 use Rattle.reading.specs.declared.Refusal.{Refusal}
 use Rattle.reading.specs.declared.Refusal.the-variants.{TextTooLong, TooManyElements, TableShort}
+use Rattle.reading.specs.declared.Reading.{Reading}
 use Rattle.reading.specs.declared.Reading.the-variants.{Read, Refused}
-use Rattle.reading.specs.Reading.{readingOf, tableOf}
-use Rattle.reading.proofs.TableLaws.{length-puts, puts-zeros}
+use Rattle.reading.specs.Reading.{readingOf, tableBy, tableOf}
+use Rattle.reading.proofs.TableLaws.{length-puts, length-cells, puts-zeros}
 
 module _ (s : List ℕ) (w : ℕ) where
   too-long : 65536 < length s → readingOf s w ≡ Refused (TextTooLong (record { 0 = 65536 }))
@@ -60,3 +63,41 @@ module _ (s t u₀ : List ℕ) (z : u₀ ≡ replicate (length t) 0) where
     answer-read m h =
         let e = all-read s (length t) g (rw c at m) (omega (arith, same, c, h)) in
         (ap (λ (k : ℕ). Read (record { 0 = k })) c ∙ sym e, p ∙ ap (λ (x : List ℕ). puts x 0 (rowsOf s)) z ∙ puts-zeros (rowsOf s) (length t) (omega (arith, same, c, h)) ∙ sym (table-read s (length t) e))
+
+-- how long the table is then, and that it has room for what was read
+abbrev Room : ℕ → Reading → Type 0
+Room w (Read n) = 3 * n .0 ≤ w
+Room w (Refused r) = Unit {0}
+
+reading-room : (s : List ℕ) (w : ℕ) → Room w (readingOf s w)
+unfolding readingOf
+reading-room s w =
+    by-test (Room w) (ltb 65536 (length s)) (λ _. tt)
+    (λ _. by-test (Room w) (ltb 8192 (length (rowsOf s))) (λ _. tt)
+    (λ _. by-test (Room w) (ltb (w / 3) (length (rowsOf s))) (λ _. tt) (λ e. omega (arith, ltb-false (w / 3) (length (rowsOf s)) e))))
+
+-- the rows of what was read fit
+abbrev Fitting : List ℕ → ℕ → Reading → Type 0
+Fitting s w (Read n) = 3 * length (rowsOf s) ≤ w
+Fitting s w (Refused r) = Unit {0}
+
+read-fits : (s : List ℕ) (w : ℕ) → Fitting s w (readingOf s w)
+unfolding readingOf
+read-fits s w =
+    by-test (Fitting s w) (ltb 65536 (length s)) (λ _. tt)
+    (λ _. by-test (Fitting s w) (ltb 8192 (length (rowsOf s))) (λ _. tt)
+    (λ _. by-test (Fitting s w) (ltb (w / 3) (length (rowsOf s))) (λ _. tt) (λ e. omega (arith, ltb-false (w / 3) (length (rowsOf s)) e))))
+
+table-by-length : (r : Reading) (s : List ℕ) (w : ℕ) → readingOf s w ≡ r → length (tableBy r s w) ≡ w
+table-by-length (Refused r) s w e = length-replicate w 0
+table-by-length (Read n) s w e = rw (length-append (cells (rowsOf s)) (replicate (w - 3 * length (rowsOf s)) 0), length-cells, length-replicate) (omega (arith, fits s w n e))
+  where
+    fits : (s : List ℕ) (w : ℕ) (n : ElementNumber) → readingOf s w ≡ Read n → 3 * length (rowsOf s) ≤ w
+    fits s w n e = rw e at (read-fits s w)
+
+pub table-length : (s : List ℕ) (w : ℕ) → length (tableOf s w) ≡ w
+unfolding tableOf
+table-length s w = table-by-length (readingOf s w) s w refl
+
+pub read-room : (s : List ℕ) (w : ℕ) (r : Reading) (n : ElementNumber) (t : List ℕ) → r ≡ readingOf s w → t ≡ tableOf s w → r ≡ Read n → 3 * n .0 ≤ length t
+read-room s w r n t e q m = omega (arith, rw (sym e ∙ m) at (reading-room s w), ap length q ∙ table-length s w)

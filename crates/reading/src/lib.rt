@@ -3,7 +3,7 @@ use elements::Found;
 ghost use mathlib.Core.Path.{_≡_};
 ghost use mathlib.Core.Bool.{false};
 ghost use Prim.Native.Nat.{_+_, _≤_};
-ghost use lib.ListN.{length, replicate};
+ghost use lib.ListN.{length};
 ghost use Rattle.classes.specs.Runs.{count};
 ghost use Rattle.reading.specs.Rows.{lineRows, rowsOf};
 ghost use Rattle.reading.specs.Lines.{inLine};
@@ -57,16 +57,6 @@ pub fn place_of(t: &[u64], e: ElementNumber) -> BytePlace
         return BytePlace(t[w] as usize);
     }
     BytePlace(0)
-}
-
-fn zero_all(t: &mut [u64])
-    ensures { λ _. ⌜ now (t .exit) ≡ replicate (length (now (t .entry))) 0 ⌝ }
-{
-    let mut i = 0;
-    while i < t.len() {
-        t[i] = 0;
-        i += 1;
-    }
 }
 
 // Puts a row at its number, where the table has room for it.
@@ -147,18 +137,18 @@ pub fn read_elements(s: &[u8], t: &mut [u64]) -> Reading
     ensures { λ r. ⌜ r ≡ readingOf (now (s .entry)) (length (now (t .entry))) ⌝ }
     ensures { λ r. ⌜ now (t .exit) ≡ tableOf (now (s .entry)) (length (now (t .entry))) ⌝ }
 {
-    zero_all(t);
+    lent::clear(t);
     if 65536 < s.len() {
         return Reading::Refused(Refusal::TextTooLong(BytePlace(65536)));
     }
     let n = read_lines(s, t);
     if 8192 < n {
-        zero_all(t);
+        lent::clear(t);
         return Reading::Refused(Refusal::TooManyElements(ElementNumber(8192)));
     }
     let rows = t.len() / 3;
     if rows < n {
-        zero_all(t);
+        lent::clear(t);
         return Reading::Refused(Refusal::TableShort(ElementNumber(rows)));
     }
     Reading::Read(ElementNumber(n))

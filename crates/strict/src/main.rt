@@ -1,4 +1,4 @@
-// The strict reading of a text from standard input or a file. Until the tree is there, it lists the elements.
+// The strict reading of a text from standard input or a file: its tree with the verdict, or its elements.
 use arguments::Value;
 use console::Got;
 use libc::STDIN_FILENO;
@@ -136,7 +136,8 @@ fn run(text: &[u8], o: Options) {
         console::elements(text, &mut table, o.element_rows);
         return;
     }
-    console::complain(b"strict", b"the tree is not read yet; ask for --elements");
+    let mut trees = [0u64; 40960];
+    console::tree(text, &mut table, o.element_rows, &mut trees, o.tree_rows);
 }
 
 fn read_and_run(fd: i32, name: &[u8], o: Options) {

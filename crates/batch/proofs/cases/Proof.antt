@@ -9,10 +9,10 @@ use Rattle.batch.proofs.cases.Lts as lts
 use Rattle.batch.proofs.one.Reads as one-reads
 
 abbrev Inv-loop : tie.InvT-loop
-Inv-loop head₀ text₀ table₀ left₀ head text table left = (length head ≡ length head₀) × (length text ≡ length text₀) × (length table ≡ length table₀)
+Inv-loop head₀ text₀ table₀ trees₀ left₀ head text table trees left = (length head ≡ length head₀) × (length text ≡ length text₀) × (length table ≡ length table₀) × (length trees ≡ length trees₀)
 
 abbrev μ-loop : tie.MeasureT-loop
-μ-loop head₀ text₀ table₀ left₀ head text table left = left
+μ-loop head₀ text₀ table₀ trees₀ left₀ head text table trees left = left
 
 loop-holds : tie.Need-loop-holds Inv-loop μ-loop
 loop-holds c = search needs
@@ -29,6 +29,9 @@ same-length-2 c = search needs
 same-length-3 : tie.Need-same-length-3 Inv-loop μ-loop
 same-length-3 c = search needs
 
+same-length-4 : tie.Need-same-length-4 Inv-loop μ-loop
+same-length-4 c = search needs
+
 returns : tie.Need-returns Inv-loop μ-loop
 returns c = search needs
 
@@ -41,14 +44,17 @@ loop-less c = search needs
 loop-again : tie.Need-loop-again Inv-loop μ-loop
 loop-again c = search needs
 
-same-length-4 : tie.Need-same-length-4 Inv-loop μ-loop
-same-length-4 c = search needs
-
 same-length-5 : tie.Need-same-length-5 Inv-loop μ-loop
 same-length-5 c = search needs
 
 same-length-6 : tie.Need-same-length-6 Inv-loop μ-loop
 same-length-6 c = search needs
+
+same-length-7 : tie.Need-same-length-7 Inv-loop μ-loop
+same-length-7 c = search needs
+
+same-length-8 : tie.Need-same-length-8 Inv-loop μ-loop
+same-length-8 c = search needs
 
 returns-2 : tie.Need-returns-2 Inv-loop μ-loop
 returns-2 c = search needs
@@ -64,11 +70,13 @@ cases-spec =
     same-length
     same-length-2
     same-length-3
+    same-length-4
     returns
     sub-left
     loop-less
     loop-again
-    same-length-4
     same-length-5
     same-length-6
+    same-length-7
+    same-length-8
     returns-2)

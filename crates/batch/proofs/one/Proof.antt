@@ -9,7 +9,7 @@ use Rattle.batch.proofs.one.Reads as reads
 use Rattle.batch.proofs.one.Lts as lts
 use Rattle.batch.proofs.least.Reads as least-reads
 use Rattle.batch.proofs.number_at.Reads as number-at-reads
-use Rattle.console.proofs.elements.Reads as elements-reads
+use Rattle.batch.proofs.show.Reads as show-reads
 use Rattle.console.proofs.front.Reads as front-reads
 use Rattle.console.proofs.read_text.Reads as read-text-reads
 use Rattle.console.proofs.words.Reads as words-reads
@@ -68,11 +68,8 @@ returns-3 c = search needs
 front-requires : tie.Need-front-requires
 front-requires c κs = search needs
 
-number-at-requires-2 : tie.Need-number-at-requires-2
-number-at-requires-2 c κs = search needs
-
-elements-requires : tie.Need-elements-requires
-elements-requires c κs = search needs
+show-requires : tie.Need-show-requires
+show-requires c κs = search needs
 
 slice-aggregate-words : tie.Need-slice-aggregate-words
 slice-aggregate-words c = search needs
@@ -88,6 +85,9 @@ same-length-6 c = search needs
 
 same-length-7 : tie.Need-same-length-7
 same-length-7 c = search needs
+
+same-length-8 : tie.Need-same-length-8
+same-length-8 c = search needs
 
 returns-4 : tie.Need-returns-4
 returns-4 c = search needs
@@ -114,11 +114,11 @@ one-spec =
     same-length-4
     returns-3
     front-requires
-    number-at-requires-2
-    elements-requires
+    show-requires
     slice-aggregate-words
     words-requires
     same-length-5
     same-length-6
     same-length-7
+    same-length-8
     returns-4)

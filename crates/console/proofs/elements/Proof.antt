@@ -8,22 +8,28 @@ use Rattle.console.proofs.elements.Tie as tie
 use Rattle.console.proofs.elements.Reads as reads
 use Rattle.console.proofs.elements.Lts as lts
 use Rattle.console.proofs.element_lines.Reads as element-lines-reads
+use Rattle.console.proofs.least.Reads as least-reads
 use Rattle.console.proofs.number.Reads as number-reads
 use Rattle.console.proofs.refused.Reads as refused-reads
 use Rattle.console.proofs.words.Reads as words-reads
-use Rattle.console.proofs.words_of.Reads as words-of-reads
 use Rattle.reading.proofs.read_elements.Reads as read-elements-reads
 use Rattle.reading.proofs.refusal_number.Reads as refusal-number-reads
 use Rattle.reading.proofs.refusal_place.Reads as refusal-place-reads
 
-words-of-requires : tie.Need-words-of-requires
-words-of-requires c κs = search needs
+least-requires : tie.Need-least-requires
+least-requires c κs = search needs
+
+mul-least : tie.Need-mul-least
+mul-least c = search needs
+
+least-requires-2 : tie.Need-least-requires-2
+least-requires-2 c κs = search needs
 
 slice-relend-prefix-read-elements : tie.Need-slice-relend-prefix-read-elements
 slice-relend-prefix-read-elements c = search needs
 
 slice-aggregate-read-elements : tie.Need-slice-aggregate-read-elements
-slice-aggregate-read-elements c = sym (length-take-le (c .before .words-of .result) (c .before .before .before .before .args .table .now) (omega arith))
+slice-aggregate-read-elements c = sym (length-take-le (c .before .least2 .result) (c .before .before .before .before .before .args .table .now) (omega arith))
 
 read-elements-requires : tie.Need-read-elements-requires
 read-elements-requires c κs = search needs
@@ -77,7 +83,9 @@ pub elements-spec : {M : Type 1} → statement M
 elements-spec =
     tie.close
     (tie.spec
-    words-of-requires
+    least-requires
+    mul-least
+    least-requires-2
     slice-relend-prefix-read-elements
     slice-aggregate-read-elements
     read-elements-requires

@@ -6,10 +6,10 @@ use Rattle.reading.proofs.read_elements.Tie as tie
 use Rattle.reading.proofs.read_elements.Reads as reads
 use Rattle.reading.proofs.read_elements.Lts as lts
 use Rattle.reading.proofs.read_lines.Reads as read-lines-reads
-use Rattle.reading.proofs.zero_all.Reads as zero-all-reads
+use Rattle.lent.proofs.clear.Reads as clear-reads
 
-zero-all-requires : tie.Need-zero-all-requires
-zero-all-requires c κs = search needs
+clear-requires : tie.Need-clear-requires
+clear-requires c κs = search needs
 
 same-length : tie.Need-same-length
 same-length c = search needs
@@ -17,13 +17,13 @@ same-length c = search needs
 returns : tie.Need-returns
 returns c = let z = c .before .before .before in
     let a = z .before .before .before .before .args in
-    refuse-long (a .s .now) (a .t .now) _ (z .zero-all .ensures) (c .if1 .taken)
+    refuse-long (a .s .now) (a .t .now) _ (z .clear .ensures) (c .if1 .taken)
 
 read-lines-requires : tie.Need-read-lines-requires
 read-lines-requires c κs = search needs
 
-zero-all-requires-2 : tie.Need-zero-all-requires-2
-zero-all-requires-2 c κs = search needs
+clear-requires-2 : tie.Need-clear-requires-2
+clear-requires-2 c κs = search needs
 
 same-length-2 : tie.Need-same-length-2
 same-length-2 c = search needs
@@ -34,10 +34,10 @@ returns-2 c = let i = c .before .before .before .before in
     let e = r .before .before in
     let z = e .before .before .before in
     let a = z .before .before .before .before .args in
-    refuse-many (a .s .now) (a .t .now) _ (z .zero-all .ensures) _ _ (e .if1 .left) (r .read-lines .ensures .0) (r .read-lines .ensures .1) _ (i .if2 .taken) (c .before .before .zero-all2 .ensures)
+    refuse-many (a .s .now) (a .t .now) _ (z .clear .ensures) _ _ (e .if1 .left) (r .read-lines .ensures .0) (r .read-lines .ensures .1) _ (i .if2 .taken) (c .before .before .clear2 .ensures)
 
-zero-all-requires-3 : tie.Need-zero-all-requires-3
-zero-all-requires-3 c κs = search needs
+clear-requires-3 : tie.Need-clear-requires-3
+clear-requires-3 c κs = search needs
 
 same-length-3 : tie.Need-same-length-3
 same-length-3 c = search needs
@@ -48,7 +48,7 @@ returns-3 c = let i = c .before .before .before .before in
     let e = r .before .before in
     let z = e .before .before .before in
     let a = z .before .before .before .before .args in
-    refuse-short (a .s .now) (a .t .now) _ (z .zero-all .ensures) _ _ (e .if1 .left) (r .read-lines .ensures .0) (r .read-lines .ensures .1) _ (i .before .if2 .left) (i .if3 .taken) (c .before .before .zero-all3 .ensures)
+    refuse-short (a .s .now) (a .t .now) _ (z .clear .ensures) _ _ (e .if1 .left) (r .read-lines .ensures .0) (r .read-lines .ensures .1) _ (i .before .if2 .left) (i .if3 .taken) (c .before .before .clear3 .ensures)
 
 same-length-4 : tie.Need-same-length-4
 same-length-4 c = search needs
@@ -58,20 +58,20 @@ returns-4 c = let r = c .before .before .before .before in
     let e = r .before .before in
     let z = e .before .before .before in
     let a = z .before .before .before .before .args in
-    answer-read (a .s .now) (a .t .now) _ (z .zero-all .ensures) _ _ (e .if1 .left) (r .read-lines .ensures .0) (r .read-lines .ensures .1) (c .before .if2 .left) (c .if3 .left)
+    answer-read (a .s .now) (a .t .now) _ (z .clear .ensures) _ _ (e .if1 .left) (r .read-lines .ensures .0) (r .read-lines .ensures .1) (c .before .if2 .left) (c .if3 .left)
 
 pub read-elements-spec : {M : Type 1} → statement M
 read-elements-spec =
     tie.close
     (tie.spec
-    zero-all-requires
+    clear-requires
     same-length
     returns
     read-lines-requires
-    zero-all-requires-2
+    clear-requires-2
     same-length-2
     returns-2
-    zero-all-requires-3
+    clear-requires-3
     same-length-3
     returns-3
     same-length-4

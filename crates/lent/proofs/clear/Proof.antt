@@ -8,10 +8,10 @@ use native.Mathlib.Omega.{arith}
 use Prim.Native.Nat.{_-_, _≤_}
 use mathlib.Core.List.{List, _++_, append-nil}
 use mathlib.Core.Path.{_≡_, refl, ap, _∙_}
-use Rattle.reading.proofs.zero_all.Statement.{statement}
-use Rattle.reading.proofs.zero_all.Tie as tie
-use Rattle.reading.proofs.zero_all.Reads as reads
-use Rattle.reading.proofs.zero_all.Lts as lts
+use Rattle.lent.proofs.clear.Statement.{statement}
+use Rattle.lent.proofs.clear.Tie as tie
+use Rattle.lent.proofs.clear.Reads as reads
+use Rattle.lent.proofs.clear.Lts as lts
 
 abbrev Inv-loop : tie.InvT-loop
 Inv-loop t₀ i₀ t i = (i ≤ length t₀) × (length t ≡ length t₀) × (t ≡ replicate i 0 ++ drop i t₀)
@@ -48,8 +48,8 @@ returns c = let l = c .before .loop in
     let e : l .i ≡ length t₀ = omega arith in
     l .inv .2 ∙ rw (e, drop-length, append-nil)
 
-pub zero-all-spec : {M : Type 1} → statement M
-zero-all-spec =
+pub clear-spec : {M : Type 1} → statement M
+clear-spec =
     tie.close
     (tie.spec
     Inv-loop

@@ -1,0 +1,68 @@
+-- `alike::agrees` meets its contract. What is left to compare, with what was passed, is the whole comparison; the measure is what is left. Assumes nothing.
+use Prim.Native.Nat.{_≤_, _-_}
+use native.Mathlib.Omega.{arith}
+use Rattle.alike.proofs.Laws.{Same, agree-start, agree-more, agree-not, agree-end}
+use borrow.Author.Needs.{needs}
+use Rattle.alike.proofs.agrees.Statement.{statement}
+use Rattle.alike.proofs.agrees.Tie as tie
+
+abbrev Inv-loop : tie.InvT-loop
+Inv-loop s x y n basic i₀ i = (i ≤ n) × Same basic s x y n i
+
+abbrev μ-loop : tie.MeasureT-loop
+μ-loop s x y n basic i₀ i = n - i
+
+loop-holds : tie.Need-loop-holds Inv-loop μ-loop
+loop-holds c = (omega arith, agree-start (c .before .args .basic) (c .before .args .s .now) (c .before .args .x) (c .before .args .y) (c .before .args .n))
+
+add-counted : tie.Need-add-counted Inv-loop μ-loop
+add-counted c = omega arith
+
+shared-slice-read-counted : tie.Need-shared-slice-read-counted Inv-loop μ-loop
+shared-slice-read-counted c = omega arith
+
+counted-requires : tie.Need-counted-requires Inv-loop μ-loop
+counted-requires c κs = search needs
+
+add-counted-2 : tie.Need-add-counted-2 Inv-loop μ-loop
+add-counted-2 c = omega arith
+
+shared-slice-read-counted-2 : tie.Need-shared-slice-read-counted-2 Inv-loop μ-loop
+shared-slice-read-counted-2 c = omega arith
+
+counted-requires-2 : tie.Need-counted-requires-2 Inv-loop μ-loop
+counted-requires-2 c κs = search needs
+
+returns : tie.Need-returns Inv-loop μ-loop
+returns c = agree-not (c .before .before .before .before .before .before .before .before .args .basic) (c .before .before .before .before .before .before .before .before .args .s .now) (c .before .before .before .before .before .before .before .before .args .x) (c .before .before .before .before .before .before .before .before .args .y) (c .before .before .before .before .before .before .before .before .args .n) (c .before .before .before .before .before .before .loop .i) _ _ (c .before .before .before .before .before .before .loop .inv .1) (c .before .before .before .before .before .loop-test .taken) (c .before .before .before .counted .ensures) (c .before .counted2 .ensures) (c .if1 .taken)
+
+add-i : tie.Need-add-i Inv-loop μ-loop
+add-i c = omega arith
+
+loop-less : tie.Need-loop-less Inv-loop μ-loop
+loop-less c = omega arith
+
+loop-again : tie.Need-loop-again Inv-loop μ-loop
+loop-again c = (omega arith, agree-more (c .before .before .before .before .before .before .before .before .args .basic) (c .before .before .before .before .before .before .before .before .args .s .now) (c .before .before .before .before .before .before .before .before .args .x) (c .before .before .before .before .before .before .before .before .args .y) (c .before .before .before .before .before .before .before .before .args .n) (c .before .before .before .before .before .before .loop .i) _ _ (c .before .before .before .before .before .before .loop .inv .1) (c .before .before .before .before .before .loop-test .taken) (c .before .before .before .counted .ensures) (c .before .counted2 .ensures) (c .if1 .left))
+
+returns-2 : tie.Need-returns-2 Inv-loop μ-loop
+returns-2 c = agree-end (c .before .before .before .args .basic) (c .before .before .before .args .s .now) (c .before .before .before .args .x) (c .before .before .before .args .y) (c .before .before .before .args .n) (c .before .loop .i) (c .before .loop .inv .1) (omega arith)
+
+pub agrees-spec : {M : Type 1} → statement M
+agrees-spec =
+    tie.close
+    (tie.spec
+    Inv-loop
+    μ-loop
+    loop-holds
+    add-counted
+    shared-slice-read-counted
+    counted-requires
+    add-counted-2
+    shared-slice-read-counted-2
+    counted-requires-2
+    returns
+    add-i
+    loop-less
+    loop-again
+    returns-2)

@@ -1,0 +1,45 @@
+-- When two elements are the same name (01, "Elements": identifiers ignore case; extended ones keep it and equal no basic identifier).
+-- Elements are rows of the element table: kind, first byte, length in bytes. Assumes nothing: these are definitions.
+use Prim.Native.Nat.{ℕ, zero, suc, _+_, _*_, _/_}
+use mathlib.Core.Bool.{Bool, true, false, cond, _&&_}
+use mathlib.Core.List.{List}
+use lib.Dec.{ltb, leb, eqb}
+use lib.ListN.{length, getD}
+use Rattle.classes.specs.Bytes.{lower}
+
+-- a byte as it counts in a name, basic or not
+abbrev pub counts : Bool → ℕ → ℕ
+counts true b = lower b
+counts false b = b
+
+-- the n bytes of s from x and from y count the same
+unfoldable pub agree : Bool → List ℕ → ℕ → ℕ → ℕ → Bool
+agree basic s x y zero = true
+agree basic s x y (suc n) = eqb (counts basic (getD s x 0)) (counts basic (getD s y 0)) && agree basic s (suc x) (suc y) n
+
+-- word j of row i of a table of rows of three, 0 where there is no such row
+unfoldable pub cellAt : List ℕ → ℕ → ℕ → ℕ
+cellAt table i j = cond (ltb i (length table / 3)) (getD table (3 * i + j) 0) 0
+
+-- the n bytes from x stand in the text
+abbrev pub within : List ℕ → ℕ → ℕ → Bool
+within s x n = leb (x + n) (length s)
+
+-- two elements are spelled the same
+unfoldable pub spelledSame : Bool → List ℕ → List ℕ → ℕ → ℕ → Bool
+spelledSame basic s table a b =
+    cond (eqb (cellAt table a 2) (cellAt table b 2))
+    (cond (within s (cellAt table a 1) (cellAt table a 2) && within s (cellAt table b 1) (cellAt table a 2)) (agree basic s (cellAt table a 1) (cellAt table b 1) (cellAt table a 2)) false)
+    false
+
+-- 1 is the kind of identifiers, 2 that of extended ones
+abbrev pub byKind : ℕ → Bool → Bool → Bool
+byKind zero x y = false
+byKind (suc zero) x y = x
+byKind (suc (suc zero)) x y = y
+byKind (suc (suc (suc k))) x y = false
+
+-- elements a and b are names, and the same
+unfoldable pub sameName : List ℕ → List ℕ → ℕ → ℕ → Bool
+sameName s table a b =
+    cond (eqb (cellAt table a 0) (cellAt table b 0)) (byKind (cellAt table a 0) (spelledSame true s table a b) (spelledSame false s table a b)) false

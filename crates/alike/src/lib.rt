@@ -1,0 +1,88 @@
+// Names compared: case aside, unless extended.
+ghost use mathlib.Core.Path.{_≡_};
+ghost use mathlib.Core.Bool.{_&&_};
+ghost use Prim.Native.Nat.{ℕ, _+_, _-_, _≤_, _<_};
+ghost use lib.ListN.{length, getD};
+ghost use Rattle.alike.specs.Alike.{counts, agree, cellAt, within, spelledSame, sameName};
+
+fn counted(basic: bool, b: u8) -> u8
+    ensures { λ r. ⌜ r ≡ counts basic b ⌝ }
+{
+    if basic {
+        return classes::lower_case(b);
+    }
+    b
+}
+
+// The n bytes from x and from y count the same.
+fn agrees(s: &[u8], x: usize, y: usize, n: usize, basic: bool) -> bool
+    requires { ⌜ (x + n ≤ length (now s)) × (y + n ≤ length (now s)) ⌝ }
+    ensures { λ r. ⌜ r ≡ agree basic (now (s .entry)) x y n ⌝ }
+{
+    let mut i = 0;
+    while i < n {
+        let p = counted(basic, s[x + i]);
+        let q = counted(basic, s[y + i]);
+        if p != q {
+            return false;
+        }
+        i += 1;
+    }
+    true
+}
+
+// Word j of row i, 0 where there is no such row.
+fn cell(table: &[u64], i: usize, j: usize) -> u64
+    requires { ⌜ j < 3 ⌝ }
+    ensures { λ r. ⌜ r ≡ cellAt (now (table .entry)) i j ⌝ }
+{
+    if i < table.len() / 3 {
+        return table[3 * i + j];
+    }
+    0
+}
+
+// The n bytes from x stand in the text.
+fn stands(s: &[u8], x: u64, n: u64) -> bool
+    ensures { λ r. ⌜ r ≡ within (now (s .entry)) x n ⌝ }
+{
+    let size = s.len() as u64;
+    if size < x {
+        return false;
+    }
+    n <= size - x
+}
+
+fn spelled_same(s: &[u8], table: &[u64], a: usize, b: usize, basic: bool) -> bool
+    ensures { λ r. ⌜ r ≡ spelledSame basic (now (s .entry)) (now (table .entry)) a b ⌝ }
+{
+    let n = cell(table, a, 2);
+    let m = cell(table, b, 2);
+    if n != m {
+        return false;
+    }
+    let x = cell(table, a, 1);
+    let y = cell(table, b, 1);
+    let p = stands(s, x, n);
+    let q = stands(s, y, n);
+    if p & q {
+        return agrees(s, x as usize, y as usize, n as usize, basic);
+    }
+    false
+}
+
+// Elements a and b are names, and the same. No element, or bytes outside the text: no.
+pub fn same_name(s: &[u8], table: &[u64], a: usize, b: usize) -> bool
+    ensures { λ r. ⌜ r ≡ sameName (now (s .entry)) (now (table .entry)) a b ⌝ }
+{
+    let p = cell(table, a, 0);
+    let q = cell(table, b, 0);
+    if p != q {
+        return false;
+    }
+    match p {
+        1 => spelled_same(s, table, a, b, true),
+        2 => spelled_same(s, table, a, b, false),
+        _ => false,
+    }
+}

@@ -1,0 +1,125 @@
+-- The ways of the strict reading, in the code's terms: each premise is what a call or a match gives. Assumes nothing.
+use mathlib.Core.Path.{_≡_, refl, sym, ap, _∙_}
+use mathlib.Core.Bool.{Bool, true, false}
+use mathlib.Core.List.{List}
+use Prim.Native.Nat.{ℕ, zero, suc, _+_, _-_, _*_, _≤_, _<_}
+use native.Mathlib.Nat.{add-zero}
+use native.Mathlib.Numerals.{add-one}
+use native.Mathlib.Omega.{arith}
+use borrow.Author.Tests.{eq-eqb, ne-eqb}
+use lib.ListN.{length, getD, drop, replicate, length-replicate}
+use lib.Seq.{getD-drop, drop-drop}
+use Rattle.reading.specs.Reading.{readingOf}
+use Rattle.reading.proofs.Answers.{table-refused}
+use Rattle.reading.specs.Reading as elements
+use Rattle.reading.specs.declared.Reading.{Reading}
+use Rattle.reading.specs.declared.Reading.the-variants as R
+use Rattle.reading.specs.declared.Refusal.{Refusal}
+use Rattle.reading.specs.declared.ElementNumber.{ElementNumber}
+use Rattle.tree.specs.Answers.{elementsIn, readingIn, answerOf}
+use Rattle.tree.specs.Answers as trees
+use Rattle.tree.specs.declared.Answer.{Answer}
+use Rattle.tree.specs.declared.Answer.the-variants as A
+use Rattle.verdict.specs.Verdict.{verdictOf}
+use Rattle.verdict.specs.declared.Verdict.{Verdict}
+use Rattle.files.specs.declared.Unread.{Unread}
+use Rattle.files.specs.declared.Unread.the-variants as U
+use Rattle.files.specs.declared.StrictRefusal.{StrictRefusal}
+use Rattle.files.specs.declared.StrictRefusal.the-variants as S
+use Rattle.files.specs.declared.Strict.{Strict}
+use Rattle.files.specs.declared.Strict.the-variants.{Read, Refused}
+use Rattle.files.specs.Strict.{unreadableFrom, byAnswer, treeTable, fileOf, byUnread, elementsAs, byReading, strictOf, kept, elementsAfter, treeByUnread, treeAs, treeByReading, treeAfter}
+
+-- the search for an unreadable element: the kind of element i stands at word 3 * i
+module _ (t : List ℕ) (count i : ℕ) (whole : Unread) where
+  next : i < count → unreadableFrom i (count - i) (drop (3 * i) t) ≡ unreadableFrom i (suc (count - (i + 1))) (drop (3 * i) t)
+  next h = let z : count - i ≡ suc (count - (i + 1)) = omega arith in rw z
+
+  pub unread-hit : unreadableFrom i (count - i) (drop (3 * i) t) ≡ whole → i < count → getD t (3 * i) 0 ≡ 7 → U.At i ≡ whole
+  unfolding unreadableFrom
+  unread-hit v h e = rw (getD-drop (3 * i) t 0 0, add-zero, eq-eqb _ 7 e, unreadableFrom) at (sym (next h) ∙ v)
+
+  pub unread-past : unreadableFrom i (count - i) (drop (3 * i) t) ≡ whole → i < count → (getD t (3 * i) 0 ≡ 7 → ⊥) → unreadableFrom (i + 1) (count - (i + 1)) (drop (3 * (i + 1)) t) ≡ whole
+  unfolding unreadableFrom
+  unread-past v h e =
+      let z : 3 * i + 3 ≡ 3 * (i + 1) = omega arith in
+      rw (← z) (rw (getD-drop (3 * i) t 0 0, add-zero, ne-eqb _ 7 e, unreadableFrom, drop-drop, ← add-one i) at (sym (next h) ∙ v))
+
+  pub unread-end : unreadableFrom i (count - i) (drop (3 * i) t) ≡ whole → count ≤ i → U.Nothing ≡ whole
+  unfolding unreadableFrom
+  unread-end v h = let z : count - i ≡ 0 = omega arith in rw z at v
+
+-- a file, or refusal 5, 6, 7 or 8: a is what `read_tree` answers, u the tree table then, e the element table where it is cleared
+module _ (text t : List ℕ) (count w : ℕ) (a : Answer) (u : List ℕ)
+    (p : a ≡ answerOf w (readingIn text t (elementsIn t count)))
+    (q : u ≡ trees.tableOf w (readingIn text t (elementsIn t count))) where
+  tree-as : u ≡ treeTable text t count w
+  unfolding treeTable
+  tree-as = q
+
+  file-as : fileOf text t count w ≡ byAnswer a u
+  unfolding fileOf
+  file-as = rw (← p, ← tree-as)
+
+  pub file-read : (rows : ℕ) (v : Verdict) → a ≡ A.Tree rows → v ≡ verdictOf u rows → (Read rows v ≡ fileOf text t count w) × ((t ≡ kept (fileOf text t count w) t) × (u ≡ treeTable text t count w))
+  file-read rows v m g = let e = sym (file-as ∙ ap (λ (x : Answer). byAnswer x u) m ∙ ap (Read rows) (sym g)) in (e, (ap (λ (x : Strict). kept x t) e, tree-as))
+
+  refused : (r : StrictRefusal) (x : List ℕ) → byAnswer a u ≡ Refused r → x ≡ replicate (length t) 0 → (Refused r ≡ fileOf text t count w) × ((x ≡ kept (fileOf text t count w) t) × (u ≡ treeTable text t count w))
+  refused r x m z = let e = sym (file-as ∙ m) in (e, (z ∙ ap (λ (y : Strict). kept y t) e, tree-as))
+
+  pub file-none : (k : ℕ) (x : List ℕ) → a ≡ A.NoFile k → x ≡ replicate (length t) 0 → (Refused (S.NoFile (record { 0 = k })) ≡ fileOf text t count w) × ((x ≡ kept (fileOf text t count w) t) × (u ≡ treeTable text t count w))
+  file-none k x m z = refused (S.NoFile (record { 0 = k })) x (rw m) z
+
+  pub file-differs : (k : ℕ) (x : List ℕ) → a ≡ A.NameDiffers k → x ≡ replicate (length t) 0 → (Refused (S.NameDiffers (record { 0 = k })) ≡ fileOf text t count w) × ((x ≡ kept (fileOf text t count w) t) × (u ≡ treeTable text t count w))
+  file-differs k x m z = refused (S.NameDiffers (record { 0 = k })) x (rw m) z
+
+  pub file-deep : (k : ℕ) (x : List ℕ) → a ≡ A.TooDeep k → x ≡ replicate (length t) 0 → (Refused (S.TooDeep (record { 0 = k })) ≡ fileOf text t count w) × ((x ≡ kept (fileOf text t count w) t) × (u ≡ treeTable text t count w))
+  file-deep k x m z = refused (S.TooDeep (record { 0 = k })) x (rw m) z
+
+  pub file-short : (k : ℕ) (x : List ℕ) → a ≡ A.TableShort k → x ≡ replicate (length t) 0 → (Refused (S.TreeShort k) ≡ fileOf text t count w) × ((x ≡ kept (fileOf text t count w) t) × (u ≡ treeTable text t count w))
+  file-short k x m z = refused (S.TreeShort k) x (rw m) z
+
+-- refusal 2, or a file: f is what `first_unreadable` answers
+module _ (text t : List ℕ) (count w : ℕ) (f : Unread) (p : f ≡ unreadableFrom 0 count t) where
+  all-as : elementsAs text t count w ≡ byUnread f text t count w
+  unfolding elementsAs
+  all-as = rw p
+
+  tree-all : treeAs text t count w ≡ treeByUnread f text t count w
+  unfolding treeAs
+  tree-all = rw p
+
+  pub all-unreadable : (k : ℕ) (x u : List ℕ) → f ≡ U.At k → x ≡ replicate (length t) 0 → u ≡ replicate w 0 → (Refused (S.Unreadable (record { 0 = k })) ≡ elementsAs text t count w) × ((x ≡ kept (elementsAs text t count w) t) × (u ≡ treeAs text t count w))
+  all-unreadable k x u m z y =
+      let e : Refused (S.Unreadable (record { 0 = k })) ≡ elementsAs text t count w = sym (rw m at all-as) in
+      (e, (z ∙ ap (λ (s : Strict). kept s t) e, y ∙ sym (rw m at tree-all)))
+
+  pub all-file : (r : Strict) (x u : List ℕ) → f ≡ U.Nothing → r ≡ fileOf text t count w → x ≡ kept (fileOf text t count w) t → u ≡ treeTable text t count w → (r ≡ elementsAs text t count w) × ((x ≡ kept (elementsAs text t count w) t) × (u ≡ treeAs text t count w))
+  all-file r x u m e z y =
+      let g : elementsAs text t count w ≡ fileOf text t count w = rw m at all-as in
+      (e ∙ sym g, (z ∙ ap (λ (s : Strict). kept s t) (sym g), y ∙ sym (rw m at tree-all)))
+
+-- refusals 1, 3, 4, or the elements: o is what `read_elements` answers, t the element table then
+module _ (text : List ℕ) (ew w : ℕ) (o : Reading) (t : List ℕ) (p : o ≡ readingOf text ew) (q : t ≡ elements.tableOf text ew) where
+  strict-as : strictOf text ew w ≡ byReading o text t w
+  unfolding strictOf
+  strict-as = rw (← p, ← q)
+
+  after-as : treeAfter text ew w ≡ treeByReading o text t w
+  unfolding treeAfter
+  after-as = rw (← p, ← q)
+
+  kept-as : elementsAfter text ew w ≡ kept (strictOf text ew w) t
+  unfolding elementsAfter
+  kept-as = rw (← q)
+
+  pub strict-read : (n : ElementNumber) (r : Strict) (x u : List ℕ) → o ≡ R.Read n → r ≡ elementsAs text t (n .0) w → x ≡ kept (elementsAs text t (n .0) w) t → u ≡ treeAs text t (n .0) w → (r ≡ strictOf text ew w) × ((x ≡ elementsAfter text ew w) × (u ≡ treeAfter text ew w))
+  strict-read n r x u m e z y =
+      let g : strictOf text ew w ≡ elementsAs text t (n .0) w = rw m at strict-as in
+      (e ∙ sym g, (z ∙ ap (λ (s : Strict). kept s t) (sym g) ∙ sym kept-as, y ∙ sym (rw m at after-as)))
+
+  pub strict-refused : (r : Refusal) (u : List ℕ) → o ≡ R.Refused r → u ≡ replicate w 0 → (Refused (S.Elements r) ≡ strictOf text ew w) × ((t ≡ elementsAfter text ew w) × (u ≡ treeAfter text ew w))
+  strict-refused r u m y =
+      let z : t ≡ replicate ew 0 = q ∙ table-refused text ew (sym p ∙ m) in
+      let g : Refused (S.Elements r) ≡ strictOf text ew w = sym (rw m at strict-as) in
+      (g, (z ∙ ap (λ (k : ℕ). replicate k 0) (sym (ap length z ∙ length-replicate ew 0)) ∙ ap (λ (s : Strict). kept s t) g ∙ sym kept-as, y ∙ sym (rw m at after-as)))

@@ -1,0 +1,99 @@
+-- What the strict reading of a text answers, given how many words the two lent tables have, and what they hold then: 01's "Refusals and
+-- their order", of which 1 to 8 concern it. Assumes nothing: these are definitions.
+use Prim.Native.Nat.{ℕ, zero, suc, _*_}
+use mathlib.Core.Bool.{Bool, true, false}
+use mathlib.Core.List.{List}
+use lib.Dec.{eqb}
+use lib.ListN.{length, getD, drop, replicate}
+use Rattle.reading.specs.Reading.{readingOf, refusalNumber, refusalPlace}
+use Rattle.reading.specs.Reading as elements
+use Rattle.reading.specs.declared.Reading.{Reading}
+use Rattle.reading.specs.declared.Reading.the-variants as R
+use Rattle.tree.specs.Answers.{elementsIn, readingIn, answerOf}
+use Rattle.tree.specs.Answers as trees
+use Rattle.tree.specs.declared.Answer.{Answer}
+use Rattle.tree.specs.declared.Answer.the-variants as A
+use Rattle.verdict.specs.Verdict.{verdictOf}
+use Rattle.files.specs.declared.Unread.{Unread}
+use Rattle.files.specs.declared.Unread.the-variants as U
+use Rattle.files.specs.declared.StrictRefusal.{StrictRefusal}
+use Rattle.files.specs.declared.StrictRefusal.the-variants as S
+use Rattle.files.specs.declared.Strict.{Strict}
+use Rattle.files.specs.declared.Strict.the-variants.{Read, Refused}
+
+-- 2: "an unreadable element, the first": of n elements of a table, the first of which is number i; 7 is the kind
+unfoldable pub unreadableFrom : ℕ → ℕ → List ℕ → Unread
+unreadableFrom i zero table = U.Nothing
+unreadableFrom i (suc n) table = elim (eqb (getD table 0 0) 7) [ true ↦ U.At i | false ↦ unreadableFrom (suc i) n (drop 3 table) ]
+
+-- the numbers of the refusals, and their places
+abbrev pub strictNumber : StrictRefusal → ℕ
+strictNumber (S.Elements r) = refusalNumber r
+strictNumber (S.Unreadable e) = 2
+strictNumber (S.NoFile e) = 5
+strictNumber (S.NameDiffers e) = 6
+strictNumber (S.TooDeep e) = 7
+strictNumber (S.TreeShort rows) = 8
+
+abbrev pub strictPlace : StrictRefusal → ℕ
+strictPlace (S.Elements r) = refusalPlace r
+strictPlace (S.Unreadable e) = e .0
+strictPlace (S.NoFile e) = e .0
+strictPlace (S.NameDiffers e) = e .0
+strictPlace (S.TooDeep e) = e .0
+strictPlace (S.TreeShort rows) = rows
+
+-- the words of a tree table of so many words, once n elements of an element table were read as a file
+unfoldable pub treeTable : List ℕ → List ℕ → ℕ → ℕ → List ℕ
+treeTable text table n words = trees.tableOf words (readingIn text table (elementsIn table n))
+
+-- 5, 6, 7, 8, or the tree's rows and the verdict on them
+abbrev pub byAnswer : Answer → List ℕ → Strict
+byAnswer (A.Tree rows) tree = Read rows (verdictOf tree rows)
+byAnswer (A.NoFile k) tree = Refused (S.NoFile (record { 0 = k }))
+byAnswer (A.NameDiffers k) tree = Refused (S.NameDiffers (record { 0 = k }))
+byAnswer (A.TooDeep k) tree = Refused (S.TooDeep (record { 0 = k }))
+byAnswer (A.TableShort rows) tree = Refused (S.TreeShort rows)
+
+unfoldable pub fileOf : List ℕ → List ℕ → ℕ → ℕ → Strict
+fileOf text table n words = byAnswer (answerOf words (readingIn text table (elementsIn table n))) (treeTable text table n words)
+
+abbrev pub byUnread : Unread → List ℕ → List ℕ → ℕ → ℕ → Strict
+byUnread (U.At k) text table n words = Refused (S.Unreadable (record { 0 = k }))
+byUnread U.Nothing text table n words = fileOf text table n words
+
+-- n elements of a table: 2, then as above
+unfoldable pub elementsAs : List ℕ → List ℕ → ℕ → ℕ → Strict
+elementsAs text table n words = byUnread (unreadableFrom 0 n table) text table n words
+
+-- 1, 3, 4, then as above
+abbrev pub byReading : Reading → List ℕ → List ℕ → ℕ → Strict
+byReading (R.Refused r) text table words = Refused (S.Elements r)
+byReading (R.Read n) text table words = elementsAs text table (n .0) words
+
+unfoldable pub strictOf : List ℕ → ℕ → ℕ → Strict
+strictOf text elementWords treeWords = byReading (readingOf text elementWords) text (elements.tableOf text elementWords) treeWords
+
+-- "On refusal every lent table is all zeros. On success unused rows are zeros."
+abbrev pub kept : Strict → List ℕ → List ℕ
+kept (Read rows v) table = table
+kept (Refused r) table = replicate (length table) 0
+
+-- the element table afterwards
+unfoldable pub elementsAfter : List ℕ → ℕ → ℕ → List ℕ
+elementsAfter text elementWords treeWords = kept (strictOf text elementWords treeWords) (elements.tableOf text elementWords)
+
+-- the tree table afterwards: zeros where no tree was tried, else as the tree's own answer leaves it
+abbrev pub treeByUnread : Unread → List ℕ → List ℕ → ℕ → ℕ → List ℕ
+treeByUnread (U.At k) text table n words = replicate words 0
+treeByUnread U.Nothing text table n words = treeTable text table n words
+
+unfoldable pub treeAs : List ℕ → List ℕ → ℕ → ℕ → List ℕ
+treeAs text table n words = treeByUnread (unreadableFrom 0 n table) text table n words
+
+abbrev pub treeByReading : Reading → List ℕ → List ℕ → ℕ → List ℕ
+treeByReading (R.Refused r) text table words = replicate words 0
+treeByReading (R.Read n) text table words = treeAs text table (n .0) words
+
+unfoldable pub treeAfter : List ℕ → ℕ → ℕ → List ℕ
+treeAfter text elementWords treeWords = treeByReading (readingOf text elementWords) text (elements.tableOf text elementWords) treeWords

@@ -1,0 +1,6 @@
+pub mod Theory
+pub mod Check
+pub mod Budget
+pub mod Acting
+pub mod Room
+pub mod Spare

@@ -1,0 +1,122 @@
+-- From what the scan found to what is answered, and what the tree table then holds. Assumes nothing.
+use Prim.Native.Nat.{ℕ, zero, suc, _+_, _-_, _*_, _/_, _≤_, _<_, min}
+use mathlib.Core.Path.{_≡_, refl, sym, _∙_, ap, ap₂, subst}
+use mathlib.Core.Bool.{Bool, true, false}
+use mathlib.Core.List.{List, [], _∷_, _++_}
+use native.Mathlib.Omega.{arith}
+use lib.ListN.{length, drop, getD, replicate, length-replicate}
+use lib.Seq.{sets, sets-eq}
+use borrow.Author.Tests.{le-leb, lt-leb}
+use Rattle.ll.specs.Actions.{End, read, bad, stopped, spent}
+use Rattle.forms.specs.Tree.{Row, State, Refusal, name-differs, too-deep, rowsOf}
+use Rattle.tree.specs.declared.Answer.{Answer}
+use Rattle.tree.specs.declared.Answer.the-variants.{Tree, NoFile, NameDiffers, TooDeep, TableShort}
+use Rattle.tree.specs.declared.Found.{Found}
+use Rattle.tree.specs.declared.Found.the-variants.{Whole, Wrong, Other, Over}
+use Rattle.tree.specs.Answers.{wordsOf, answerOf, tableOf, pickAnswer, pickWords, elementsIn, readingIn}
+use Rattle.tree.specs.Held.{Spans, Tells}
+use Rattle.tree.proofs.Zeros.{zeros, drop-zeros}
+
+pub words-size : (rows : List Row) → length (wordsOf rows) ≡ 5 * length rows
+words-size [] = refl
+words-size (r ∷ rows) = omega (arith, words-size rows)
+
+pub filled : (room : ℕ) (rows : List Row) → 5 * length rows ≤ room → sets (zeros room) 0 (wordsOf rows) ≡ wordsOf rows ++ zeros (room - 5 * length rows)
+filled room rows h =
+    let n = words-size rows in
+    let z : room ≡ 0 + length (wordsOf rows) + (room - 5 * length rows) = omega arith in
+    sets-eq (wordsOf rows) (zeros room) 0 (simp length-replicate (omega arith))
+    ∙ ap (λ (l : List ℕ). wordsOf rows ++ l) (ap (λ (x : ℕ). drop (0 + length (wordsOf rows)) (zeros x)) z ∙ drop-zeros (0 + length (wordsOf rows)) (room - 5 * length rows))
+
+abbrev pub Says : Answer → List ℕ → ℕ → End State Refusal → Type 0
+Says r tab room o = (r ≡ answerOf room o) × (tab ≡ tableOf room o)
+
+module _ (cells next heads : List ℕ) (r : Found) (o : End State Refusal) (tells : Tells r cells next heads o) where
+  whole : (used : ℕ) → r ≡ Whole used → Tells (Whole used) cells next heads o
+  whole used e = subst (λ (x : Found). Tells x cells next heads o) e tells
+
+  -- what the rows' writing asks
+  pub whole-asks : (used : ℕ) → r ≡ Whole used
+      → ((rows : List Row) × (Spans cells next heads used 0 rows × (length rows ≡ used))) × (used ≤ 8192) × ((i : ℕ) → getD heads i 0 ≤ used)
+  whole-asks used e = go o (whole used e)
+    where
+      go : (o : End State Refusal) → Tells (Whole used) cells next heads o → ((rows : List Row) × (Spans cells next heads used 0 rows × (length rows ≡ used))) × (used ≤ 8192) × ((i : ℕ) → getD heads i 0 ≤ used)
+      go (read s) t = ((rowsOf s, (t .0, t .1)), t .2, t .3)
+      go (bad j) t = absurd t
+      go (stopped j x) t = absurd t
+      go spent t = absurd t
+
+  pub says-tree : (used room : ℕ) (tab₀ tab : List ℕ) → r ≡ Whole used → used ≤ room / 5 → tab₀ ≡ zeros room
+      → ((rows : List Row) → Spans cells next heads used 0 rows → tab ≡ sets tab₀ 0 (wordsOf rows)) → Says (Tree used) tab room o
+  says-tree used room tab₀ tab e l z w = go o (whole used e)
+    where
+      go : (o : End State Refusal) → Tells (Whole used) cells next heads o → Says (Tree used) tab room o
+      go (read s) t =
+          let n : length (rowsOf s) ≡ used = t .1 in
+          let m : 5 * length (rowsOf s) ≤ room = omega arith in
+          let b = le-leb (5 * length (rowsOf s)) room m in (
+            ap Tree (sym n) ∙ sym (ap (λ (x : Bool). pickAnswer x (Tree (length (rowsOf s))) (TableShort (room / 5))) b),
+            w (rowsOf s) (t .0)
+                ∙ ap (λ (l : List ℕ). sets l 0 (wordsOf (rowsOf s))) z
+                ∙ filled room (rowsOf s) m
+                ∙ sym (ap (λ (x : Bool). pickWords x (wordsOf (rowsOf s) ++ zeros (room - 5 * length (rowsOf s))) (zeros room)) b),
+          )
+      go (bad j) t = absurd t
+      go (stopped j x) t = absurd t
+      go spent t = absurd t
+
+  pub says-short : (used room : ℕ) (tab : List ℕ) → r ≡ Whole used → room / 5 < used → tab ≡ zeros room → Says (TableShort (room / 5)) tab room o
+  says-short used room tab e l z = go o (whole used e)
+    where
+      go : (o : End State Refusal) → Tells (Whole used) cells next heads o → Says (TableShort (room / 5)) tab room o
+      go (read s) t =
+          let n : length (rowsOf s) ≡ used = t .1 in
+          let b = lt-leb (5 * length (rowsOf s)) room (omega arith) in (
+            sym (ap (λ (x : Bool). pickAnswer x (Tree (length (rowsOf s))) (TableShort (room / 5))) b),
+            z ∙ sym (ap (λ (x : Bool). pickWords x (wordsOf (rowsOf s) ++ zeros (room - 5 * length (rowsOf s))) (zeros room)) b),
+          )
+      go (bad j) t = absurd t
+      go (stopped j x) t = absurd t
+      go spent t = absurd t
+
+  pub says-wrong : (k room : ℕ) (tab : List ℕ) → r ≡ Wrong k → tab ≡ zeros room → Says (NoFile k) tab room o
+  says-wrong k room tab e z = go o (subst (λ (x : Found). Tells x cells next heads o) e tells)
+    where
+      go : (o : End State Refusal) → Tells (Wrong k) cells next heads o → Says (NoFile k) tab room o
+      go (read s) t = absurd t
+      go (bad j) t = (ap NoFile t, z)
+      go (stopped j x) t = absurd t
+      go spent t = absurd t
+
+  pub says-other : (k room : ℕ) (tab : List ℕ) → r ≡ Other k → tab ≡ zeros room → Says (NameDiffers k) tab room o
+  says-other k room tab e z = go o (subst (λ (x : Found). Tells x cells next heads o) e tells)
+    where
+      go : (o : End State Refusal) → Tells (Other k) cells next heads o → Says (NameDiffers k) tab room o
+      go (read s) t = absurd t
+      go (bad j) t = absurd t
+      go (stopped j name-differs) t = (ap NameDiffers t, z)
+      go (stopped j too-deep) t = absurd t
+      go spent t = absurd t
+
+  pub says-over : (k room : ℕ) (tab : List ℕ) → r ≡ Over k → tab ≡ zeros room → Says (TooDeep k) tab room o
+  says-over k room tab e z = go o (subst (λ (x : Found). Tells x cells next heads o) e tells)
+    where
+      go : (o : End State Refusal) → Tells (Over k) cells next heads o → Says (TooDeep k) tab room o
+      go (read s) t = absurd t
+      go (bad j) t = absurd t
+      go (stopped j name-differs) t = absurd t
+      go (stopped j too-deep) t = (ap TooDeep t, z)
+      go spent t = absurd t
+
+pub in-table : (elements : List ℕ) (count n : ℕ) → n ≡ elementsIn elements count → 3 * n ≤ length elements
+in-table elements count n e = omega arith
+
+pub in-size : (elements : List ℕ) (count n : ℕ) → n ≡ elementsIn elements count → n ≤ 8192
+in-size elements count n e = omega arith
+
+pub rooms : (r : Answer) (tab : List ℕ) (room room′ : ℕ) (o : End State Refusal) → room ≡ room′ → Says r tab room o → Says r tab room′ o
+rooms r tab room room′ o e s = subst (λ (x : ℕ). Says r tab x o) e s
+
+pub told : (r : Found) (cells next heads text elements : List ℕ) (n count : ℕ) → n ≡ elementsIn elements count → Tells r cells next heads (readingIn text elements n)
+    → Tells r cells next heads (readingIn text elements (elementsIn elements count))
+told r cells next heads text elements n count e t = subst (λ (x : ℕ). Tells r cells next heads (readingIn text elements x)) e t

@@ -1,0 +1,277 @@
+-- What the scan keeps true, turn by turn: the arrays hold a state from which the machine ends as it does from the start, and what is left
+-- to read is within its bounds of steps, stack, frames and rows. Assumes nothing.
+use Prim.Native.Nat.{ℕ, zero, suc, _+_, _*_, _-_, _≤_, _<_}
+use mathlib.Core.Path.{_≡_, refl, sym as flip, _∙_, ap, ap₂, subst}
+use mathlib.Core.Bool.{Bool, true, false}
+use mathlib.Core.List.{List, [], _∷_, _++_}
+use native.Mathlib.Omega.{arith}
+use native.Mathlib.Numerals.{add-one}
+use lib.Dec.{T, leb}
+use lib.ListN.{length, getD, drop, set, replicate, length-drop, drop-of-length-le}
+use lib.Seq.{drop-cons, getD-drop}
+use borrow.Author.Tests.{eq-eqb, ne-eqb}
+use Rattle.ll.specs.Grammar.{Sym, tok, nt, act, look}
+use Rattle.ll.specs.Actions.{Step, go, stop, runs}
+use Rattle.ll.proofs.Room as room
+use Rattle.ll.proofs.Spare as spare
+use Rattle.ll.proofs.Budget as budget
+use Rattle.alike.specs.Alike.{sameName}
+use Rattle.forms.specs.Names.{file}
+use Rattle.forms.specs.Rules.{body}
+use Rattle.forms.specs.Picks.{predict}
+use Rattle.forms.specs.Tree.{State, Refusal, name-differs, too-deep, does, start}
+use Rattle.forms.specs.Reading.{readingOf, steps}
+use Rattle.forms.proofs.Tests as tests
+use Rattle.forms.proofs.Nesting.{Nested, nested-grow, nested-eat, nested-act, nested-start}
+use Rattle.tree.specs.declared.Did.{Did}
+use Rattle.tree.specs.declared.Moved.{Moved}
+use Rattle.tree.specs.declared.Did.the-variants.{Went, Differs, Deep}
+use Rattle.tree.specs.declared.Found.{Found}
+use Rattle.tree.specs.declared.Found.the-variants.{Whole, Wrong, Other, Over}
+use Rattle.tree.specs.Answers.{terminalsOf, readingIn}
+use Rattle.tree.specs.Held.{Frames, Held, Done, Tells, usedAfter, pickUsed}
+use Rattle.tree.proofs.Lists.{terminals-size, look-at}
+use Rattle.tree.proofs.Holding as holding
+
+module _ (text elements : List ℕ) (n : ℕ) where
+  abbrev alike : ℕ → ℕ → Bool
+  alike = sameName text elements
+
+  -- what the elements are to the forms
+  abbrev kinds : List ℕ
+  kinds = terminalsOf n elements
+
+  -- α is left to read
+  pub record Going (α : List Sym) (frames cells next heads : List ℕ) (fp depth used at : ℕ) : Type 0 where
+    pub state : State
+    pub left : ℕ
+    pub same : readingIn text elements n ≡ runs body predict (does alike) left α (drop at kinds) at state
+    pub paid : budget.due tests.weight tests.leads α (n - at) < left
+    pub held : Held frames cells next heads fp used (state .frames)
+    pub deep : state .depth ≡ depth
+    pub lies : room.Lies tests.ending tests.height tests.height-pos α
+    pub near : room.Near tests.deepening α
+    pub nested : Nested state α
+    pub fewer : spare.Fewer tests.isRow tests.spare used at α
+
+  module _ {α : List Sym} {frames cells next heads : List ℕ} {fp depth used at : ℕ} (g : Going α frames cells next heads fp depth used at) where
+    -- the bounds: the stack, the frames, the rows
+    pub stack-bound : length α ≤ 2175
+    stack-bound =
+        let t = g .nested .most in
+        omega (
+          arith,
+          room.lies-length tests.ending tests.height tests.height-pos α (g .lies),
+          room.nest-waits tests.deepening tests.ending 0 (g .state .depth) α (λ z. absurd (omega arith)) (g .nested .open-nest),
+          room.near-one tests.deepening α (g .near),
+        )
+
+    pub frames-bound : fp + 4 ≤ length frames
+    frames-bound =
+        let r = g .held .room in
+        let i = g .nested .inner-is in
+        omega arith
+
+    pub frames-room : length frames ≤ fp + 4 * length α + 4
+    frames-room =
+        let r = g .held .room in
+        let i = g .nested .inner-is in
+        omega (
+          arith,
+          room.nest-count tests.opening tests.closing 0 (g .nested .inner) α (g .nested .frame-nest),
+          room.times-length tests.closing α,
+        )
+
+    pub rows-bound : used + 1 ≤ at + length α
+    rows-bound = spare.fewer-bound tests.isRow tests.spare used at α (g .fewer)
+
+    pub base-bound : getD frames (fp + 2) 0 ≤ used
+    base-bound = subst (λ (x : ℕ). x ≤ used) (getD-drop fp frames 2 0) (holding.base-low (g .held .framed))
+
+    pub depth-bound : depth ≤ 32
+    depth-bound = subst (λ (x : ℕ). x ≤ 32) (g .deep) (g .nested .most)
+
+    -- a turn is left
+    turns : (w : List ℕ) → drop at kinds ≡ w → readingIn text elements n ≡ runs body predict (does alike) (suc (g .left - 1)) α w at (g .state)
+    turns w e =
+        let p = g .paid in
+        let z : g .left ≡ suc (g .left - 1) = omega arith in
+        g .same ∙ ap₂ (λ (l : ℕ) (x : List ℕ). runs body predict (does alike) l α x at (g .state)) z e
+
+    more-left : at < n → drop at kinds ≡ getD kinds at 0 ∷ drop (suc at) kinds
+    more-left l = drop-cons kinds at 0 (omega (arith, terminals-size n elements))
+
+    none-left : n ≤ at → drop at kinds ≡ []
+    none-left l = drop-of-length-le kinds {i = at} (omega (arith, terminals-size n elements))
+
+    left-size : length (drop at kinds) ≡ n - at
+    left-size = length-drop at kinds ∙ ap (λ (x : ℕ). x - at) (terminals-size n elements)
+
+  module _ {frames cells next heads : List ℕ} {fp depth used at : ℕ} where
+    -- all read, or too much
+    pub ends : (g : Going [] frames cells next heads fp depth used at) → n ≤ at → at ≤ n → n ≤ 8192 → Tells (Whole used) cells next heads (readingIn text elements n)
+    unfolding runs
+    ends g l m b =
+        let f = holding.framed-end (g .held .framed) (g .nested .inner-is ∙ ap suc (g .nested .frame-nest)) in
+        let r = rows-bound g in
+        subst (Tells (Whole used) cells next heads) (flip (turns g [] (none-left g l))) (f .0, f .1, omega arith, g .held .within)
+
+    pub too-much : (g : Going [] frames cells next heads fp depth used at) → at < n → Tells (Wrong at) cells next heads (readingIn text elements n)
+    unfolding runs
+    too-much g l = subst (Tells (Wrong at) cells next heads) (flip (turns g _ (more-left g l))) refl
+
+    -- an element wanted
+    module _ {a : ℕ} {α : List Sym} (g : Going (tok a ∷ α) frames cells next heads fp depth used at) where
+      pub ends-early : n ≤ at → Tells (Wrong at) cells next heads (readingIn text elements n)
+      unfolding runs
+      ends-early l = subst (Tells (Wrong at) cells next heads) (flip (turns g [] (none-left g l))) refl
+
+      pub wrong-kind : (t : ℕ) → at < n → t ≡ look (drop at kinds) → (a ≡ t → ⊥) → Tells (Wrong at) cells next heads (readingIn text elements n)
+      unfolding runs
+      wrong-kind t l e d =
+          let q : t ≡ getD kinds at 0 = e ∙ look-at kinds at (omega (arith, terminals-size n elements)) in
+          subst (Tells (Wrong at) cells next heads) (flip (turns g _ (more-left g l))) (rw (ne-eqb a (getD kinds at 0) (λ z. d (z ∙ flip q))) refl)
+
+      pub right-kind : (t : ℕ) → at < n → t ≡ look (drop at kinds) → a ≡ t → Going α frames cells next heads fp depth used (at + 1)
+      unfolding runs
+      right-kind t l e d =
+          let q : t ≡ getD kinds at 0 = e ∙ look-at kinds at (omega (arith, terminals-size n elements)) in
+          let p = g .paid in
+          let z : n - at ≡ suc (n - (at + 1)) = omega arith in
+          record {
+            state = g .state;
+            left = g .left - 1;
+            same =
+                turns g _ (more-left g l)
+                ∙ rw (eq-eqb a (getD kinds at 0) (d ∙ q)) refl
+                ∙ ap (λ (x : ℕ). runs body predict (does alike) (g .left - 1) α (drop x kinds) x (g .state)) (flip (add-one at));
+            paid = omega arith;
+            held = g .held;
+            deep = g .deep;
+            lies = room.lies-eat tests.ending tests.height tests.height-pos a α (g .lies);
+            near = g .near;
+            nested = nested-eat a α (g .state) (g .nested);
+            fewer = spare.fewer-eat tests.isRow tests.spare used at a α (g .fewer);
+          }
+
+    -- a name to read
+    module _ {m : ℕ} {α : List Sym} (g : Going (nt m ∷ α) frames cells next heads fp depth used at) where
+      pub no-rule : predict m (look (drop at kinds)) ≡ 0 → Tells (Wrong at) cells next heads (readingIn text elements n)
+      unfolding runs
+      no-rule e = subst (Tells (Wrong at) cells next heads) (flip (turns g (drop at kinds) refl)) (rw e refl)
+
+      pub by-rule : (p : ℕ) → predict m (look (drop at kinds)) ≡ suc p → Going (body p ++ α) frames cells next heads fp depth used at
+      unfolding runs
+      by-rule p e =
+          let h = tests.forms-ll .table m (look (drop at kinds)) p e in
+          let b : p < 165 = h .0 in
+          let pd = g .paid in
+          let dg : budget.due tests.weight tests.leads (body p ++ α) (n - at) < budget.due tests.weight tests.leads (nt m ∷ α) (n - at) =
+          subst (λ (x : ℕ). budget.due tests.weight tests.leads (body p ++ α) x < budget.due tests.weight tests.leads (nt m ∷ α) x) (left-size g)
+          (budget.due-grow body predict tests.weight tests.leads tests.steps-paid m p α (drop at kinds) e) in
+          record {
+            state = g .state;
+            left = g .left - 1;
+            same = turns g (drop at kinds) refl ∙ rw e refl;
+            paid = omega arith;
+            held = g .held;
+            deep = g .deep;
+            lies =
+                room.lies-grow tests.ending tests.height tests.height-pos m (body p) α
+                (subst (λ (x : ℕ). T (room.part tests.ending tests.height tests.height-pos x (body p))) (h .1) (tests.stretch p b))
+                (subst (λ (x : ℕ). T (room.parts tests.ending tests.height tests.height-pos x (body p))) (h .1) (tests.stretches p b))
+                (g .lies);
+            near = room.near-append tests.deepening (body p) α (tests.open-near p b) (g .near);
+            nested = nested-grow p b m α (g .state) (g .nested);
+            fewer =
+                spare.fewer-grow tests.isRow tests.spare used at m (body p) α
+                (subst (λ (x : ℕ). spare.debit tests.isRow tests.spare (body p) + 1 ≤ spare.credit (body p) + tests.spare x) (h .1) (tests.rows-spare p b))
+                (g .fewer);
+          }
+
+    -- an action to do
+    module _ {a : ℕ} {α : List Sym} (g : Going (act a ∷ α) frames cells next heads fp depth used at) where
+      rows-after : (u : ℕ) → u ≡ usedAfter a used → spare.Fewer tests.isRow tests.spare u at α
+      rows-after u e = by (leb 7 a) refl e
+        where
+          by : (b : Bool) → leb 7 a ≡ b → u ≡ pickUsed b used → spare.Fewer tests.isRow tests.spare u at α
+          by true q e = subst (λ (x : ℕ). spare.Fewer tests.isRow tests.spare x at α) (flip e) (spare.fewer-done tests.isRow tests.spare used at a α q (g .fewer))
+          by false q e = subst (λ (x : ℕ). spare.Fewer tests.isRow tests.spare x at α) (flip e) (spare.fewer-other tests.isRow tests.spare used at a α (g .fewer))
+
+      went : (fp′ depth′ used′ : ℕ) (frames′ cells′ next′ heads′ : List ℕ) → (x : Step State Refusal) → does alike a at (g .state) ≡ x
+          → Done (Went (record { fp = fp′; depth = depth′; used = used′ })) frames′ cells′ next′ heads′ (usedAfter a used) x → Going α frames′ cells′ next′ heads′ fp′ depth′ used′ at
+      unfolding runs
+      went fp′ depth′ used′ frames′ cells′ next′ heads′ (go t) e h =
+          let p = g .paid in
+          record {
+            state = t;
+            left = g .left - 1;
+            same = turns g (drop at kinds) refl ∙ rw e refl;
+            paid = omega arith;
+            held = h .0;
+            deep = h .1;
+            lies = room.lies-act tests.ending tests.height tests.height-pos a α (g .lies);
+            near = room.near-act tests.deepening a α (g .near);
+            nested = nested-act alike at a α (g .state) t e (g .nested);
+            fewer = rows-after used′ (h .2);
+          }
+      went fp′ depth′ used′ frames′ cells′ next′ heads′ (stop r) e h = absurd h
+
+      pub goes-on : (fp′ depth′ used′ : ℕ) (frames′ cells′ next′ heads′ : List ℕ)
+          → Done (Went (record { fp = fp′; depth = depth′; used = used′ })) frames′ cells′ next′ heads′ (usedAfter a used) (does alike a at (g .state)) → Going α frames′ cells′ next′ heads′ fp′ depth′ used′ at
+      goes-on fp′ depth′ used′ frames′ cells′ next′ heads′ h = went fp′ depth′ used′ frames′ cells′ next′ heads′ (does alike a at (g .state)) refl h
+
+      pub goes-by : (r : Did) (m : Moved) (frames′ cells′ next′ heads′ : List ℕ) → r ≡ Went m → Done r frames′ cells′ next′ heads′ (usedAfter a used) (does alike a at (g .state))
+          → Going α frames′ cells′ next′ heads′ (m .fp) (m .depth) (m .used) at
+      goes-by r m frames′ cells′ next′ heads′ e d =
+          goes-on (m .fp) (m .depth) (m .used) frames′ cells′ next′ heads′ (subst (λ (x : Did). Done x frames′ cells′ next′ heads′ (usedAfter a used) (does alike a at (g .state))) e d)
+
+      differs : (f c k h : List ℕ) (c′ k′ h′ : List ℕ) (x : Step State Refusal) → does alike a at (g .state) ≡ x → Done Differs f c k h (usedAfter a used) x
+          → Tells (Other (at - 1)) c′ k′ h′ (readingIn text elements n)
+      unfolding runs
+      differs f c k h c′ k′ h′ (stop name-differs) e d = subst (Tells (Other (at - 1)) c′ k′ h′) (flip (turns g (drop at kinds) refl)) (rw e refl)
+      differs f c k h c′ k′ h′ (stop too-deep) e d = absurd d
+      differs f c k h c′ k′ h′ (go t) e d = absurd d
+
+      pub name-differs-here : (r : Did) (f c k h c′ k′ h′ : List ℕ) (i : ℕ) → r ≡ Differs → i ≡ at - 1 → Done r f c k h (usedAfter a used) (does alike a at (g .state))
+          → Tells (Other i) c′ k′ h′ (readingIn text elements n)
+      name-differs-here r f c k h c′ k′ h′ i e q d =
+          subst (λ (x : ℕ). Tells (Other x) c′ k′ h′ (readingIn text elements n)) (flip q)
+          (differs f c k h c′ k′ h′ (does alike a at (g .state)) refl (subst (λ (x : Did). Done x f c k h (usedAfter a used) (does alike a at (g .state))) e d))
+
+      over : (f c k h : List ℕ) (c′ k′ h′ : List ℕ) (x : Step State Refusal) → does alike a at (g .state) ≡ x → Done Deep f c k h (usedAfter a used) x
+          → Tells (Over (at - 1)) c′ k′ h′ (readingIn text elements n)
+      unfolding runs
+      over f c k h c′ k′ h′ (stop too-deep) e d = subst (Tells (Over (at - 1)) c′ k′ h′) (flip (turns g (drop at kinds) refl)) (rw e refl)
+      over f c k h c′ k′ h′ (stop name-differs) e d = absurd d
+      over f c k h c′ k′ h′ (go t) e d = absurd d
+
+      pub too-deep-here : (r : Did) (f c k h c′ k′ h′ : List ℕ) (i : ℕ) → r ≡ Deep → i ≡ at - 1 → Done r f c k h (usedAfter a used) (does alike a at (g .state))
+          → Tells (Over i) c′ k′ h′ (readingIn text elements n)
+      too-deep-here r f c k h c′ k′ h′ i e q d =
+          subst (λ (x : ℕ). Tells (Over x) c′ k′ h′ (readingIn text elements n)) (flip q)
+          (over f c k h c′ k′ h′ (does alike a at (g .state)) refl (subst (λ (x : Did). Done x f c k h (usedAfter a used) (does alike a at (g .state))) e d))
+
+  -- at the start
+  pub begins : (frames cells next heads : List ℕ) → length frames ≡ 8708 → drop 8704 frames ≡ 0 ∷ 0 ∷ 0 ∷ 0 ∷ [] → ((i : ℕ) → getD heads i 0 ≡ 0)
+      → Going (file ∷ []) frames cells next heads 8704 0 0 0
+  unfolding readingOf
+  begins frames cells next heads l e z =
+      record {
+        state = start;
+        left = steps (length kinds);
+        same = refl;
+        paid = omega (arith, terminals-size n elements);
+        held =
+            record {
+              framed = subst (λ (x : List ℕ). Frames cells next heads 0 x (start .frames)) (flip e) (holding.framed-opens 0 holding.framed-none);
+              room = omega arith;
+              within = λ i. omega (arith, z i);
+              bare = λ i _. z i;
+            };
+        deep = refl;
+        lies = record { now-low = omega arith; then-low = tt };
+        near = refl;
+        nested = nested-start;
+        fewer = omega arith;
+      }

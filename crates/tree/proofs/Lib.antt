@@ -1,0 +1,8 @@
+mod Zeros
+pub mod Lists
+mod Holding
+mod Acts
+mod Going
+mod Turns
+mod Writing
+mod Final

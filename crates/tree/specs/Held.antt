@@ -1,0 +1,91 @@
+-- What the code's arrays hold. A row is appended when it is complete, and put in front of the list of its base, which is how many rows
+-- there were when its frame began: `heads` has each base's list, `next` the links, 0 ending one, a row's number and one more else. The
+-- rows of a frame are the lists of the bases from its own to that of the frame inside it. Assumes nothing: these are definitions.
+use Prim.Native.Nat.{ℕ, zero, suc, _+_, _-_, _*_, _≤_}
+use mathlib.Core.Path.{_≡_}
+use mathlib.Core.Bool.{Bool, true, false}
+use mathlib.Core.List.{List, [], _∷_, _++_}
+use lib.Dec.{leb}
+use lib.ListN.{length, getD, drop}
+use Rattle.ll.specs.Actions.{Step, go, stop, End, read, bad, stopped, spent}
+use Rattle.forms.specs.Tree.{Row, Frame, State, Refusal, name-differs, too-deep, rowsOf}
+use Rattle.tree.specs.declared.Did.{Did}
+use Rattle.tree.specs.declared.Did.the-variants.{Went, Differs, Deep}
+use Rattle.tree.specs.declared.Found.{Found}
+use Rattle.tree.specs.declared.Found.the-variants.{Whole, Wrong, Other, Over}
+
+-- row r of the cells, five numbers to a row
+abbrev pub rowAt : List ℕ → ℕ → Row
+rowAt cells r =
+    record {
+      form = getD cells (5 * r) 0;
+      first = getD cells (5 * r + 1) 0;
+      count = getD cells (5 * r + 2) 0;
+      rows = getD cells (5 * r + 3) 0;
+      operator = getD cells (5 * r + 4) 0;
+    }
+
+-- the list of rows that begins at h
+pub data Linked (cells next : List ℕ) : ℕ → List Row → Type 0 where
+  none : Linked cells next 0 []
+  more : {r h : ℕ} {l : List Row} → getD next r 0 ≡ h → h ≤ r → Linked cells next h l → Linked cells next (suc r) (rowAt cells r ∷ l)
+
+-- the lists of the bases from lo to hi
+pub data Spans (cells next heads : List ℕ) (hi : ℕ) : ℕ → List Row → Type 0 where
+  empty : {lo : ℕ} → lo ≡ hi → Spans cells next heads hi lo []
+  join : {lo h : ℕ} {l m all : List Row} → getD heads lo 0 ≡ h → Linked cells next h l → Spans cells next heads hi (suc lo) m → l ++ m ≡ all → Spans cells next heads hi lo all
+
+-- the frames, four words to a frame: first element, operator element, base, name and one more
+pub data Frames (cells next heads : List ℕ) : ℕ → List ℕ → List Frame → Type 0 where
+  outermost : Frames cells next heads 0 [] []
+  inside : {first operator base name top : ℕ} {words : List ℕ} {fs : List Frame} {rows : List Row}
+      → Spans cells next heads top base rows → base + length rows ≡ top → Frames cells next heads base words fs
+      → Frames cells next heads top (first ∷ operator ∷ base ∷ name ∷ words) (record { first = first; operator = operator; name = name; rows = rows } ∷ fs)
+
+-- the arrays hold the frames fs, from fp on, and `used` rows
+pub record Held (frames cells next heads : List ℕ) (fp used : ℕ) (fs : List Frame) : Type 0 where
+  pub framed : Frames cells next heads used (drop fp frames) fs
+  pub room : fp + 4 * length fs ≡ length frames
+  pub within : (i : ℕ) → getD heads i 0 ≤ used
+  pub bare : (i : ℕ) → used ≤ i → getD heads i 0 ≡ 0
+
+-- how many rows there are after an action
+abbrev pub pickUsed : Bool → ℕ → ℕ
+pickUsed true u = u + 1
+pickUsed false u = u
+
+abbrev pub usedAfter : ℕ → ℕ → ℕ
+usedAfter a u = pickUsed (leb 7 a) u
+
+-- what an action of the code did is what the action makes of the state
+abbrev pub Done : Did → List ℕ → List ℕ → List ℕ → List ℕ → ℕ → Step State Refusal → Type 0
+Done (Went m) frames cells next heads used (go t) = Held frames cells next heads (m .fp) (m .used) (t .frames) × (t .depth ≡ m .depth) × (m .used ≡ used)
+Done Differs frames cells next heads used (stop name-differs) = Unit {0}
+Done Deep frames cells next heads used (stop too-deep) = Unit {0}
+Done (Went m) frames cells next heads used (stop r) = ⊥
+Done Differs frames cells next heads used (go t) = ⊥
+Done Differs frames cells next heads used (stop too-deep) = ⊥
+Done Deep frames cells next heads used (go t) = ⊥
+Done Deep frames cells next heads used (stop name-differs) = ⊥
+
+-- what the scan found is how the reading ends
+abbrev pub Tells : Found → List ℕ → List ℕ → List ℕ → End State Refusal → Type 0
+Tells (Whole used) cells next heads (read s) =
+    Spans cells next heads used 0 (rowsOf s) × (length (rowsOf s) ≡ used) × (used ≤ 8192) × ((i : ℕ) → getD heads i 0 ≤ used)
+Tells (Wrong i) cells next heads (bad j) = i ≡ j
+Tells (Other i) cells next heads (stopped j name-differs) = i ≡ j - 1
+Tells (Over i) cells next heads (stopped j too-deep) = i ≡ j - 1
+Tells (Whole used) cells next heads (bad j) = ⊥
+Tells (Whole used) cells next heads (stopped j r) = ⊥
+Tells (Whole used) cells next heads spent = ⊥
+Tells (Wrong i) cells next heads (read s) = ⊥
+Tells (Wrong i) cells next heads (stopped j r) = ⊥
+Tells (Wrong i) cells next heads spent = ⊥
+Tells (Other i) cells next heads (read s) = ⊥
+Tells (Other i) cells next heads (bad j) = ⊥
+Tells (Other i) cells next heads (stopped j too-deep) = ⊥
+Tells (Other i) cells next heads spent = ⊥
+Tells (Over i) cells next heads (read s) = ⊥
+Tells (Over i) cells next heads (bad j) = ⊥
+Tells (Over i) cells next heads (stopped j name-differs) = ⊥
+Tells (Over i) cells next heads spent = ⊥

@@ -1,0 +1,331 @@
+// Elements to a tree: the machine over the tables of the forms, with its rows. Rows are complete innermost first and stand parent first:
+// they are kept in the order of completion, in a list to each base, and written out at the end, so that a text costs by its elements.
+ghost use mathlib.Core.Path.{_≡_};
+ghost use mathlib.Core.List.{List, [], _∷_, _++_};
+ghost use Prim.Native.Nat.{ℕ, _+_, _-_, _*_, _/_, _≤_, _<_, min};
+ghost use lib.ListN.{length, drop, getD, set, replicate};
+ghost use lib.Seq.{sets};
+ghost use Rattle.ll.specs.Grammar.{look};
+ghost use Rattle.forms.specs.Rules.{body};
+ghost use Rattle.forms.specs.Tree.{State, Row, does};
+ghost use Rattle.alike.specs.Alike.{sameName};
+ghost use Rattle.tables.specs.Symbols.{syms};
+ghost use Rattle.tree.specs.Answers.{elementsIn, terminalsOf, readingIn, wordsOf, answerOf, tableOf};
+ghost use Rattle.tree.specs.Held.{Held, Spans, Done, Tells, usedAfter};
+
+// A tree and its rows; or 01's refusals 5, 6, 7 with their element, and 8 with the rows that the table has.
+pub enum Answer {
+    Tree(usize),
+    NoFile(usize),
+    NameDiffers(usize),
+    TooDeep(usize),
+    TableShort(usize),
+}
+
+// Where the frames begin, how many stand open, how many rows there are.
+pub struct Moved {
+    pub fp: usize,
+    pub depth: usize,
+    pub used: usize,
+}
+
+pub enum Did {
+    Went(Moved),
+    Differs,
+    Deep,
+}
+
+pub enum Found {
+    Whole(usize),
+    Wrong(usize),
+    Other(usize),
+    Over(usize),
+}
+
+fn minus(a: u64, b: u64) -> u64
+    ensures { λ r. ⌜ r ≡ a - b ⌝ }
+{
+    if b <= a { a - b } else { 0 }
+}
+
+// What the next element is to the forms, 0 at the end.
+fn next_kind(elements: &[u64], count: usize, at: usize) -> u64
+    requires { ⌜ 3 * count ≤ length (now elements) ⌝ }
+    ensures { λ r. ⌜ r ≡ look (drop at (terminalsOf count (now (elements .entry)))) ⌝ }
+{
+    if at < count {
+        tables::terminal(elements[3 * at])
+    } else {
+        0
+    }
+}
+
+// Puts rule p's symbols on the stack, which grows downwards.
+fn push(stk: &mut [u64], sp: usize, p: usize, m: usize)
+    requires { ⌜ (m ≡ length (body p)) × (m ≤ sp) × (sp ≤ length (now stk)) ⌝ }
+    ensures { λ _. ⌜ syms (drop (sp - m) (now (stk .exit))) ≡ body p ++ syms (drop sp (now (stk .entry))) ⌝ }
+{
+    let base = sp - m;
+    let mut i = m;
+    while 0 < i {
+        i -= 1;
+        let x = tables::body_at(p, i);
+        stk[base + i] = x;
+    }
+}
+
+// A row more: appended to the cells, and put in front of the list of its base.
+fn put_row(
+    cells: &mut [u64],
+    next: &mut [u64],
+    heads: &mut [u64],
+    used: usize,
+    base: usize,
+    form: u64,
+    first: u64,
+    count: u64,
+    rows: u64,
+    operator: u64,
+)
+    requires { ⌜ (5 * used + 5 ≤ length (now cells)) × (used < length (now next)) × (used < length (now heads)) × (base ≤ used) ⌝ }
+    ensures { λ _. ⌜ (now (cells .exit) ≡ sets (now (cells .entry)) (5 * used) (form ∷ first ∷ count ∷ rows ∷ operator ∷ [])) × (now (next .exit) ≡ set (now (next .entry)) used (getD (now (heads .entry)) base 0)) × (now (heads .exit) ≡ set (now (heads .entry)) base (used + 1)) ⌝ }
+{
+    let at = 5 * used;
+    cells[at] = form;
+    cells[at + 1] = first;
+    cells[at + 2] = count;
+    cells[at + 3] = rows;
+    cells[at + 4] = operator;
+    next[used] = heads[base];
+    heads[base] = (used + 1) as u64;
+}
+
+// An action when k elements were read.
+fn do_act(
+    a: u64,
+    k: u64,
+    text: &[u8],
+    elements: &[u64],
+    frames: &mut [u64],
+    cells: &mut [u64],
+    next: &mut [u64],
+    heads: &mut [u64],
+    fp: usize,
+    depth: usize,
+    used: usize,
+) -> Did
+    requires { ⌜ (4 ≤ fp) × (fp + 4 ≤ length (now frames)) × (5 * used + 5 ≤ length (now cells)) × (used < length (now next)) × (used < length (now heads)) × (used < 1000000) × (depth ≤ 32) × (getD (now frames) (fp + 2) 0 ≤ used) ⌝ }
+    ensures { λ r. ⌜ ((s : State) → Held (now (frames .entry)) (now (cells .entry)) (now (next .entry)) (now (heads .entry)) fp used (s .frames) → s .depth ≡ depth → Done r (now (frames .exit)) (now (cells .exit)) (now (next .exit)) (now (heads .exit)) (usedAfter a used) (does (sameName (now (text .entry)) (now (elements .entry))) a k s)) ⌝ }
+{
+    if a == 0 {
+        let p = fp - 4;
+        frames[p] = k;
+        frames[p + 1] = k;
+        frames[p + 2] = used as u64;
+        frames[p + 3] = 0;
+        return Did::Went(Moved { fp: p, depth, used });
+    }
+    if a == 1 {
+        if fp + 8 <= frames.len() {
+            return Did::Went(Moved {
+                fp: fp + 4,
+                depth,
+                used,
+            });
+        }
+        return Did::Went(Moved { fp, depth, used });
+    }
+    if a == 2 {
+        frames[fp + 1] = minus(k, 1);
+        return Did::Went(Moved { fp, depth, used });
+    }
+    if a == 3 {
+        frames[fp + 3] = k;
+        return Did::Went(Moved { fp, depth, used });
+    }
+    if a == 4 {
+        let n = frames[fp + 3];
+        if n == 0 {
+            return Did::Differs;
+        }
+        if alike::same_name(text, elements, (n - 1) as usize, minus(k, 1) as usize) {
+            return Did::Went(Moved { fp, depth, used });
+        }
+        return Did::Differs;
+    }
+    if a == 5 {
+        if depth < 32 {
+            return Did::Went(Moved {
+                fp,
+                depth: depth + 1,
+                used,
+            });
+        }
+        return Did::Deep;
+    }
+    if a == 6 {
+        return Did::Went(Moved {
+            fp,
+            depth: minus(depth as u64, 1) as usize,
+            used,
+        });
+    }
+    let i = frames[fp];
+    let o = frames[fp + 1];
+    let base = frames[fp + 2] as usize;
+    let count = minus(k, i);
+    let rows = (used - base + 1) as u64;
+    put_row(cells, next, heads, used, base, a - 7, i, count, rows, o);
+    Did::Went(Moved {
+        fp,
+        depth,
+        used: used + 1,
+    })
+}
+
+// The machine's turns over the first count elements. The stack grows downwards, and so do the frames, four words to each.
+fn scan(
+    text: &[u8],
+    elements: &[u64],
+    count: usize,
+    cells: &mut [u64],
+    next: &mut [u64],
+    heads: &mut [u64],
+) -> Found
+    requires { ⌜ (3 * count ≤ length (now elements)) × (count ≤ 8192) × (length (now cells) ≡ 51840) × (length (now next) ≡ 10368) × (length (now heads) ≡ 10368) × ((i : ℕ) → getD (now heads) i 0 ≡ 0) ⌝ }
+    ensures { λ r. ⌜ Tells r (now (cells .exit)) (now (next .exit)) (now (heads .exit)) (readingIn (now (text .entry)) (now (elements .entry)) count) ⌝ }
+{
+    let mut stk = [0u64; 2176];
+    stk[2175] = 68;
+    let mut sp: usize = 2175;
+    let mut frames = [0u64; 8708];
+    let mut fp: usize = 8704;
+    let mut depth: usize = 0;
+    let mut used: usize = 0;
+    let mut at: usize = 0;
+    while sp < 2176 {
+        let top = stk[sp];
+        if top < 68 {
+            if count <= at {
+                return Found::Wrong(at);
+            }
+            let t = next_kind(elements, count, at);
+            if top != t {
+                return Found::Wrong(at);
+            }
+            sp += 1;
+            at += 1;
+        } else if top < 148 {
+            let t = next_kind(elements, count, at);
+            let q = tables::pick((top - 68) as usize, t);
+            if q == 0 {
+                return Found::Wrong(at);
+            }
+            let p = (q - 1) as usize;
+            let m = tables::body_len(p);
+            push(&mut stk, sp + 1, p, m);
+            sp = sp + 1 - m;
+        } else {
+            let r = do_act(
+                top - 148,
+                at as u64,
+                text,
+                elements,
+                &mut frames,
+                cells,
+                next,
+                heads,
+                fp,
+                depth,
+                used,
+            );
+            match r {
+                Did::Went(w) => {
+                    fp = w.fp;
+                    depth = w.depth;
+                    used = w.used;
+                    sp += 1;
+                }
+                Did::Differs => {
+                    return Found::Other(minus(at as u64, 1) as usize);
+                }
+                Did::Deep => {
+                    return Found::Over(minus(at as u64, 1) as usize);
+                }
+            }
+        }
+    }
+    if at < count {
+        return Found::Wrong(at);
+    }
+    Found::Whole(used)
+}
+
+// The rows in order: the list of each base, from the first base on.
+fn write_out(cells: &[u64], next: &[u64], heads: &[u64], used: usize, tab: &mut [u64])
+    requires { ⌜ ((rows : List Row) × (Spans (now cells) (now next) (now heads) used 0 rows × (length rows ≡ used))) × (5 * used ≤ length (now tab)) × (5 * used ≤ length (now cells)) × (used ≤ length (now next)) × (used ≤ length (now heads)) × (used ≤ 8192) × ((i : ℕ) → getD (now heads) i 0 ≤ used) ⌝ }
+    ensures { λ _. ⌜ ((rows : List Row) → Spans (now (cells .entry)) (now (next .entry)) (now (heads .entry)) used 0 rows → now (tab .exit) ≡ sets (now (tab .entry)) 0 (wordsOf rows)) ⌝ }
+{
+    let mut base: usize = 0;
+    let mut link: usize = 0;
+    let mut out: usize = 0;
+    while out < used {
+        if link == 0 {
+            link = heads[base] as usize;
+            base += 1;
+        } else {
+            let from = 5 * (link - 1);
+            let to = 5 * out;
+            tab[to] = cells[from];
+            tab[to + 1] = cells[from + 1];
+            tab[to + 2] = cells[from + 2];
+            tab[to + 3] = cells[from + 3];
+            tab[to + 4] = cells[from + 4];
+            link = next[link - 1] as usize;
+            out += 1;
+        }
+    }
+}
+
+// The least of three.
+fn least(a: usize, b: usize, c: usize) -> usize
+    ensures { λ r. ⌜ r ≡ min a (min b c) ⌝ }
+{
+    if a <= b {
+        if a <= c {
+            return a;
+        }
+        return c;
+    }
+    if b <= c {
+        return b;
+    }
+    c
+}
+
+// Elements to a tree: the first count elements, as far as the table has them and 01's sizes go, as a file. The rows go into `tree`, and
+// zeros after them; on a refusal it is all zeros.
+pub fn read_tree(text: &[u8], elements: &[u64], count: usize, tree: &mut [u64]) -> Answer
+    ensures { λ r. ⌜ r ≡ answerOf (length (now (tree .entry))) (readingIn (now (text .entry)) (now (elements .entry)) (elementsIn (now (elements .entry)) count)) ⌝ }
+    ensures { λ _. ⌜ now (tree .exit) ≡ tableOf (length (now (tree .entry))) (readingIn (now (text .entry)) (now (elements .entry)) (elementsIn (now (elements .entry)) count)) ⌝ }
+{
+    lent::clear(tree);
+    let n = least(count, elements.len() / 3, 8192);
+    let mut cells = [0u64; 51840];
+    let mut next = [0u64; 10368];
+    let mut heads = [0u64; 10368];
+    let found = scan(text, elements, n, &mut cells, &mut next, &mut heads);
+    match found {
+        Found::Whole(used) => {
+            if used <= tree.len() / 5 {
+                write_out(&cells, &next, &heads, used, tree);
+                Answer::Tree(used)
+            } else {
+                Answer::TableShort(tree.len() / 5)
+            }
+        }
+        Found::Wrong(k) => Answer::NoFile(k),
+        Found::Other(k) => Answer::NameDiffers(k),
+        Found::Over(k) => Answer::TooDeep(k),
+    }
+}

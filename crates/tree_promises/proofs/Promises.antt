@@ -1,0 +1,183 @@
+-- The promises of the strict reading, each by what is proved of the machine and of any LL(1) grammar. Assumes nothing.
+use Prim.Native.Nat.{ℕ, zero, suc, _+_, _*_, _-_, _/_, _≤_, _<_}
+use mathlib.Core.Path.{_≡_, refl, sym, _∙_, ap, subst}
+use mathlib.Core.Logic.{_↔_, _⊎_, inl, inr}
+use mathlib.Core.Bool.{Bool, true, false}
+use mathlib.Core.List.{List, [], _∷_, _++_}
+use native.Mathlib.Omega.{arith}
+use lib.Dec.{leb}
+use lib.ListN.{length, replicate}
+use borrow.Author.Tests.{le-leb, leb-true, leb-false}
+use Rattle.ll.specs.Actions.{End, read, bad, stopped, spent}
+use Rattle.alike.specs.Alike.{sameName}
+use Rattle.forms.specs.Tree.{Row, State, Refusal, name-differs, too-deep, rowsOf, IsFile, Reading}
+use Rattle.forms.specs.Reading.{Begins}
+use Rattle.forms.specs.Forest.{Forest, Tiled, upFrom}
+use Rattle.forms.proofs.Meaning as meaning
+use Rattle.forms.proofs.Growing.{rows-forest}
+use Rattle.forms.proofs.Opening as opening
+use Rattle.forms.specs.Open.{openAfter, openFrom}
+use Rattle.forms.proofs.Tiling.{rows-tiled}
+use Rattle.forms.proofs.Leaves as order
+use Rattle.tree.specs.Answers.{terminalsOf, readingIn, wordsOf, answerOf, tableOf, pickAnswer, pickWords}
+use Rattle.tree.specs.declared.Answer.{Answer}
+use Rattle.tree.specs.declared.Answer.the-variants.{Tree, NoFile, NameDiffers, TooDeep, TableShort}
+use Rattle.tree.proofs.Lists.{terminals-size}
+use Rattle.tree_promises.specs.Promises.{Elements, File, Answered, Left, Accepts, HasRows, OneTree, FirstWrong, StillBegins, TooManyOpen, NeverTooMany, IsShort, ZerosElse, RowsNest, LeavesInOrder, NoChoice}
+
+clash : {A : Type 0} → _≡_ {A = ℕ} 0 1 → A
+clash z = absurd (omega arith)
+
+-- an answer comes from one end of the reading
+tree-end : (room rows : ℕ) (o : End State Refusal) → answerOf room o ≡ Tree rows → (s : State) × ((o ≡ read s) × (length (rowsOf s) ≡ rows) × (5 * rows ≤ room))
+tree-end room rows (read s) e = go (leb (5 * length (rowsOf s)) room) refl e
+  where
+    go : (b : Bool) → leb (5 * length (rowsOf s)) room ≡ b → pickAnswer b (Tree (length (rowsOf s))) (TableShort (room / 5)) ≡ Tree rows
+        → (t : State) × ((_≡_ {A = End State Refusal} (read s) (read t)) × (length (rowsOf t) ≡ rows) × (5 * rows ≤ room))
+    go true q e = let z : length (rowsOf s) ≡ rows = cc in (s, (refl, z, omega (arith, leb-true (5 * length (rowsOf s)) room q)))
+    go false q e = let z : _≡_ {A = ℕ} 0 1 = cc in clash z
+tree-end room rows (bad k) e = let z : _≡_ {A = ℕ} 0 1 = cc in clash z
+tree-end room rows (stopped k name-differs) e = let z : _≡_ {A = ℕ} 0 1 = cc in clash z
+tree-end room rows (stopped k too-deep) e = let z : _≡_ {A = ℕ} 0 1 = cc in clash z
+tree-end room rows spent e = let z : _≡_ {A = ℕ} 0 1 = cc in clash z
+
+answer-read : (room : ℕ) (s : State) → 5 * length (rowsOf s) ≤ room → answerOf room (read s) ≡ Tree (length (rowsOf s))
+answer-read room s l = ap (λ (b : Bool). pickAnswer b (Tree (length (rowsOf s))) (TableShort (room / 5))) (le-leb (5 * length (rowsOf s)) room l)
+
+pub accepts : Accepts
+accepts text table n room rows = (
+  (λ e.
+      let t = tree-end room rows (readingIn text table n) e in
+      (t .0, (meaning.reads-files (sameName text table) (Elements table n) (t .0) .0 (t .1 .0), t .1 .1, t .1 .2))),
+  λ f.
+      let r : readingIn text table n ≡ read (f .0) = meaning.reads-files (sameName text table) (Elements table n) (f .0) .1 (f .1 .0) in
+      let l = f .1 .1 in
+      let m = f .1 .2 in
+      ap (answerOf room) r ∙ answer-read room (f .0) (omega arith) ∙ ap Tree l,
+)
+
+pub has-rows : HasRows
+has-rows text table n room s f l =
+    ap (tableOf room) (meaning.reads-files (sameName text table) (Elements table n) s .1 f)
+    ∙ ap (λ (b : Bool). pickWords b (wordsOf (rowsOf s) ++ replicate (room - 5 * length (rowsOf s)) 0) (replicate room 0)) (le-leb (5 * length (rowsOf s)) room l)
+
+pub one-tree : OneTree
+one-tree text table n s t p q = meaning.one-reading (sameName text table) (Elements table n) s t p q
+
+wrong-end : (room k : ℕ) (o : End State Refusal) → (o ≡ spent → ⊥) → answerOf room o ≡ NoFile k → o ≡ bad k
+wrong-end room k (read s) d e = go (leb (5 * length (rowsOf s)) room) e
+  where
+    go : (b : Bool) → pickAnswer b (Tree (length (rowsOf s))) (TableShort (room / 5)) ≡ NoFile k → _≡_ {A = End State Refusal} (read s) (bad k)
+    go true e = let z : _≡_ {A = ℕ} 0 1 = cc in clash z
+    go false e = let z : _≡_ {A = ℕ} 0 1 = cc in clash z
+wrong-end room k (bad j) d e = let z : j ≡ k = cc in ap bad z
+wrong-end room k (stopped j name-differs) d e = let z : _≡_ {A = ℕ} 0 1 = cc in clash z
+wrong-end room k (stopped j too-deep) d e = let z : _≡_ {A = ℕ} 0 1 = cc in clash z
+wrong-end room k spent d e = absurd (d refl)
+
+pub first-wrong : FirstWrong
+first-wrong text table n room k e =
+    let alike = sameName text table in
+    let w = Elements table n in
+    let size = terminals-size n table in
+    let f = meaning.first-wrong alike w k (wrong-end room k (readingIn text table n) (meaning.always-answers alike w) e) in (
+      omega (arith, f .0),
+      f .1,
+      (λ l. f .2 (omega arith)),
+      meaning.no-file alike w k (wrong-end room k (readingIn text table n) (meaning.always-answers alike w) e),
+    )
+
+stop-end : (room k : ℕ) (o : End State Refusal) → (answerOf room o ≡ NameDiffers k) ⊎ (answerOf room o ≡ TooDeep k) → (j : ℕ) × ((r : Refusal) × ((o ≡ stopped j r) × (k ≡ j - 1)))
+stop-end room k (read s) (inl e) = go (leb (5 * length (rowsOf s)) room) e
+  where
+    go : (b : Bool) → pickAnswer b (Tree (length (rowsOf s))) (TableShort (room / 5)) ≡ NameDiffers k → (j : ℕ) × ((r : Refusal) × ((_≡_ {A = End State Refusal} (read s) (stopped j r)) × (k ≡ j - 1)))
+    go true e = let z : _≡_ {A = ℕ} 0 1 = cc in clash z
+    go false e = let z : _≡_ {A = ℕ} 0 1 = cc in clash z
+stop-end room k (read s) (inr e) = go (leb (5 * length (rowsOf s)) room) e
+  where
+    go : (b : Bool) → pickAnswer b (Tree (length (rowsOf s))) (TableShort (room / 5)) ≡ TooDeep k → (j : ℕ) × ((r : Refusal) × ((_≡_ {A = End State Refusal} (read s) (stopped j r)) × (k ≡ j - 1)))
+    go true e = let z : _≡_ {A = ℕ} 0 1 = cc in clash z
+    go false e = let z : _≡_ {A = ℕ} 0 1 = cc in clash z
+stop-end room k (bad j) (inl e) = let z : _≡_ {A = ℕ} 0 1 = cc in clash z
+stop-end room k (bad j) (inr e) = let z : _≡_ {A = ℕ} 0 1 = cc in clash z
+stop-end room k (stopped j name-differs) (inl e) = let z : k ≡ j - 1 = cc in (j, (name-differs, (refl, z)))
+stop-end room k (stopped j name-differs) (inr e) = let z : _≡_ {A = ℕ} 0 1 = cc in clash z
+stop-end room k (stopped j too-deep) (inl e) = let z : _≡_ {A = ℕ} 0 1 = cc in clash z
+stop-end room k (stopped j too-deep) (inr e) = let z : k ≡ j - 1 = cc in (j, (too-deep, (refl, z)))
+stop-end room k spent (inl e) = let z : _≡_ {A = ℕ} 0 1 = cc in clash z
+stop-end room k spent (inr e) = let z : _≡_ {A = ℕ} 0 1 = cc in clash z
+
+pub still-begins : StillBegins
+still-begins text table n room k e =
+    let t = stop-end room k (readingIn text table n) e in
+    (t .0, (t .1 .1 .1, meaning.still-begins (sameName text table) (Elements table n) (t .0) (t .1 .0) (t .1 .1 .0)))
+
+deep-end : (room k : ℕ) (o : End State Refusal) → answerOf room o ≡ TooDeep k → (j : ℕ) × ((o ≡ stopped j too-deep) × (k ≡ j - 1))
+deep-end room k (read s) e = go (leb (5 * length (rowsOf s)) room) e
+  where
+    go : (b : Bool) → pickAnswer b (Tree (length (rowsOf s))) (TableShort (room / 5)) ≡ TooDeep k → (j : ℕ) × ((_≡_ {A = End State Refusal} (read s) (stopped j too-deep)) × (k ≡ j - 1))
+    go true e = let z : _≡_ {A = ℕ} 0 1 = cc in clash z
+    go false e = let z : _≡_ {A = ℕ} 0 1 = cc in clash z
+deep-end room k (bad j) e = let z : _≡_ {A = ℕ} 0 1 = cc in clash z
+deep-end room k (stopped j name-differs) e = let z : _≡_ {A = ℕ} 0 1 = cc in clash z
+deep-end room k (stopped j too-deep) e = let z : k ≡ j - 1 = cc in (j, (refl, z))
+deep-end room k spent e = let z : _≡_ {A = ℕ} 0 1 = cc in clash z
+
+placed : (w : List ℕ) (j k : ℕ) → k ≡ j - 1 → openAfter w j ≡ 33 → ((i : ℕ) → i < j → openAfter w i ≤ 32) → (openAfter w (suc k) ≡ 33) × ((i : ℕ) → i ≤ k → openAfter w i ≤ 32)
+unfolding openFrom
+placed w zero k e o l = absurd (omega arith)
+placed w (suc j) k e o l =
+    let z : suc j ≡ suc k = omega arith in
+    (subst (λ (x : ℕ). openAfter w x ≡ 33) z o, λ i m. l i (omega arith))
+
+pub too-many-open : TooManyOpen
+too-many-open text table n room k e =
+    let t = deep-end room k (readingIn text table n) e in
+    let r = opening.too-deep-at (sameName text table) (Elements table n) (t .0) (t .1 .0) in
+    placed (Elements table n) (t .0) k (t .1 .1) (r .0) (r .1)
+
+pub never-too-many : NeverTooMany
+never-too-many text table n s f i = opening.never-deep (sameName text table) (Elements table n) s f i
+
+short-end : (room k : ℕ) (o : End State Refusal) → answerOf room o ≡ TableShort k → (k ≡ room / 5) × ((s : State) × ((o ≡ read s) × (room < 5 * length (rowsOf s))))
+short-end room k (read s) e = go (leb (5 * length (rowsOf s)) room) refl e
+  where
+    go : (b : Bool) → leb (5 * length (rowsOf s)) room ≡ b → pickAnswer b (Tree (length (rowsOf s))) (TableShort (room / 5)) ≡ TableShort k
+        → (k ≡ room / 5) × ((t : State) × ((_≡_ {A = End State Refusal} (read s) (read t)) × (room < 5 * length (rowsOf t))))
+    go true q e = let z : _≡_ {A = ℕ} 0 1 = cc in clash z
+    go false q e = let z : k ≡ room / 5 = cc in (z, (s, (refl, leb-false (5 * length (rowsOf s)) room q)))
+short-end room k (bad j) e = let z : _≡_ {A = ℕ} 0 1 = cc in clash z
+short-end room k (stopped j name-differs) e = let z : _≡_ {A = ℕ} 0 1 = cc in clash z
+short-end room k (stopped j too-deep) e = let z : _≡_ {A = ℕ} 0 1 = cc in clash z
+short-end room k spent e = let z : _≡_ {A = ℕ} 0 1 = cc in clash z
+
+pub is-short : IsShort
+is-short text table n room k e =
+    let t = short-end room k (readingIn text table n) e in
+    (t .0, (t .1 .0, (meaning.reads-files (sameName text table) (Elements table n) (t .1 .0) .0 (t .1 .1 .0), t .1 .1 .1)))
+
+zeros-end : (room : ℕ) (o : End State Refusal) → ((rows : ℕ) → answerOf room o ≡ Tree rows → ⊥) → tableOf room o ≡ replicate room 0
+zeros-end room (read s) d = go (leb (5 * length (rowsOf s)) room) d
+  where
+    go : (b : Bool) → ((rows : ℕ) → pickAnswer b (Tree (length (rowsOf s))) (TableShort (room / 5)) ≡ Tree rows → ⊥)
+        → pickWords b (wordsOf (rowsOf s) ++ replicate (room - 5 * length (rowsOf s)) 0) (replicate room 0) ≡ replicate room 0
+    go true d = absurd (d (length (rowsOf s)) refl)
+    go false d = refl
+zeros-end room (bad k) d = refl
+zeros-end room (stopped k r) d = refl
+zeros-end room spent d = refl
+
+pub zeros-else : ZerosElse
+zeros-else text table n room d = zeros-end room (readingIn text table n) d
+
+pub rows-nest : RowsNest
+rows-nest text table n s f = subst (λ (x : ℕ). Forest 0 x (rowsOf s)) (terminals-size n table) (rows-forest (sameName text table) (Elements table n) s f)
+
+pub leaves-in-order : LeavesInOrder
+leaves-in-order text table n s f =
+    let t : Tiled 0 n (rowsOf s) = subst (λ (x : ℕ). Tiled 0 x (rowsOf s)) (terminals-size n table) (rows-tiled (sameName text table) (Elements table n) s f) in
+    let z : n - 0 ≡ n = omega arith in
+    (t, order.leaves-in-order 0 t ∙ ap (upFrom 0) z)
+
+pub no-choice : NoChoice
+no-choice text table n room r r′ tree tree′ p q p′ q′ = (p ∙ sym p′, q ∙ sym q′)

@@ -1,0 +1,1 @@
+// What the strict reading promises: theorems alone, no code.
