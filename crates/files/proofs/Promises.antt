@@ -75,6 +75,7 @@ accepted-file text table n tw rows v a p e = go a (sym (file-by text table n tw 
   where
     clash : {X : Type 0} → _≡_ {A = ℕ} 0 1 → X
     clash z = absurd (omega arith)
+
     go : (a : Answer) → byAnswer a (treeTable text table n tw) ≡ Read rows v → (a ≡ A.Tree rows) × (v ≡ verdictOf (treeTable text table n tw) rows)
     go (A.Tree k) q = let z : k ≡ rows = cc in (ap A.Tree z, let w : verdictOf (treeTable text table n tw) k ≡ v = cc in sym w ∙ ap (verdictOf (treeTable text table n tw)) z)
     go (A.NoFile k) q = let z : _≡_ {A = ℕ} 0 1 = cc in clash z
@@ -95,6 +96,7 @@ accepted text ew tw rows v = (there (readingOf text ew) refl, back)
         let f = accepted-all text (tableOf text ew) (n .0) tw rows v (unreadableFrom 0 (n .0) (tableOf text ew)) refl (sym (strict-by text ew tw (R.Read n) o) ∙ e) in
         let g = accepted-file text (tableOf text ew) (n .0) tw rows v (answerOf tw (readingIn text (tableOf text ew) (elementsIn (tableOf text ew) (n .0)))) refl (f .1) in
         (n, (o, f .0, g .0, g .1))
+
     back : (n : ElementNumber) × ((readingOf text ew ≡ R.Read n) × (unreadableFrom 0 (n .0) (tableOf text ew) ≡ U.Nothing) × (answerOf tw (readingIn text (tableOf text ew) (elementsIn (tableOf text ew) (n .0))) ≡ A.Tree rows) × (v ≡ verdictOf (treeTable text (tableOf text ew) (n .0) tw) rows)) → strictOf text ew tw ≡ Read rows v
     back h =
         strict-by text ew tw (R.Read (h .0)) (h .1 .0)
