@@ -9,7 +9,7 @@ use native.Mathlib.Omega.{arith}
 use borrow.Author.Tests.{eq-eqb, ne-eqb, lt-ltb, le-leb, leb-true, leb-false, not-true, not-false}
 use lib.Dec.{leb}
 use lib.ListN.{length, take, drop, getD, length-drop, drop-of-length-le, List·getD-eq-default}
-use lib.Seq.{drop-cons, take-all}
+use lib.Seq.{take-all}
 use Rattle.classes.specs.Bytes.{within, isLetter, isDigit, digitValue}
 use Rattle.classes.specs.Runs.{count, run, inRun, goesOn}
 use Rattle.classes.specs.declared.Run.{Run}

@@ -1,15 +1,14 @@
 -- The ways of the definitions of `Element`, in the code's terms: each premise is what a call, a test or a match gives. Assumes nothing.
-use mathlib.Core.Path.{_≡_, refl, sym, ap, _∙_}
-use mathlib.Core.Bool.{Bool, true, false, not, _&&_, _||_}
+use mathlib.Core.Path.{_≡_, refl, sym, _∙_}
+use mathlib.Core.Bool.{Bool, true, false, _&&_, _||_}
 use mathlib.Core.List.{List, [], _∷_}
-use Prim.Native.Nat.{ℕ, zero, suc, _+_, _-_, _^_, _≤_, _<_}
+use Prim.Native.Nat.{ℕ, _+_, _-_, _^_, _≤_, _<_}
 use native.Mathlib.Omega.{arith}
 use borrow.Author.Tests.{eq-eqb, ne-eqb, lt-ltb, le-ltb}
 use mir.Val.{Fits}
 use mir.Syntax.{w8, w64}
 use lib.Dec.{eqb}
 use lib.ListN.{length, take, drop, getD, length-drop}
-use lib.Seq.{length-take-le}
 use Rattle.classes.specs.Bytes.{separates, isLetter, isDigit, isGraphic}
 use Rattle.classes.specs.Runs.{run}
 use Rattle.classes.specs.declared.Run.the-variants.{Word}
@@ -25,7 +24,7 @@ use Rattle.quoted.proofs.Laws.{closed-in}
 use Rattle.quoted.specs.Quoted.{closedFrom}
 use Rattle.quoted.specs.declared.Closed.{Closed}
 use Rattle.quoted.specs.declared.Closed.the-variants.{After, Never}
-use Rattle.elements.specs.Element.{unreadable, identifier, word, extended, extendedBy, followsNone, numeral, numeralBy, string, stringBy, apostrophe, single, delimiter, delimiterBy, other, opensOf, elementAt, elementBy}
+use Rattle.elements.specs.Element.{unreadable, identifier, word, extended, extendedBy, followsNone, numeral, numeralBy, string, stringBy, apostrophe, single, delimiter, other, opensOf, elementAt, elementBy}
 use Rattle.elements.specs.declared.Kind.{Kind}
 use Rattle.elements.specs.declared.Literal.{Literal}
 use Rattle.elements.specs.declared.Opens.{Opens}

@@ -1,8 +1,8 @@
 -- What is passed over is a separator, one byte, or a comment, the whole rest of the line. Assumes nothing.
 use mathlib.Core.Path.{_≡_, refl}
-use mathlib.Core.Bool.{Bool, true, false, cond, not, _&&_, _||_}
+use mathlib.Core.Bool.{Bool, true, not, _&&_, _||_}
 use mathlib.Core.Logic.{_⊎_, inl, inr}
-use mathlib.Core.List.{List, [], _∷_}
+use mathlib.Core.List.{List}
 use Prim.Native.Nat.{ℕ, _+_}
 use borrow.Author.Tests.{eqb-true}
 use lib.Dec.{eqb, ltb}

@@ -1,1 +1,2 @@
 pub mod Strict
+pub mod Promises

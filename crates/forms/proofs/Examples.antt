@@ -1,7 +1,7 @@
 -- Worked examples: short files and their rows, and each refusal once, computed by the definitions. Assumes nothing.
 use Prim.Native.Nat.{ℕ}
 use mathlib.Core.Path.{_≡_, refl}
-use mathlib.Core.Bool.{Bool, true, false}
+use mathlib.Core.Bool.{true, false}
 use mathlib.Core.List.{List, [], _∷_}
 use Rattle.ll.specs.Grammar.{Sym}
 use Rattle.ll.specs.Actions.{End, read, bad, stopped, spent, runs}

@@ -1,9 +1,8 @@
 -- The leaves of trees that stand one after the other are the elements in order, each once. Assumes nothing.
 use Prim.Native.Nat.{ℕ, zero, suc, _+_, _-_, _≤_}
-use mathlib.Core.Path.{_≡_, refl, sym, _∙_, ap, ap₂, subst}
+use mathlib.Core.Path.{_≡_, refl, sym, _∙_, ap, ap₂}
 use mathlib.Core.List.{List, [], _∷_, _++_}
 use native.Mathlib.Omega.{arith}
-use lib.ListN.{length}
 use Rattle.forms.specs.Tree.{Row}
 use Rattle.forms.specs.Forest.{Forest, bare, tree, Tiled, none, unit, upFrom, hung, leavesIn, leaves, elementsOf}
 use Rattle.forms.proofs.Growing.{forest-le}

@@ -1,24 +1,24 @@
 -- What the machine's answers mean by the forms alone. Each follows from the theory of any LL(1) grammar and the computed tests.
 -- Assumes nothing.
-use Prim.Native.Nat.{ℕ, zero, suc, _+_, _*_, _-_, _≤_, _<_}
+use Prim.Native.Nat.{ℕ, suc, _≤_, _<_}
 use mathlib.Core.Path.{_≡_, refl, sym, _∙_, ap, subst}
-use mathlib.Core.Logic.{_⊎_, inl, inr, ⊎-elim, _↔_}
+use mathlib.Core.Logic.{inl, inr, ⊎-elim}
 use mathlib.Core.List.{List, [], _∷_, _++_, append-assoc}
-use mathlib.Core.Bool.{Bool, true, false}
+use mathlib.Core.Bool.{Bool}
 use native.Mathlib.Omega.{arith}
 use lib.Dec.{T, lit<}
 use lib.ListN.{length, take, drop, take-append-drop}
 use lib.Seq.{take-take}
-use Rattle.ll.specs.Grammar.{Sym, nt, Gen, Out, good, run}
+use Rattle.ll.specs.Grammar.{Out, good, run}
 use Rattle.ll.specs.Grammar as plain
-use Rattle.ll.specs.Actions.{End, read, bad, stopped, spent, runs}
+use Rattle.ll.specs.Actions.{End, bad, stopped, spent}
 use Rattle.ll.proofs.Theory as theory
 use Rattle.ll.proofs.Budget as budget
 use Rattle.ll.proofs.Acting as acting
 use Rattle.forms.specs.Names.{file}
 use Rattle.forms.specs.Rules.{forms, body}
 use Rattle.forms.specs.Picks.{predict}
-use Rattle.forms.specs.Tree.{State, Refusal, does, start, IsFile, Reading}
+use Rattle.forms.specs.Tree.{State, Refusal, does, start, IsFile}
 use Rattle.forms.specs.Reading.{steps, readingOf, Begins, ReadsFiles, OneReading, FirstWrong, StillBegins, AlwaysAnswers}
 use Rattle.forms.proofs.Tests.{tables, forms-ll, weight, leads, steps-paid}
 

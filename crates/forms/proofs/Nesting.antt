@@ -1,6 +1,6 @@
 -- What an action leaves of the nesting: frames close only what was opened, and so do parentheses, branches, loops, processes and
 -- blocks; a whole reading leaves the file's own frame alone. Assumes nothing.
-use Prim.Native.Nat.{ℕ, zero, suc, _+_, _*_, _-_, _≤_, _<_}
+use Prim.Native.Nat.{ℕ, zero, suc, _+_, _-_, _≤_, _<_}
 use mathlib.Core.Path.{_≡_, refl, sym as flip, _∙_, ap, subst}
 use mathlib.Core.Bool.{Bool, true, false}
 use mathlib.Core.List.{List, [], _∷_, _++_}
@@ -10,7 +10,7 @@ use lib.Dec.{ltb}
 use lib.ListN.{length}
 use borrow.Author.Tests.{ltb-true}
 use Rattle.ll.specs.Grammar.{Sym, tok, nt, act}
-use Rattle.ll.specs.Actions.{Step, go, stop, Reads, done, eat, acts, grow}
+use Rattle.ll.specs.Actions.{go, stop, Reads, done, eat, acts, grow}
 use Rattle.ll.proofs.Room as room
 use Rattle.forms.specs.Names.{file}
 use Rattle.forms.specs.Rules.{forms, body}

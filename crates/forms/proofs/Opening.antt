@@ -10,9 +10,9 @@ use lib.Dec.{T, eqb, ltb, eqb→eq}
 use lib.ListN.{length, getD}
 use borrow.Author.Tests.{eq-eqb, eqb-true, ne-eqb, ltb-true, ltb-false}
 use Rattle.ll.specs.Grammar.{Sym, tok, nt, act, look}
-use Rattle.ll.specs.Actions.{Step, go, stop, Reads, done, eat, acts, grow, End, read, bad, stopped, spent, pickEnd, chooseEnd, goOn, runs}
+use Rattle.ll.specs.Actions.{Step, go, stop, Reads, done, eat, acts, grow, End, bad, stopped, pickEnd, chooseEnd, goOn, runs}
 use Rattle.ll.proofs.Theory.{mem, keep, nullb, and-left, and-right, and-both, or-left, or-cases, mem-append, mem-left, mem-right, mem-keep, keep-mem}
-use Rattle.ll.proofs.Check.{below, below-at, every, every-at}
+use Rattle.ll.proofs.Check.{below-at, every, every-at}
 use Rattle.forms.specs.Names.{file}
 use Rattle.forms.specs.Rules.{forms, body}
 use Rattle.forms.specs.Picks.{predict}

@@ -1,15 +1,15 @@
 -- The computed tests: the grammar of files is LL(1), its steps are paid for, its stack stays low, it nests, and it has fewer rows than
 -- elements. All else follows from these by the theory of any such grammar. Assumes nothing.
-use Prim.Native.Nat.{ℕ, zero, suc, _+_, _*_, _≤_, _<_}
-use mathlib.Core.Path.{_≡_, refl}
-use mathlib.Core.List.{List, [], _∷_}
-use mathlib.Core.Bool.{Bool, true, false}
+use Prim.Native.Nat.{ℕ, suc, _+_, _≤_, _<_}
+use mathlib.Core.Path.{refl}
+use mathlib.Core.List.{[]}
+use mathlib.Core.Bool.{Bool, false}
 use native.Mathlib.Omega.{arith}
 use lib.Dec.{T, leb, leb→le}
 use lib.ListN.{getD}
 use Rattle.ll.specs.Grammar.{run}
 use Rattle.ll.proofs.Theory.{Tables, LL}
-use Rattle.ll.proofs.Check.{below, below-at, ll}
+use Rattle.ll.proofs.Check.{below-at, ll}
 use Rattle.ll.proofs.Budget.{Paid, paid}
 use Rattle.ll.proofs.Room.{nested, near, part, parts}
 use Rattle.ll.proofs.Spare.{spares, credit, debit}

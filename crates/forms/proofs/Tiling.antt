@@ -7,16 +7,16 @@ use mathlib.Core.List.{List, [], _∷_, _++_, append-assoc, append-nil}
 use native.Mathlib.Omega.{arith}
 use lib.Dec.{T, eqb, ltb, leb, eqb→eq, leb→le}
 use lib.ListN.{length}
-use borrow.Author.Tests.{eq-eqb, ne-eqb, le-leb, lt-leb}
+use borrow.Author.Tests.{eq-eqb, ne-eqb, le-leb}
 use Rattle.ll.specs.Grammar.{Sym, tok, nt, act}
-use Rattle.ll.specs.Actions.{Step, go, stop, Reads, done, eat, acts, grow}
+use Rattle.ll.specs.Actions.{go, stop, Reads, done, eat, acts, grow}
 use Rattle.ll.proofs.Theory.{mem, and-left, and-right}
-use Rattle.ll.proofs.Check.{below, below-at, imp, imp-at}
+use Rattle.ll.proofs.Check.{below-at, imp, imp-at}
 use Rattle.ll.proofs.Room.{pickT, pickB, nested, nest-down}
 use Rattle.forms.specs.Names.{file, units, unit, package-unit, entity-unit, architecture-unit}
 use Rattle.forms.specs.Rules.{forms, body}
-use Rattle.forms.specs.Tree.{Row, Frame, State, Refusal, name-differs, too-deep, fresh, top, onTop, joined, marked, named, rowOf, rowed, pickStep, does, start, isNamed, rowsOf, Reading}
-use Rattle.forms.specs.Forest.{Forest, bare, tree, Tiled, none, upFrom, hung, leavesIn, leaves, elementsOf}
+use Rattle.forms.specs.Tree.{Row, Frame, State, Refusal, name-differs, too-deep, fresh, top, onTop, joined, marked, named, rowOf, rowed, pickStep, does, isNamed, rowsOf, Reading}
+use Rattle.forms.specs.Forest.{Forest, bare, Tiled, none}
 use Rattle.forms.specs.Forest as forest
 use Rattle.forms.proofs.Tests as tests
 use Rattle.forms.proofs.Nesting.{top-size, joined-less, one-frame, Nested, nested-eat, nested-act, nested-grow, nested-start}

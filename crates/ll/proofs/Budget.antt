@@ -1,13 +1,13 @@
 -- The machine's steps are bounded: each element pays for `pace` of them, and what is left to read has a cost that every step lowers.
 -- A grammar gives two hint tables, and two computed tests to a rule and a name say that they serve. Assumes nothing.
 use Prim.Native.Nat.{ℕ, zero, suc, _+_, _-_, _*_, _≤_, _<_}
-use mathlib.Core.Path.{_≡_, refl, sym, _∙_, ap, subst}
+use mathlib.Core.Path.{_≡_, refl, subst}
 use mathlib.Core.List.{List, [], _∷_, _++_}
 use mathlib.Core.Bool.{Bool, true, false}
 use native.Mathlib.Omega.{arith}
 use lib.Dec.{T, eqb, leb, leb→le}
 use lib.ListN.{length}
-use Rattle.ll.specs.Grammar.{Sym, tok, nt, act, Grammar, look, Out, good, bad, spent, pickOut, choose, run}
+use Rattle.ll.specs.Grammar.{Sym, tok, nt, act, Grammar, look, Out, bad, spent, pickOut, choose, run}
 use Rattle.ll.proofs.Theory.{Tables, LL}
 use Rattle.ll.proofs.Check.{below, below-at}
 

@@ -1,14 +1,14 @@
 -- The tests of `LL` as one Boolean that antt computes, and `LL` from it. Assumes nothing.
-use Prim.Native.Nat.{ℕ, zero, suc, _+_, _*_, _≤_, _<_}
-use mathlib.Core.Path.{_≡_, refl, sym, _∙_, ap, subst}
-use mathlib.Core.Logic.{_⊎_, inl, inr, ⊎-elim}
-use mathlib.Core.List.{List, [], _∷_, _++_}
-use mathlib.Core.Bool.{Bool, true, false, _||_, _&&_, not}
+use Prim.Native.Nat.{ℕ, zero, suc, _+_, _<_}
+use mathlib.Core.Path.{_≡_, refl, sym, _∙_, subst}
+use mathlib.Core.Logic.{⊎-elim}
+use mathlib.Core.List.{List, [], _∷_}
+use mathlib.Core.Bool.{Bool, true, false, _&&_}
 use native.Mathlib.Omega.{arith}
 use native.Mathlib.Nat.{eq-or-lt-of-le, le-of-suc-le-suc}
 use lib.Dec.{T, eqb, ltb, leb, eqb→eq, leb→le}
 use lib.ListN.{getD}
-use Rattle.ll.specs.Grammar.{Sym, tok, nt, act, Grammar, Gen, look, Out, good, bad, spent, run, predictBy}
+use Rattle.ll.specs.Grammar.{Sym, tok, nt, act, Grammar, Out, good, bad, spent, run, predictBy}
 use Rattle.ll.proofs.Theory.{or-cases, and-left, and-right, mem, inits, nullb, Inside, Tables, LL, sound}
 
 abbrev pub below : ℕ → (ℕ → Bool) → Bool

@@ -1,13 +1,13 @@
 -- How long the machine's stack gets. Two actions open and close something; cut the stack at each closing one that waits. A computed test
 -- to each rule keeps every stretch below 64 symbols, so the stack has room in 64 for each that is open and 127 more. Assumes nothing.
-use Prim.Native.Nat.{ℕ, zero, suc, _+_, _*_, _-_, _≤_, _<_, max}
-use mathlib.Core.Path.{_≡_, refl, sym, ap, subst}
+use Prim.Native.Nat.{ℕ, suc, _+_, _*_, _-_, _≤_, max}
+use mathlib.Core.Path.{_≡_, refl, subst}
 use mathlib.Core.List.{List, [], _∷_, _++_}
 use mathlib.Core.Bool.{Bool, true, false, _&&_}
 use native.Mathlib.Omega.{arith}
 use lib.Dec.{T, eqb, leb, ltb, leb→le, eqb→eq}
 use borrow.Author.Tests.{eqb-true, eq-eqb, ne-eqb}
-use lib.ListN.{length, getD}
+use lib.ListN.{length}
 use Rattle.ll.specs.Grammar.{Sym, tok, nt, act}
 use Rattle.ll.proofs.Theory.{and-left, and-right}
 

@@ -1,6 +1,6 @@
 -- How often actions of one sort can happen: no more often than elements are read, and as what is left to read still promises. A hint
 -- table says how many more a name may do than it reads; a computed test to a rule says that the table serves. Assumes nothing.
-use Prim.Native.Nat.{ℕ, zero, suc, _+_, _≤_}
+use Prim.Native.Nat.{ℕ, suc, _+_, _≤_}
 use mathlib.Core.Path.{_≡_}
 use mathlib.Core.List.{List, [], _∷_, _++_}
 use mathlib.Core.Bool.{Bool, true, false}

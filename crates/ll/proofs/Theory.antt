@@ -1,14 +1,14 @@
 -- For any grammar whose tables pass the tests of `LL`, the machine `run` reads exactly what the grammar generates, and refuses at
 -- the first element that no sentence with the same beginning has. Assumes nothing.
-use Prim.Native.Nat.{ℕ, zero, suc, _+_, _*_, _≤_, _<_}
-use mathlib.Core.Path.{_≡_, refl, sym, _∙_, ap, subst}
-use mathlib.Core.Logic.{_⊎_, inl, inr, ⊎-elim, _↔_}
+use Prim.Native.Nat.{ℕ, zero, suc, _+_, _≤_, _<_}
+use mathlib.Core.Path.{_≡_, refl, sym, _∙_, subst}
+use mathlib.Core.Logic.{_⊎_, inl, inr, ⊎-elim}
 use mathlib.Core.List.{List, [], _∷_, _++_, append-assoc}
 use mathlib.Core.Bool.{Bool, true, false, _||_, _&&_}
 use native.Mathlib.Omega.{arith}
 use lib.Dec.{T, eqb}
-use lib.ListN.{length, take, length-append}
-use borrow.Author.Tests.{eq-eqb, ne-eqb, eqb-true, eqb-false}
+use lib.ListN.{length, take}
+use borrow.Author.Tests.{eq-eqb, eqb-true, eqb-false}
 use Rattle.ll.specs.Grammar.{Sym, tok, nt, act, Grammar, Gen, done, eat, skip, grow, look, Out, good, bad, spent, pickOut, choose, run}
 
 pub or-cases : (a b : Bool) → T (a || b) → T a ⊎ T b

@@ -1,8 +1,8 @@
 -- The ways of the definitions of numbers, in the code's terms: each premise is what a call or a test gives. Assumes nothing.
 use mathlib.Core.Path.{_≡_, refl, sym, ap, _∙_}
-use mathlib.Core.Bool.{Bool, true, false, cond, not, _&&_, _||_}
+use mathlib.Core.Bool.{Bool, true, false, not, _&&_, _||_}
 use mathlib.Core.List.{List, [], _∷_}
-use Prim.Native.Nat.{ℕ, zero, suc, _+_, _-_, _*_, _≤_, _<_, min}
+use Prim.Native.Nat.{ℕ, suc, _+_, _-_, _*_, _≤_, _<_, min}
 use native.Mathlib.Numerals.{add-one}
 use native.Mathlib.Omega.{arith}
 use borrow.Author.Tests.{eq-eqb, ne-eqb, eqb-true, not-true, not-false, le-leb, lt-leb}
@@ -12,7 +12,7 @@ use lib.Seq.{drop-cons, length-take-le}
 use Rattle.classes.specs.Bytes.{within, lower, isDigit, digitValue}
 use Rattle.classes.specs.Runs.{run, inRun}
 use Rattle.classes.specs.declared.Run.the-variants.{Below}
-use Rattle.classes.proofs.Laws.{part-rest, run-le, byte-inside, digit-inside, digit-value-le, by-test, and-right, run-some, digit-in-ten}
+use Rattle.classes.proofs.Laws.{part-rest, run-le, byte-inside, digit-inside, by-test, and-right, run-some, digit-in-ten}
 use Rattle.numbers.specs.Numbers.{digits, digitOn, valueFrom, baseOf, exponentHead, exponent, belowBase, integerPast, based, pointed, number}
 use Rattle.numbers.specs.declared.Number.{Number}
 use Rattle.numbers.specs.declared.Number.the-variants.{Integer, Real, Neither}

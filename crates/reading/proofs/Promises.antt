@@ -1,16 +1,16 @@
 -- The promises of the element reader, proved. Assumes nothing.
 use mathlib.Core.Path.{_≡_, refl, sym, ap, _∙_}
-use mathlib.Core.Bool.{Bool, true, false, cond, not, _&&_, _||_}
-use mathlib.Core.Logic.{_⊎_, inl, inr, ⊎-elim}
+use mathlib.Core.Bool.{Bool, true, false}
+use mathlib.Core.Logic.{⊎-elim}
 use mathlib.Core.List.{List, [], _∷_, _++_, append-nil, append-assoc}
-use Prim.Native.Nat.{ℕ, zero, suc, pred, _+_, _≤_, _<_, zero-le, suc-le-suc}
+use Prim.Native.Nat.{ℕ, zero, suc, pred, _+_, _≤_, zero-le, suc-le-suc}
 use native.Mathlib.Nat.{not-suc-le-zero, le-of-suc-le-suc, add-zero, zero-add, add-suc, suc-add, add-assoc, le-refl}
 use native.Mathlib.Numerals.{add-one}
 use native.Mathlib.Omega.{arith}
 use borrow.Author.Tests.{ltb-true, ltb-false}
 use lib.Dec.{ltb}
 use lib.ListN.{length, take, drop, getD, take-append-drop, length-append, length-drop, drop-of-length-le}
-use lib.Seq.{length-take-le, drop-cons, take-all, drop-length}
+use lib.Seq.{length-take-le, drop-cons}
 use Rattle.classes.specs.Bytes.{endsLine, separates}
 use Rattle.classes.specs.Runs.{count}
 use Rattle.classes.proofs.Laws.{count-le}
@@ -20,12 +20,12 @@ use Rattle.elements.specs.declared.Kind.{Kind}
 use Rattle.elements.specs.declared.Found.{Found}
 use Rattle.elements.specs.declared.Found.the-variants.{Skip, Element}
 use Rattle.elements.proofs.Sizes.{element-good}
-use Rattle.elements.proofs.Skips.{SkipIs, skip-is}
+use Rattle.elements.proofs.Skips.{skip-is}
 use Rattle.reading.specs.Rows.{Row, onto, linesOf, lineRows, linesRows, rowsOf}
 use Rattle.reading.specs.Lines.{inLine}
 use Rattle.reading.specs.Promises.{NoChoice, Inside, Ended, Laid, nothing, line-end, separator, comment, element, NothingLost, InOrder, StandInOrder, moved, LinesApart, LineAlone}
 use Rattle.reading.proofs.LineLaws.{front-skip, front-element}
-use Rattle.reading.proofs.TextLaws.{count-ended, count-byte, lines-ended, lines-byte, lines-last, lines-none, text-first}
+use Rattle.reading.proofs.TextLaws.{count-ended, count-byte, lines-ended, lines-byte, lines-none, text-first}
 
 pub no-choice : NoChoice
 no-choice s words r r′ t t′ p q p′ q′ = (cc, cc)

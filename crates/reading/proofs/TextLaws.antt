@@ -1,18 +1,18 @@
 -- The rows of a text: those of its first line, then those of the lines behind it. Assumes nothing.
-use mathlib.Core.Path.{_≡_, refl, sym, ap, _∙_}
-use mathlib.Core.Bool.{Bool, true, false, not}
-use mathlib.Core.List.{List, [], _∷_, _++_, append-nil}
-use Prim.Native.Nat.{ℕ, zero, suc, _+_, _≤_, _<_, zero-le, suc-le-suc}
-use native.Mathlib.Nat.{not-suc-le-zero, le-of-suc-le-suc}
+use mathlib.Core.Path.{_≡_, refl, ap, _∙_}
+use mathlib.Core.Bool.{Bool, true, false}
+use mathlib.Core.List.{List, [], _∷_, _++_}
+use Prim.Native.Nat.{ℕ, suc, _+_, _≤_, _<_}
+use native.Mathlib.Nat.{not-suc-le-zero}
 use native.Mathlib.Omega.{arith}
-use lib.ListN.{length, take, drop, getD, drop-of-length-le}
+use lib.ListN.{length, take, drop, drop-of-length-le}
 use lib.Seq.{length-take-le, take-all}
 use lib.Dec.{ltb}
 use borrow.Author.Tests.{ltb-true, ltb-false}
 use Rattle.classes.specs.Bytes.{endsLine}
 use Rattle.classes.specs.Runs.{count}
-use Rattle.classes.proofs.Laws.{count-more, count-none, count-le}
-use Rattle.reading.specs.Rows.{Row, onto, linesOf, lineRows, linesRows}
+use Rattle.classes.proofs.Laws.{count-more, count-none}
+use Rattle.reading.specs.Rows.{onto, linesOf, lineRows, linesRows}
 use Rattle.reading.specs.Lines.{inLine}
 
 module _ (b : ℕ) (s : List ℕ) where

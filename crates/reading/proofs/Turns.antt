@@ -1,9 +1,9 @@
 -- The turns of the loops over lines and their elements, in the code's terms: each premise is what the invariant, the loop's test, a call or
 -- the match gives. Assumes nothing.
-use mathlib.Core.Path.{_≡_, refl, sym, ap, _∙_}
+use mathlib.Core.Path.{_≡_, sym, ap, _∙_}
 use mathlib.Core.Bool.{Bool, true, false, not}
-use mathlib.Core.List.{List, [], _∷_, _++_}
-use Prim.Native.Nat.{ℕ, suc, _+_, _-_, _^_, _≤_, _<_}
+use mathlib.Core.List.{List, [], _++_}
+use Prim.Native.Nat.{ℕ, _+_, _-_, _^_, _≤_, _<_}
 use native.Mathlib.Numerals.{add-one}
 use native.Mathlib.Nat.{add-zero, add-suc, add-sub-cancel-left}
 use native.Mathlib.Omega.{arith}
@@ -13,14 +13,14 @@ use lib.ListN.{length, take, drop, getD, length-append, length-drop, drop-of-len
 use lib.Seq.{getD-drop, drop-drop, length-take-le}
 use Rattle.classes.specs.Bytes.{endsLine}
 use Rattle.classes.specs.Runs.{count}
-use Rattle.classes.proofs.Laws.{count-on, count-stop, count-end, count-le, part-rest}
+use Rattle.classes.proofs.Laws.{count-on, count-stop, count-le, part-rest}
 use Rattle.elements.specs.Kinds.{ticksAfter, kindNumber}
 use Rattle.elements.specs.Element.{elementAt}
 use Rattle.elements.specs.declared.Kind.{Kind}
 use Rattle.elements.specs.declared.Found.{Found}
 use Rattle.elements.specs.declared.Found.the-variants.{Skip, Element}
 use Rattle.elements.proofs.Sizes.{sizeOf}
-use Rattle.reading.specs.Rows.{Row, linesOf, lineRows, linesRows, rowsOf}
+use Rattle.reading.specs.Rows.{linesOf, lineRows, linesRows}
 use Rattle.reading.specs.Lines.{inLine}
 use Rattle.reading.specs.Table.{put, puts}
 use Rattle.reading.proofs.LineLaws.{line-skip, line-element, line-end, place-good, line-few}

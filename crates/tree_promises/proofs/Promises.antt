@@ -1,17 +1,16 @@
 -- The promises of the strict reading, each by what is proved of the machine and of any LL(1) grammar. Assumes nothing.
-use Prim.Native.Nat.{ℕ, zero, suc, _+_, _*_, _-_, _/_, _≤_, _<_}
+use Prim.Native.Nat.{ℕ, zero, suc, _*_, _-_, _/_, _≤_, _<_}
 use mathlib.Core.Path.{_≡_, refl, sym, _∙_, ap, subst}
-use mathlib.Core.Logic.{_↔_, _⊎_, inl, inr}
+use mathlib.Core.Logic.{_⊎_, inl, inr}
 use mathlib.Core.Bool.{Bool, true, false}
-use mathlib.Core.List.{List, [], _∷_, _++_}
+use mathlib.Core.List.{List, _++_}
 use native.Mathlib.Omega.{arith}
 use lib.Dec.{leb}
 use lib.ListN.{length, replicate}
 use borrow.Author.Tests.{le-leb, leb-true, leb-false}
 use Rattle.ll.specs.Actions.{End, read, bad, stopped, spent}
 use Rattle.alike.specs.Alike.{sameName}
-use Rattle.forms.specs.Tree.{Row, State, Refusal, name-differs, too-deep, rowsOf, IsFile, Reading}
-use Rattle.forms.specs.Reading.{Begins}
+use Rattle.forms.specs.Tree.{State, Refusal, name-differs, too-deep, rowsOf}
 use Rattle.forms.specs.Forest.{Forest, Tiled, upFrom}
 use Rattle.forms.proofs.Meaning as meaning
 use Rattle.forms.proofs.Growing.{rows-forest}
@@ -19,11 +18,10 @@ use Rattle.forms.proofs.Opening as opening
 use Rattle.forms.specs.Open.{openAfter, openFrom}
 use Rattle.forms.proofs.Tiling.{rows-tiled}
 use Rattle.forms.proofs.Leaves as order
-use Rattle.tree.specs.Answers.{terminalsOf, readingIn, wordsOf, answerOf, tableOf, pickAnswer, pickWords}
-use Rattle.tree.specs.declared.Answer.{Answer}
+use Rattle.tree.specs.Answers.{readingIn, wordsOf, answerOf, tableOf, pickAnswer, pickWords}
 use Rattle.tree.specs.declared.Answer.the-variants.{Tree, NoFile, NameDiffers, TooDeep, TableShort}
 use Rattle.tree.proofs.Lists.{terminals-size}
-use Rattle.tree_promises.specs.Promises.{Elements, File, Answered, Left, Accepts, HasRows, OneTree, FirstWrong, StillBegins, TooManyOpen, NeverTooMany, IsShort, ZerosElse, RowsNest, LeavesInOrder, NoChoice}
+use Rattle.tree_promises.specs.Promises.{Elements, Accepts, HasRows, OneTree, FirstWrong, StillBegins, TooManyOpen, NeverTooMany, IsShort, ZerosElse, RowsNest, LeavesInOrder, NoChoice}
 
 clash : {A : Type 0} → _≡_ {A = ℕ} 0 1 → A
 clash z = absurd (omega arith)

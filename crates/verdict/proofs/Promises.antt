@@ -1,15 +1,13 @@
 -- The verdict's promises, by induction over the forms. Assumes nothing.
-use Prim.Native.Nat.{ℕ, zero, suc, _+_, _*_, _/_, _≤_, _<_, min}
+use Prim.Native.Nat.{ℕ, zero, suc, _+_, _/_, _<_, min}
 use mathlib.Core.Path.{_≡_, refl, sym, _∙_, ap, ap₂, subst}
-use mathlib.Core.Logic.{_↔_}
 use mathlib.Core.Bool.{Bool, true, false}
 use mathlib.Core.List.{List, [], _∷_}
 use native.Mathlib.Omega.{arith}
 use lib.ListN.{length, getD}
-use Rattle.verdict.specs.declared.Verdict.{Verdict}
 use Rattle.verdict.specs.declared.Verdict.the-variants.{Passes, NotSupported}
 use Rattle.verdict.specs.Verdict.{unsupported, pickVerdict, verdictFrom, formsIn, verdictOf}
-use Rattle.verdict.specs.Promises.{formAt, formBefore, Supported, PassesExactly, NamesFirst}
+use Rattle.verdict.specs.Promises.{formAt, formBefore, PassesExactly, NamesFirst}
 use Rattle.verdict.proofs.Laws.{forms-size, forms-get}
 
 clash : {A : Type 0} → _≡_ {A = ℕ} 0 1 → A

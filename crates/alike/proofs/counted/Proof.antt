@@ -1,11 +1,8 @@
 -- A byte of a basic name in lower case, any other as it is. Assumes nothing.
-use Rattle.alike.proofs.Laws.{counts-basic, counts-other}
+use Rattle.alike.proofs.Laws.{counts-basic}
 use borrow.Author.Needs.{needs}
 use Rattle.alike.proofs.counted.Statement.{statement}
 use Rattle.alike.proofs.counted.Tie as tie
-use Rattle.alike.proofs.counted.Reads as reads
-use Rattle.alike.proofs.counted.Lts as lts
-use Rattle.classes.proofs.lower_case.Reads as lower-case-reads
 
 lower-case-requires : tie.Need-lower-case-requires
 lower-case-requires c κs = search needs

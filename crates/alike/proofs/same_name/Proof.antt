@@ -1,7 +1,4 @@
 -- `alike::same_name` meets its contract. By the kind of both elements, as the definition goes. Assumes nothing.
-use mathlib.Core.Path.{_≡_, sym, _∙_, ap}
-use mathlib.Core.Bool.{Bool, true, false}
-use Rattle.alike.specs.Alike.{byKind, spelledSame}
 use Rattle.alike.proofs.Laws.{same-kinds, same-by, by-none}
 use borrow.Author.Needs.{needs}
 use Rattle.alike.proofs.same_name.Statement.{statement}

@@ -8,8 +8,6 @@ use Prim.Native.Nat.{_-_, _≤_}
 use mathlib.Core.Path.{_≡_, refl}
 use Rattle.arguments.proofs.same_bytes.Statement.{statement}
 use Rattle.arguments.proofs.same_bytes.Tie as tie
-use Rattle.arguments.proofs.same_bytes.Reads as reads
-use Rattle.arguments.proofs.same_bytes.Lts as lts
 
 abbrev Inv-loop : tie.InvT-loop
 Inv-loop a b i₀ i = (i ≤ length a) × (same (drop i a) (drop i b) ≡ same a b)

@@ -4,14 +4,10 @@ use Rattle.arguments.proofs.Laws.{value-empty, value-some, value-broken
 use Rattle.arguments.specs.Arguments.{valueFrom, valueOf}
 use lib.ListN.{length, drop}
 use native.Mathlib.Omega.{arith}
-use Prim.Native.Nat.{ℕ, _+_, _-_, _≤_, _<_}
-use mathlib.Core.Path.{_≡_, refl, _∙_}
+use Prim.Native.Nat.{_-_, _≤_}
+use mathlib.Core.Path.{_≡_}
 use Rattle.arguments.proofs.value_of.Statement.{statement}
 use Rattle.arguments.proofs.value_of.Tie as tie
-use Rattle.arguments.proofs.value_of.Reads as reads
-use Rattle.arguments.proofs.value_of.Lts as lts
-use Rattle.arguments.proofs.with_digit.Reads as with-digit-reads
-use Rattle.classes.proofs.is_digit.Reads as is-digit-reads
 
 abbrev Inv-loop : tie.InvT-loop
 Inv-loop s most v₀ i₀ v i = (v ≤ most) × (valueFrom most v (drop i s) ≡ valueOf most s)

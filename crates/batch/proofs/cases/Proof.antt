@@ -4,9 +4,6 @@ use lib.ListN.{length}
 use mathlib.Core.Path.{_≡_}
 use Rattle.batch.proofs.cases.Statement.{statement}
 use Rattle.batch.proofs.cases.Tie as tie
-use Rattle.batch.proofs.cases.Reads as reads
-use Rattle.batch.proofs.cases.Lts as lts
-use Rattle.batch.proofs.one.Reads as one-reads
 
 abbrev Inv-loop : tie.InvT-loop
 Inv-loop head₀ text₀ table₀ trees₀ left₀ head text table trees left = (length head ≡ length head₀) × (length text ≡ length text₀) × (length table ≡ length table₀) × (length trees ≡ length trees₀)

@@ -5,14 +5,6 @@ use mathlib.Core.Path.{sym}
 use borrow.Author.Needs.{needs}
 use Rattle.batch.proofs.one.Statement.{statement}
 use Rattle.batch.proofs.one.Tie as tie
-use Rattle.batch.proofs.one.Reads as reads
-use Rattle.batch.proofs.one.Lts as lts
-use Rattle.batch.proofs.least.Reads as least-reads
-use Rattle.batch.proofs.number_at.Reads as number-at-reads
-use Rattle.batch.proofs.show.Reads as show-reads
-use Rattle.console.proofs.front.Reads as front-reads
-use Rattle.console.proofs.read_text.Reads as read-text-reads
-use Rattle.console.proofs.words.Reads as words-reads
 
 read-text-requires : tie.Need-read-text-requires
 read-text-requires c κs = search needs

@@ -4,8 +4,6 @@ use mathlib.Core.Path.{sym}
 use borrow.Author.Needs.{needs}
 use Rattle.classes.proofs.byte_or.Statement.{statement}
 use Rattle.classes.proofs.byte_or.Tie as tie
-use Rattle.classes.proofs.byte_or.Reads as reads
-use Rattle.classes.proofs.byte_or.Lts as lts
 
 shared-slice-read-result : tie.Need-shared-slice-read-result
 shared-slice-read-result c = search needs

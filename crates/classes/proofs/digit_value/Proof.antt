@@ -4,9 +4,6 @@ use Rattle.classes.proofs.Laws.{within-low, digit-low, digit-first, dig
 use borrow.Author.Needs.{needs}
 use Rattle.classes.proofs.digit_value.Statement.{statement}
 use Rattle.classes.proofs.digit_value.Tie as tie
-use Rattle.classes.proofs.digit_value.Reads as reads
-use Rattle.classes.proofs.digit_value.Lts as lts
-use Rattle.classes.proofs.is_digit.Reads as is-digit-reads
 
 is-digit-requires : tie.Need-is-digit-requires
 is-digit-requires c κs = search needs

@@ -3,8 +3,6 @@ use Rattle.classes.specs.Bytes.{endsLine}
 use mathlib.Core.Path.{refl}
 use Rattle.classes.proofs.ends_line.Statement.{statement}
 use Rattle.classes.proofs.ends_line.Tie as tie
-use Rattle.classes.proofs.ends_line.Reads as reads
-use Rattle.classes.proofs.ends_line.Lts as lts
 
 returns : tie.Need-returns
 unfolding endsLine

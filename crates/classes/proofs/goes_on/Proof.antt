@@ -3,10 +3,6 @@ use Rattle.classes.proofs.Laws.{goes-yes, goes-no, goes-over}
 use borrow.Author.Needs.{needs}
 use Rattle.classes.proofs.goes_on.Statement.{statement}
 use Rattle.classes.proofs.goes_on.Tie as tie
-use Rattle.classes.proofs.goes_on.Reads as reads
-use Rattle.classes.proofs.goes_on.Lts as lts
-use Rattle.classes.proofs.byte_or.Reads as byte-or-reads
-use Rattle.classes.proofs.in_run.Reads as in-run-reads
 
 byte-or-requires : tie.Need-byte-or-requires
 byte-or-requires c κs = search needs

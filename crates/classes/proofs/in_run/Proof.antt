@@ -1,16 +1,8 @@
 -- Each kind of run by its own test. Assumes nothing.
-use lib.Dec.{ltb}
-use mathlib.Core.Bool.{_||_}
-use mathlib.Core.Path.{sym, ap}
 use Rattle.classes.specs.Runs.{inRun}
 use borrow.Author.Needs.{needs}
 use Rattle.classes.proofs.in_run.Statement.{statement}
 use Rattle.classes.proofs.in_run.Tie as tie
-use Rattle.classes.proofs.in_run.Reads as reads
-use Rattle.classes.proofs.in_run.Lts as lts
-use Rattle.classes.proofs.digit_value.Reads as digit-value-reads
-use Rattle.classes.proofs.is_digit.Reads as is-digit-reads
-use Rattle.classes.proofs.is_letter.Reads as is-letter-reads
 
 enum-told : tie.Need-enum-told
 enum-told c = search needs

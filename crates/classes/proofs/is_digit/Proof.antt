@@ -3,8 +3,6 @@ use Rattle.classes.specs.Bytes.{isDigit}
 use mathlib.Core.Path.{refl}
 use Rattle.classes.proofs.is_digit.Statement.{statement}
 use Rattle.classes.proofs.is_digit.Tie as tie
-use Rattle.classes.proofs.is_digit.Reads as reads
-use Rattle.classes.proofs.is_digit.Lts as lts
 
 returns : tie.Need-returns
 unfolding isDigit

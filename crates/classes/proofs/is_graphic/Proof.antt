@@ -3,8 +3,6 @@ use Rattle.classes.specs.Bytes.{isGraphic}
 use mathlib.Core.Path.{refl}
 use Rattle.classes.proofs.is_graphic.Statement.{statement}
 use Rattle.classes.proofs.is_graphic.Tie as tie
-use Rattle.classes.proofs.is_graphic.Reads as reads
-use Rattle.classes.proofs.is_graphic.Lts as lts
 
 returns : tie.Need-returns
 unfolding isGraphic

@@ -3,8 +3,6 @@ use Rattle.classes.specs.Bytes.{isLetter}
 use mathlib.Core.Path.{refl}
 use Rattle.classes.proofs.is_letter.Statement.{statement}
 use Rattle.classes.proofs.is_letter.Tie as tie
-use Rattle.classes.proofs.is_letter.Reads as reads
-use Rattle.classes.proofs.is_letter.Lts as lts
 
 returns : tie.Need-returns
 unfolding isLetter

@@ -4,8 +4,6 @@ use Rattle.classes.specs.Bytes.{lower}
 use borrow.Author.Needs.{needs}
 use Rattle.classes.proofs.lower_case.Statement.{statement}
 use Rattle.classes.proofs.lower_case.Tie as tie
-use Rattle.classes.proofs.lower_case.Reads as reads
-use Rattle.classes.proofs.lower_case.Lts as lts
 
 add-result : tie.Need-add-result
 add-result c = search needs

@@ -2,17 +2,13 @@
 use Rattle.classes.proofs.Laws.{turn-on, turn-stop, turn-end}
 use mathlib.Core.Path.{_≡_}
 use borrow.Author.Needs.{needs}
-use Rattle.classes.proofs.Laws.{count-on, count-stop, count-end}
 use Rattle.classes.specs.Runs.{count, goesOn, run}
 use lib.ListN.{length, drop}
 use native.Mathlib.Omega.{arith}
-use Prim.Native.Nat.{ℕ, _+_, _-_, _≤_}
-use mathlib.Core.Path.{_≡_, refl, sym, ap, _∙_}
+use Prim.Native.Nat.{_+_, _-_, _≤_}
+use mathlib.Core.Path.{_≡_}
 use Rattle.classes.proofs.run_length.Statement.{statement}
 use Rattle.classes.proofs.run_length.Tie as tie
-use Rattle.classes.proofs.run_length.Reads as reads
-use Rattle.classes.proofs.run_length.Lts as lts
-use Rattle.classes.proofs.goes_on.Reads as goes-on-reads
 
 abbrev Inv-loop : tie.InvT-loop
 Inv-loop c s i₀ i = (i ≤ length s) × (i + count (goesOn c) (drop i s) ≡ count (goesOn c) s)

@@ -3,8 +3,6 @@ use Rattle.classes.specs.Bytes.{separates}
 use mathlib.Core.Path.{refl}
 use Rattle.classes.proofs.separator.Statement.{statement}
 use Rattle.classes.proofs.separator.Tie as tie
-use Rattle.classes.proofs.separator.Reads as reads
-use Rattle.classes.proofs.separator.Lts as lts
 
 returns : tie.Need-returns
 unfolding separates

@@ -3,9 +3,6 @@ use borrow.Author.Needs.{needs}
 use Prim.Native.Nat.{_-_}
 use Rattle.console.proofs.element_lines.Statement.{statement}
 use Rattle.console.proofs.element_lines.Tie as tie
-use Rattle.console.proofs.element_lines.Reads as reads
-use Rattle.console.proofs.element_lines.Lts as lts
-use Rattle.console.proofs.element_line.Reads as element-line-reads
 
 abbrev Inv-loop : tie.InvT-loop
 Inv-loop t count i₀ i = Unit {0}

@@ -5,16 +5,6 @@ use mathlib.Core.Path.{sym}
 use borrow.Author.Needs.{needs}
 use Rattle.console.proofs.elements.Statement.{statement}
 use Rattle.console.proofs.elements.Tie as tie
-use Rattle.console.proofs.elements.Reads as reads
-use Rattle.console.proofs.elements.Lts as lts
-use Rattle.console.proofs.element_lines.Reads as element-lines-reads
-use Rattle.console.proofs.least.Reads as least-reads
-use Rattle.console.proofs.number.Reads as number-reads
-use Rattle.console.proofs.refused.Reads as refused-reads
-use Rattle.console.proofs.words.Reads as words-reads
-use Rattle.reading.proofs.read_elements.Reads as read-elements-reads
-use Rattle.reading.proofs.refusal_number.Reads as refusal-number-reads
-use Rattle.reading.proofs.refusal_place.Reads as refusal-place-reads
 
 least-requires : tie.Need-least-requires
 least-requires c κs = search needs

@@ -5,10 +5,6 @@ use Prim.Native.Nat.{_-_, _≤_}
 use mathlib.Core.Path.{_≡_}
 use Rattle.console.proofs.read_text.Statement.{statement}
 use Rattle.console.proofs.read_text.Tie as tie
-use Rattle.console.proofs.read_text.Reads as reads
-use Rattle.console.proofs.read_text.Lts as lts
-use Rattle.io.proofs.count.Reads as count-reads
-use Rattle.libc.proofs.read.Reads as read-reads
 
 abbrev Inv-loop : tie.InvT-loop
 Inv-loop fd text₀ n₀ text n = (n ≤ length text) × (length text ≡ length text₀)

@@ -3,10 +3,6 @@ use borrow.Author.Needs.{needs}
 use Prim.Native.Nat.{_-_}
 use Rattle.console.proofs.row_line.Statement.{statement}
 use Rattle.console.proofs.row_line.Tie as tie
-use Rattle.console.proofs.row_line.Reads as reads
-use Rattle.console.proofs.row_line.Lts as lts
-use Rattle.console.proofs.number.Reads as number-reads
-use Rattle.console.proofs.words.Reads as words-reads
 
 abbrev Inv-loop : tie.InvT-loop
 Inv-loop i t at j₀ t5 t6 j = Unit {0}

@@ -3,9 +3,6 @@ use borrow.Author.Needs.{needs}
 use Prim.Native.Nat.{_-_}
 use Rattle.console.proofs.row_lines.Statement.{statement}
 use Rattle.console.proofs.row_lines.Tie as tie
-use Rattle.console.proofs.row_lines.Reads as reads
-use Rattle.console.proofs.row_lines.Lts as lts
-use Rattle.console.proofs.row_line.Reads as row-line-reads
 
 abbrev Inv-loop : tie.InvT-loop
 Inv-loop t count i₀ i = Unit {0}

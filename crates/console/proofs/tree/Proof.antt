@@ -5,15 +5,6 @@ use mathlib.Core.Path.{sym}
 use borrow.Author.Needs.{needs}
 use Rattle.console.proofs.tree.Statement.{statement}
 use Rattle.console.proofs.tree.Tie as tie
-use Rattle.console.proofs.tree.Reads as reads
-use Rattle.console.proofs.tree.Lts as lts
-use Rattle.console.proofs.least.Reads as least-reads
-use Rattle.console.proofs.refused.Reads as refused-reads
-use Rattle.console.proofs.row_lines.Reads as row-lines-reads
-use Rattle.console.proofs.tree_head.Reads as tree-head-reads
-use Rattle.files.proofs.read_strict.Reads as read-strict-reads
-use Rattle.files.proofs.strict_number.Reads as strict-number-reads
-use Rattle.files.proofs.strict_place.Reads as strict-place-reads
 
 least-requires : tie.Need-least-requires
 least-requires c κs = search needs

@@ -3,11 +3,6 @@ use Rattle.elements.proofs.Cases.{tick-after, tick-alone, character-who
 use borrow.Author.Needs.{needs}
 use Rattle.elements.proofs.apostrophe_at.Statement.{statement}
 use Rattle.elements.proofs.apostrophe_at.Tie as tie
-use Rattle.elements.proofs.apostrophe_at.Reads as reads
-use Rattle.elements.proofs.apostrophe_at.Lts as lts
-use Rattle.classes.proofs.byte_or.Reads as byte-or-reads
-use Rattle.classes.proofs.is_graphic.Reads as is-graphic-reads
-use Rattle.elements.proofs.unreadable_at.Reads as unreadable-at-reads
 
 returns : tie.Need-returns
 returns c = search tick-after

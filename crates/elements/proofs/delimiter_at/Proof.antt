@@ -3,11 +3,6 @@ use Rattle.elements.proofs.Cases.{delimiter-fits, double-short, double-
 use borrow.Author.Needs.{needs}
 use Rattle.elements.proofs.delimiter_at.Statement.{statement}
 use Rattle.elements.proofs.delimiter_at.Tie as tie
-use Rattle.elements.proofs.delimiter_at.Reads as reads
-use Rattle.elements.proofs.delimiter_at.Lts as lts
-use Rattle.classes.proofs.byte_or.Reads as byte-or-reads
-use Rattle.elements.proofs.single_at.Reads as single-at-reads
-use Rattle.words.proofs.delimiter_two.Reads as delimiter-two-reads
 
 single-at-requires : tie.Need-single-at-requires
 single-at-requires c κs = search needs

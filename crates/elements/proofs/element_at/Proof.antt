@@ -3,17 +3,6 @@ use Rattle.elements.proofs.Cases.{by-nothing, opened-separator, opened-
 use borrow.Author.Needs.{needs}
 use Rattle.elements.proofs.element_at.Statement.{statement}
 use Rattle.elements.proofs.element_at.Tie as tie
-use Rattle.elements.proofs.element_at.Reads as reads
-use Rattle.elements.proofs.element_at.Lts as lts
-use Rattle.classes.proofs.byte_or.Reads as byte-or-reads
-use Rattle.elements.proofs.apostrophe_at.Reads as apostrophe-at-reads
-use Rattle.elements.proofs.extended_at.Reads as extended-at-reads
-use Rattle.elements.proofs.numeral_at.Reads as numeral-at-reads
-use Rattle.elements.proofs.opens_with.Reads as opens-with-reads
-use Rattle.elements.proofs.other_at.Reads as other-at-reads
-use Rattle.elements.proofs.string_at.Reads as string-at-reads
-use Rattle.elements.proofs.unreadable_at.Reads as unreadable-at-reads
-use Rattle.elements.proofs.word_at.Reads as word-at-reads
 
 unreadable-at-requires : tie.Need-unreadable-at-requires
 unreadable-at-requires c κs = search needs

@@ -3,12 +3,6 @@ use Rattle.elements.proofs.Cases.{closed-fits, extended-open, extended-
 use borrow.Author.Needs.{needs}
 use Rattle.elements.proofs.extended_at.Statement.{statement}
 use Rattle.elements.proofs.extended_at.Tie as tie
-use Rattle.elements.proofs.extended_at.Reads as reads
-use Rattle.elements.proofs.extended_at.Lts as lts
-use Rattle.classes.proofs.byte_or.Reads as byte-or-reads
-use Rattle.elements.proofs.spoils_extended.Reads as spoils-extended-reads
-use Rattle.elements.proofs.unreadable_at.Reads as unreadable-at-reads
-use Rattle.quoted.proofs.closing.Reads as closing-reads
 
 sub-closing : tie.Need-sub-closing
 sub-closing c = search needs

@@ -3,10 +3,6 @@ use Rattle.elements.specs.Element.{followsNone}
 use borrow.Author.Needs.{needs}
 use Rattle.elements.proofs.follows_none.Statement.{statement}
 use Rattle.elements.proofs.follows_none.Tie as tie
-use Rattle.elements.proofs.follows_none.Reads as reads
-use Rattle.elements.proofs.follows_none.Lts as lts
-use Rattle.classes.proofs.is_digit.Reads as is-digit-reads
-use Rattle.classes.proofs.is_letter.Reads as is-letter-reads
 
 is-letter-requires : tie.Need-is-letter-requires
 is-letter-requires c κs = search needs

@@ -4,8 +4,6 @@ use mathlib.Core.Path.{sym, ap}
 use borrow.Author.Needs.{needs}
 use Rattle.elements.proofs.kind_number.Statement.{statement}
 use Rattle.elements.proofs.kind_number.Tie as tie
-use Rattle.elements.proofs.kind_number.Reads as reads
-use Rattle.elements.proofs.kind_number.Lts as lts
 
 enum-told : tie.Need-enum-told
 enum-told c = search needs

@@ -3,12 +3,6 @@ use Rattle.elements.proofs.Cases.{numeral-none, integer-spoilt, integer
 use borrow.Author.Needs.{needs}
 use Rattle.elements.proofs.numeral_at.Statement.{statement}
 use Rattle.elements.proofs.numeral_at.Tie as tie
-use Rattle.elements.proofs.numeral_at.Reads as reads
-use Rattle.elements.proofs.numeral_at.Lts as lts
-use Rattle.classes.proofs.byte_or.Reads as byte-or-reads
-use Rattle.elements.proofs.follows_none.Reads as follows-none-reads
-use Rattle.elements.proofs.unreadable_at.Reads as unreadable-at-reads
-use Rattle.numbers.proofs.number_at.Reads as number-at-reads
 
 number-at-requires : tie.Need-number-at-requires
 number-at-requires c κs = search needs

@@ -3,11 +3,6 @@ use Rattle.elements.proofs.Cases.{opens-separator, opens-letter, opens-
 use borrow.Author.Needs.{needs}
 use Rattle.elements.proofs.opens_with.Statement.{statement}
 use Rattle.elements.proofs.opens_with.Tie as tie
-use Rattle.elements.proofs.opens_with.Reads as reads
-use Rattle.elements.proofs.opens_with.Lts as lts
-use Rattle.classes.proofs.is_digit.Reads as is-digit-reads
-use Rattle.classes.proofs.is_letter.Reads as is-letter-reads
-use Rattle.classes.proofs.separator.Reads as separator-reads
 
 separator-requires : tie.Need-separator-requires
 separator-requires c κs = search needs

@@ -3,11 +3,6 @@ use Rattle.elements.proofs.Cases.{other-comment, other-delimited, other
 use borrow.Author.Needs.{needs}
 use Rattle.elements.proofs.other_at.Statement.{statement}
 use Rattle.elements.proofs.other_at.Tie as tie
-use Rattle.elements.proofs.other_at.Reads as reads
-use Rattle.elements.proofs.other_at.Lts as lts
-use Rattle.classes.proofs.byte_or.Reads as byte-or-reads
-use Rattle.elements.proofs.delimiter_at.Reads as delimiter-at-reads
-use Rattle.elements.proofs.unreadable_at.Reads as unreadable-at-reads
 
 byte-or-requires : tie.Need-byte-or-requires
 byte-or-requires c κs = search needs

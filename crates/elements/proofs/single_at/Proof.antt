@@ -3,11 +3,6 @@ use Rattle.elements.proofs.Cases.{delimiter-fits, single-found, single-
 use borrow.Author.Needs.{needs}
 use Rattle.elements.proofs.single_at.Statement.{statement}
 use Rattle.elements.proofs.single_at.Tie as tie
-use Rattle.elements.proofs.single_at.Reads as reads
-use Rattle.elements.proofs.single_at.Lts as lts
-use Rattle.classes.proofs.byte_or.Reads as byte-or-reads
-use Rattle.elements.proofs.unreadable_at.Reads as unreadable-at-reads
-use Rattle.words.proofs.delimiter_one.Reads as delimiter-one-reads
 
 byte-or-requires : tie.Need-byte-or-requires
 byte-or-requires c κs = search needs

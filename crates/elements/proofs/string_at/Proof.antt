@@ -4,10 +4,6 @@ use Rattle.elements.proofs.Cases.{string-open, string-whole}
 use borrow.Author.Needs.{needs}
 use Rattle.elements.proofs.string_at.Statement.{statement}
 use Rattle.elements.proofs.string_at.Tie as tie
-use Rattle.elements.proofs.string_at.Reads as reads
-use Rattle.elements.proofs.string_at.Lts as lts
-use Rattle.elements.proofs.unreadable_at.Reads as unreadable-at-reads
-use Rattle.quoted.proofs.closing.Reads as closing-reads
 
 sub-closing : tie.Need-sub-closing
 sub-closing c = search needs

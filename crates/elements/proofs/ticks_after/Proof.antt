@@ -4,8 +4,6 @@ use mathlib.Core.Path.{sym, ap}
 use borrow.Author.Needs.{needs}
 use Rattle.elements.proofs.ticks_after.Statement.{statement}
 use Rattle.elements.proofs.ticks_after.Tie as tie
-use Rattle.elements.proofs.ticks_after.Reads as reads
-use Rattle.elements.proofs.ticks_after.Lts as lts
 
 enum-told : tie.Need-enum-told
 enum-told c = search needs

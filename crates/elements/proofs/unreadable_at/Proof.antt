@@ -3,8 +3,6 @@ use Rattle.elements.specs.Element.{unreadable}
 use mathlib.Core.Path.{refl}
 use Rattle.elements.proofs.unreadable_at.Statement.{statement}
 use Rattle.elements.proofs.unreadable_at.Tie as tie
-use Rattle.elements.proofs.unreadable_at.Reads as reads
-use Rattle.elements.proofs.unreadable_at.Lts as lts
 
 returns : tie.Need-returns
 unfolding unreadable

@@ -2,16 +2,9 @@
 use Rattle.elements.proofs.Cases.{reserved-fits, word-part, word-broken, word-reserved, word-quote, word-name}
 use lib.Seq.{length-take-le}
 use mathlib.Core.Path.{sym}
-use native.Mathlib.Omega.{arith}
 use borrow.Author.Needs.{needs}
 use Rattle.elements.proofs.word_at.Statement.{statement}
 use Rattle.elements.proofs.word_at.Tie as tie
-use Rattle.elements.proofs.word_at.Reads as reads
-use Rattle.elements.proofs.word_at.Lts as lts
-use Rattle.classes.proofs.byte_or.Reads as byte-or-reads
-use Rattle.classes.proofs.run_length.Reads as run-length-reads
-use Rattle.elements.proofs.unreadable_at.Reads as unreadable-at-reads
-use Rattle.words.proofs.reserved_word.Reads as reserved-word-reads
 
 run-length-requires : tie.Need-run-length-requires
 run-length-requires c κs = search needs

@@ -4,13 +4,10 @@ use borrow.Author.Needs.{needs}
 use Rattle.files.proofs.Laws.{unread-hit, unread-past, unread-end}
 use Rattle.files.specs.Strict.{unreadableFrom}
 use lib.ListN.{drop}
-use native.Mathlib.Omega.{arith}
-use Prim.Native.Nat.{_-_, _*_, _≤_}
-use mathlib.Core.Path.{_≡_, refl}
+use Prim.Native.Nat.{_-_, _*_}
+use mathlib.Core.Path.{_≡_}
 use Rattle.files.proofs.first_unreadable.Statement.{statement}
 use Rattle.files.proofs.first_unreadable.Tie as tie
-use Rattle.files.proofs.first_unreadable.Reads as reads
-use Rattle.files.proofs.first_unreadable.Lts as lts
 
 abbrev Inv-loop : tie.InvT-loop
 Inv-loop elements count i₀ i = unreadableFrom i (count - i) (drop (3 * i) elements) ≡ unreadableFrom 0 count elements

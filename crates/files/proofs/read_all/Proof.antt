@@ -4,11 +4,6 @@ use lib.ListN.{length}
 use borrow.Author.Needs.{needs}
 use Rattle.files.proofs.read_all.Statement.{statement}
 use Rattle.files.proofs.read_all.Tie as tie
-use Rattle.files.proofs.read_all.Reads as reads
-use Rattle.files.proofs.read_all.Lts as lts
-use Rattle.files.proofs.first_unreadable.Reads as first-unreadable-reads
-use Rattle.files.proofs.read_file.Reads as read-file-reads
-use Rattle.lent.proofs.clear.Reads as clear-reads
 
 first-unreadable-requires : tie.Need-first-unreadable-requires
 first-unreadable-requires c κs = search needs

@@ -4,11 +4,6 @@ use Rattle.files.proofs.Laws.{file-read, file-none, file-differs, file-
 use borrow.Author.Needs.{needs}
 use Rattle.files.proofs.read_file.Statement.{statement}
 use Rattle.files.proofs.read_file.Tie as tie
-use Rattle.files.proofs.read_file.Reads as reads
-use Rattle.files.proofs.read_file.Lts as lts
-use Rattle.lent.proofs.clear.Reads as clear-reads
-use Rattle.tree.proofs.read_tree.Reads as read-tree-reads
-use Rattle.verdict.proofs.judge.Reads as judge-reads
 
 read-tree-requires : tie.Need-read-tree-requires
 read-tree-requires c κs = search needs

@@ -5,11 +5,6 @@ use lib.ListN.{length}
 use borrow.Author.Needs.{needs}
 use Rattle.files.proofs.read_strict.Statement.{statement}
 use Rattle.files.proofs.read_strict.Tie as tie
-use Rattle.files.proofs.read_strict.Reads as reads
-use Rattle.files.proofs.read_strict.Lts as lts
-use Rattle.files.proofs.read_all.Reads as read-all-reads
-use Rattle.lent.proofs.clear.Reads as clear-reads
-use Rattle.reading.proofs.read_elements.Reads as read-elements-reads
 
 read-elements-requires : tie.Need-read-elements-requires
 read-elements-requires c κs = search needs

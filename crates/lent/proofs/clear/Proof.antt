@@ -10,8 +10,6 @@ use mathlib.Core.List.{List, _++_, append-nil}
 use mathlib.Core.Path.{_≡_, refl, ap, _∙_}
 use Rattle.lent.proofs.clear.Statement.{statement}
 use Rattle.lent.proofs.clear.Tie as tie
-use Rattle.lent.proofs.clear.Reads as reads
-use Rattle.lent.proofs.clear.Lts as lts
 
 abbrev Inv-loop : tie.InvT-loop
 Inv-loop t₀ i₀ t i = (i ≤ length t₀) × (length t ≡ length t₀) × (t ≡ replicate i 0 ++ drop i t₀)

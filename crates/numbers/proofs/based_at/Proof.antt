@@ -6,10 +6,6 @@ use native.Mathlib.Omega.{arith}
 use borrow.Author.Needs.{needs}
 use Rattle.numbers.proofs.based_at.Statement.{statement}
 use Rattle.numbers.proofs.based_at.Tie as tie
-use Rattle.numbers.proofs.based_at.Reads as reads
-use Rattle.numbers.proofs.based_at.Lts as lts
-use Rattle.numbers.proofs.below_base.Reads as below-base-reads
-use Rattle.numbers.proofs.small_value.Reads as small-value-reads
 
 slice-aggregate-small-value : tie.Need-slice-aggregate-small-value
 slice-aggregate-small-value c = part-front _ _ (c .before .before .pre .1)

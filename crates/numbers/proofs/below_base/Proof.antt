@@ -6,12 +6,6 @@ use native.Mathlib.Omega.{arith}
 use borrow.Author.Needs.{needs}
 use Rattle.numbers.proofs.below_base.Statement.{statement}
 use Rattle.numbers.proofs.below_base.Tie as tie
-use Rattle.numbers.proofs.below_base.Reads as reads
-use Rattle.numbers.proofs.below_base.Lts as lts
-use Rattle.classes.proofs.byte_or.Reads as byte-or-reads
-use Rattle.classes.proofs.in_run.Reads as in-run-reads
-use Rattle.classes.proofs.run_length.Reads as run-length-reads
-use Rattle.numbers.proofs.exponent_length.Reads as exponent-length-reads
 
 byte-or-requires : tie.Need-byte-or-requires
 byte-or-requires c κs = search needs

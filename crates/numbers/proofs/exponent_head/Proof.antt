@@ -3,9 +3,6 @@ use Rattle.numbers.proofs.Laws.{head-two, head-one}
 use borrow.Author.Needs.{needs}
 use Rattle.numbers.proofs.exponent_head.Statement.{statement}
 use Rattle.numbers.proofs.exponent_head.Tie as tie
-use Rattle.numbers.proofs.exponent_head.Reads as reads
-use Rattle.numbers.proofs.exponent_head.Lts as lts
-use Rattle.classes.proofs.byte_or.Reads as byte-or-reads
 
 byte-or-requires : tie.Need-byte-or-requires
 byte-or-requires c κs = search needs

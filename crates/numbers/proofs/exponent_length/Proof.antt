@@ -6,13 +6,6 @@ use native.Mathlib.Omega.{arith}
 use borrow.Author.Needs.{needs}
 use Rattle.numbers.proofs.exponent_length.Statement.{statement}
 use Rattle.numbers.proofs.exponent_length.Tie as tie
-use Rattle.numbers.proofs.exponent_length.Reads as reads
-use Rattle.numbers.proofs.exponent_length.Lts as lts
-use Rattle.classes.proofs.byte_or.Reads as byte-or-reads
-use Rattle.classes.proofs.is_digit.Reads as is-digit-reads
-use Rattle.classes.proofs.lower_case.Reads as lower-case-reads
-use Rattle.classes.proofs.run_length.Reads as run-length-reads
-use Rattle.numbers.proofs.exponent_head.Reads as exponent-head-reads
 
 byte-or-requires : tie.Need-byte-or-requires
 byte-or-requires c κs = search needs

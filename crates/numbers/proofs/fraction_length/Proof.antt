@@ -1,5 +1,5 @@
 -- The digits, then the exponent behind them. Assumes nothing.
-use mathlib.Core.Bool.{true, false}
+use mathlib.Core.Bool.{true}
 use Rattle.numbers.proofs.Laws.{fraction-whole, exponent-fits}
 use Rattle.classes.proofs.Laws.{run-le}
 use Rattle.classes.specs.declared.Run.the-variants.{Below}
@@ -7,10 +7,6 @@ use native.Mathlib.Omega.{arith}
 use borrow.Author.Needs.{needs}
 use Rattle.numbers.proofs.fraction_length.Statement.{statement}
 use Rattle.numbers.proofs.fraction_length.Tie as tie
-use Rattle.numbers.proofs.fraction_length.Reads as reads
-use Rattle.numbers.proofs.fraction_length.Lts as lts
-use Rattle.classes.proofs.run_length.Reads as run-length-reads
-use Rattle.numbers.proofs.exponent_length.Reads as exponent-length-reads
 
 run-length-requires : tie.Need-run-length-requires
 run-length-requires c κs = search needs

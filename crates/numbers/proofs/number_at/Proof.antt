@@ -7,13 +7,6 @@ use native.Mathlib.Omega.{arith}
 use borrow.Author.Needs.{needs}
 use Rattle.numbers.proofs.number_at.Statement.{statement}
 use Rattle.numbers.proofs.number_at.Tie as tie
-use Rattle.numbers.proofs.number_at.Reads as reads
-use Rattle.numbers.proofs.number_at.Lts as lts
-use Rattle.classes.proofs.byte_or.Reads as byte-or-reads
-use Rattle.classes.proofs.run_length.Reads as run-length-reads
-use Rattle.numbers.proofs.based_at.Reads as based-at-reads
-use Rattle.numbers.proofs.exponent_length.Reads as exponent-length-reads
-use Rattle.numbers.proofs.pointed_at.Reads as pointed-at-reads
 
 run-length-requires : tie.Need-run-length-requires
 run-length-requires c κs = search needs

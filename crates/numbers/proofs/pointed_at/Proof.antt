@@ -5,11 +5,6 @@ use native.Mathlib.Omega.{arith}
 use borrow.Author.Needs.{needs}
 use Rattle.numbers.proofs.pointed_at.Statement.{statement}
 use Rattle.numbers.proofs.pointed_at.Tie as tie
-use Rattle.numbers.proofs.pointed_at.Reads as reads
-use Rattle.numbers.proofs.pointed_at.Lts as lts
-use Rattle.classes.proofs.byte_or.Reads as byte-or-reads
-use Rattle.classes.proofs.is_digit.Reads as is-digit-reads
-use Rattle.numbers.proofs.fraction_length.Reads as fraction-length-reads
 
 add-m : tie.Need-add-m
 add-m c = search needs

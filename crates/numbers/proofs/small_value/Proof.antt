@@ -8,9 +8,6 @@ use Prim.Native.Nat.{_-_, _≤_, min}
 use mathlib.Core.Path.{_≡_, refl}
 use Rattle.numbers.proofs.small_value.Statement.{statement}
 use Rattle.numbers.proofs.small_value.Tie as tie
-use Rattle.numbers.proofs.small_value.Reads as reads
-use Rattle.numbers.proofs.small_value.Lts as lts
-use Rattle.numbers.proofs.with_digit.Reads as with-digit-reads
 
 abbrev Inv-loop : tie.InvT-loop
 Inv-loop s v₀ i₀ v i = (v ≤ 17) × (min 17 (valueFrom v (drop i s)) ≡ min 17 (valueFrom 0 s))

@@ -5,9 +5,6 @@ use native.Mathlib.Omega.{arith}
 use borrow.Author.Needs.{needs}
 use Rattle.numbers.proofs.with_digit.Statement.{statement}
 use Rattle.numbers.proofs.with_digit.Tie as tie
-use Rattle.numbers.proofs.with_digit.Reads as reads
-use Rattle.numbers.proofs.with_digit.Lts as lts
-use Rattle.classes.proofs.digit_value.Reads as digit-value-reads
 
 returns : tie.Need-returns
 returns c = search capped-under

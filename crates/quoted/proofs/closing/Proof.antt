@@ -3,14 +3,10 @@ use borrow.Author.Needs.{needs}
 use Rattle.quoted.proofs.Laws.{turn-doubled, turn-inside, turn-closes, turn-breaks, turns-end}
 use Rattle.quoted.specs.Quoted.{closedFrom}
 use lib.ListN.{length, drop}
-use native.Mathlib.Omega.{arith}
 use Prim.Native.Nat.{_-_}
 use mathlib.Core.Path.{_≡_, refl}
 use Rattle.quoted.proofs.closing.Statement.{statement}
 use Rattle.quoted.proofs.closing.Tie as tie
-use Rattle.quoted.proofs.closing.Reads as reads
-use Rattle.quoted.proofs.closing.Lts as lts
-use Rattle.quoted.proofs.mark_at.Reads as mark-at-reads
 
 abbrev Inv-loop : tie.InvT-loop
 Inv-loop mark s n₀ n = closedFrom mark 0 n (drop n s) ≡ closedFrom mark 0 0 s

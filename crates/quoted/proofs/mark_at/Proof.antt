@@ -3,10 +3,6 @@ use Rattle.quoted.proofs.Laws.{is-doubled, is-closing, is-inside, is-br
 use borrow.Author.Needs.{needs}
 use Rattle.quoted.proofs.mark_at.Statement.{statement}
 use Rattle.quoted.proofs.mark_at.Tie as tie
-use Rattle.quoted.proofs.mark_at.Reads as reads
-use Rattle.quoted.proofs.mark_at.Lts as lts
-use Rattle.classes.proofs.byte_or.Reads as byte-or-reads
-use Rattle.classes.proofs.is_graphic.Reads as is-graphic-reads
 
 byte-or-requires : tie.Need-byte-or-requires
 byte-or-requires c κs = search needs

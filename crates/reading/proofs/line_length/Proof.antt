@@ -7,12 +7,9 @@ use Rattle.classes.specs.Runs.{count}
 use lib.ListN.{length, drop}
 use native.Mathlib.Omega.{arith}
 use Prim.Native.Nat.{_+_, _-_, _≤_}
-use mathlib.Core.Path.{_≡_, refl}
+use mathlib.Core.Path.{_≡_}
 use Rattle.reading.proofs.line_length.Statement.{statement}
 use Rattle.reading.proofs.line_length.Tie as tie
-use Rattle.reading.proofs.line_length.Reads as reads
-use Rattle.reading.proofs.line_length.Lts as lts
-use Rattle.classes.proofs.ends_line.Reads as ends-line-reads
 
 abbrev Inv-loop : tie.InvT-loop
 Inv-loop s i₀ i = (i ≤ length s) × (i + count inLine (drop i s) ≡ count inLine s)

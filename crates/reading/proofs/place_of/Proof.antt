@@ -4,8 +4,6 @@ use Rattle.reading.specs.Table.{firstOf}
 use borrow.Author.Needs.{needs}
 use Rattle.reading.proofs.place_of.Statement.{statement}
 use Rattle.reading.proofs.place_of.Tie as tie
-use Rattle.reading.proofs.place_of.Reads as reads
-use Rattle.reading.proofs.place_of.Lts as lts
 
 mul-w : tie.Need-mul-w
 mul-w c = search needs

@@ -6,8 +6,6 @@ use mathlib.Core.Path.{sym}
 use borrow.Author.Needs.{needs}
 use Rattle.reading.proofs.put_row.Statement.{statement}
 use Rattle.reading.proofs.put_row.Tie as tie
-use Rattle.reading.proofs.put_row.Reads as reads
-use Rattle.reading.proofs.put_row.Lts as lts
 
 mul-w : tie.Need-mul-w
 mul-w c = search needs

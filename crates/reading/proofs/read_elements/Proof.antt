@@ -3,10 +3,6 @@ use Rattle.reading.proofs.Answers.{refuse-long, refuse-many, refuse-sho
 use borrow.Author.Needs.{needs}
 use Rattle.reading.proofs.read_elements.Statement.{statement}
 use Rattle.reading.proofs.read_elements.Tie as tie
-use Rattle.reading.proofs.read_elements.Reads as reads
-use Rattle.reading.proofs.read_elements.Lts as lts
-use Rattle.reading.proofs.read_lines.Reads as read-lines-reads
-use Rattle.lent.proofs.clear.Reads as clear-reads
 
 clear-requires : tie.Need-clear-requires
 clear-requires c κs = search needs

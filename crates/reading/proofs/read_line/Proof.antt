@@ -2,23 +2,16 @@
 use Rattle.reading.proofs.Turns.{line-counted, line-put}
 use borrow.Author.Needs.{needs}
 use Rattle.reading.proofs.Turns.{skip-in, skip-fits, skip-less, skip-below, skip-count, skip-puts, add-in, add-fits, add-less, add-below, add-count, add-puts, kept-length}
-use Rattle.reading.proofs.LineLaws.{line-end}
-use Rattle.reading.specs.Table.{put, puts}
+use Rattle.reading.specs.Table.{puts}
 use Rattle.reading.specs.Rows.{lineRows}
 use lib.ListN.{length, drop}
 use native.Mathlib.Omega.{arith}
 use native.Mathlib.Nat.{add-zero}
 use Prim.Native.Nat.{_+_, _-_, _≤_}
 use mathlib.Core.Bool.{false}
-use mathlib.Core.Path.{_≡_, refl, ap}
+use mathlib.Core.Path.{_≡_, refl}
 use Rattle.reading.proofs.read_line.Statement.{statement}
 use Rattle.reading.proofs.read_line.Tie as tie
-use Rattle.reading.proofs.read_line.Reads as reads
-use Rattle.reading.proofs.read_line.Lts as lts
-use Rattle.elements.proofs.element_at.Reads as element-at-reads
-use Rattle.elements.proofs.kind_number.Reads as kind-number-reads
-use Rattle.elements.proofs.ticks_after.Reads as ticks-after-reads
-use Rattle.reading.proofs.put_row.Reads as put-row-reads
 
 abbrev Inv-loop : tie.InvT-loop
 Inv-loop l at t₀ before i₀ n₀ ticks₀ t i n ticks = (i ≤ length l)

@@ -10,10 +10,6 @@ use Prim.Native.Nat.{_+_, _-_, _≤_}
 use mathlib.Core.Path.{_≡_, refl}
 use Rattle.reading.proofs.read_lines.Statement.{statement}
 use Rattle.reading.proofs.read_lines.Tie as tie
-use Rattle.reading.proofs.read_lines.Reads as reads
-use Rattle.reading.proofs.read_lines.Lts as lts
-use Rattle.reading.proofs.line_length.Reads as line-length-reads
-use Rattle.reading.proofs.read_line.Reads as read-line-reads
 
 abbrev Inv-loop : tie.InvT-loop
 Inv-loop s t₀ at₀ n₀ t at n = (at ≤ length s + 1)

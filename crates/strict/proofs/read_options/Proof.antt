@@ -4,11 +4,6 @@ use mathlib.Core.Path.{_≡_}
 use borrow.Author.Needs.{needs}
 use Rattle.strict.proofs.read_options.Statement.{statement}
 use Rattle.strict.proofs.read_options.Tie as tie
-use Rattle.strict.proofs.read_options.Reads as reads
-use Rattle.strict.proofs.read_options.Lts as lts
-use Rattle.os.proofs.arg_count.Reads as arg-count-reads
-use Rattle.strict.proofs.Options.new.Reads as new-reads
-use Rattle.strict.proofs.Options.taken.Reads as taken-reads
 
 abbrev Inv-loop : tie.InvT-loop
 Inv-loop word₀ count o₀ left₀ word o left = length word ≡ length word₀

@@ -7,9 +7,6 @@ use Prim.Native.Nat.{_-_}
 use mathlib.Core.Path.{_≡_, refl}
 use Rattle.words.proofs.begins_with.Statement.{statement}
 use Rattle.words.proofs.begins_with.Tie as tie
-use Rattle.words.proofs.begins_with.Reads as reads
-use Rattle.words.proofs.begins_with.Lts as lts
-use Rattle.classes.proofs.lower_case.Reads as lower-case-reads
 
 abbrev Inv-loop : tie.InvT-loop
 Inv-loop w t i₀ i = begins (drop i w) (drop i t) ≡ begins w t

@@ -8,8 +8,6 @@ use Prim.Native.Nat.{_+_, _-_}
 use mathlib.Core.Path.{_≡_}
 use Rattle.words.proofs.byte_place.Statement.{statement}
 use Rattle.words.proofs.byte_place.Tie as tie
-use Rattle.words.proofs.byte_place.Reads as reads
-use Rattle.words.proofs.byte_place.Lts as lts
 
 abbrev Inv-loop : tie.InvT-loop
 Inv-loop b list k i₀ i = byteFrom (k + i) b (drop i list) ≡ byteFrom k b list

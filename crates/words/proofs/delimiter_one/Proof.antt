@@ -6,9 +6,6 @@ use mathlib.Core.Path.{refl, _∙_}
 use borrow.Author.Needs.{needs}
 use Rattle.words.proofs.delimiter_one.Statement.{statement}
 use Rattle.words.proofs.delimiter_one.Tie as tie
-use Rattle.words.proofs.delimiter_one.Reads as reads
-use Rattle.words.proofs.delimiter_one.Lts as lts
-use Rattle.words.proofs.byte_place.Reads as byte-place-reads
 
 slice-aggregate-byte-place : tie.Need-slice-aggregate-byte-place
 slice-aggregate-byte-place c = search needs

@@ -6,9 +6,6 @@ use mathlib.Core.Path.{_∙_}
 use borrow.Author.Needs.{needs}
 use Rattle.words.proofs.delimiter_two.Statement.{statement}
 use Rattle.words.proofs.delimiter_two.Tie as tie
-use Rattle.words.proofs.delimiter_two.Reads as reads
-use Rattle.words.proofs.delimiter_two.Lts as lts
-use Rattle.words.proofs.search.Reads as search-reads
 
 slice-aggregate-search : tie.Need-slice-aggregate-search
 slice-aggregate-search c = search needs

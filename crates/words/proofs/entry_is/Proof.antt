@@ -3,9 +3,6 @@ use borrow.Author.Tests.{eq-eqb, ne-eqb}
 use borrow.Author.Needs.{needs}
 use Rattle.words.proofs.entry_is.Statement.{statement}
 use Rattle.words.proofs.entry_is.Tie as tie
-use Rattle.words.proofs.entry_is.Reads as reads
-use Rattle.words.proofs.entry_is.Lts as lts
-use Rattle.words.proofs.begins_with.Reads as begins-with-reads
 
 returns : tie.Need-returns
 returns c = simp (ne-eqb _ _ (c .if1 .taken))

@@ -8,9 +8,6 @@ use Prim.Native.Nat.{_-_, _≤_}
 use mathlib.Core.Path.{_≡_, refl}
 use Rattle.words.proofs.search.Statement.{statement}
 use Rattle.words.proofs.search.Tie as tie
-use Rattle.words.proofs.search.Reads as reads
-use Rattle.words.proofs.search.Lts as lts
-use Rattle.words.proofs.entry_is.Reads as entry-is-reads
 
 abbrev Inv-loop : tie.InvT-loop
 Inv-loop w list i₀ k₀ i k = (k ≤ i) × (searched 0 k w (drop i list) ≡ searched 0 0 w list)

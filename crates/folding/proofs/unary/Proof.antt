@@ -1,0 +1,46 @@
+-- The operand's case decides which signs fit. Assumes nothing.
+use mir.Syntax.{w32}
+use mir.Val.{SFits}
+use mir.ValLaws.{toZ-ofZ}
+use borrow.Author.Needs.{needs}
+use Rattle.folding.proofs.unary.Statement.{statement}
+use Rattle.folding.proofs.unary.Tie as tie
+
+enum-known-x : tie.Need-enum-known-x
+enum-known-x c = search needs
+
+sign-whole-requires : tie.Need-sign-whole-requires
+sign-whole-requires c κs = search needs
+
+enum-known-x-2 : tie.Need-enum-known-x-2
+enum-known-x-2 c = search needs
+
+sign-truth-requires : tie.Need-sign-truth-requires
+sign-truth-requires c κs = search needs
+
+enum-known-x-3 : tie.Need-enum-known-x-3
+enum-known-x-3 c = search needs
+
+returns : tie.Need-returns
+returns c = let x = c .before .before .x .given in
+    let f : SFits w32 (x .0 .0) = search needs in
+    rw (x .1) (rw (toZ-ofZ w32 (x .0 .0) f) at (c .sign-whole .ensures))
+
+returns-2 : tie.Need-returns-2
+returns-2 c = rw (c .before .before .x2 .given .1) (c .sign-truth .ensures)
+
+returns-3 : tie.Need-returns-3
+returns-3 c = rw (c .before .x3 .given .1)
+
+pub unary-spec : {M : Type 1} → statement M
+unary-spec =
+    tie.close
+    (tie.spec
+    enum-known-x
+    sign-whole-requires
+    enum-known-x-2
+    sign-truth-requires
+    enum-known-x-3
+    returns
+    returns-2
+    returns-3)

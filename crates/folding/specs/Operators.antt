@@ -1,0 +1,109 @@
+-- The operators on folded operands: "The folded result of an expression is an integer, a truth, or the state that stopped it." Where an
+-- operand carries a state, the first one met stands: "left operand, right operand, operator". Assumes nothing.
+use Prim.Native.Nat.{ℕ}
+use mathlib.Core.Bool.{Bool, true, false, cond, not, _&&_, _||_}
+use lib.IntN.{ℤ, pos, natAbs, negℤ}
+use lib.Signed.{ltZ, leZ}
+use Rattle.integers.specs.Integers.{sizedOf, arithmeticOf}
+use Rattle.integers.specs.declared.Folded.{Folded}
+use Rattle.integers.specs.declared.Folded.the-variants.{Whole, Truth, Stopped}
+use Rattle.folding.specs.declared.Relation.{Relation}
+use Rattle.folding.specs.declared.Relation.the-variants.{Equal, Unequal, Less, LessEqual, Greater, GreaterEqual}
+use Rattle.folding.specs.declared.Logic.{Logic}
+use Rattle.folding.specs.declared.Logic.the-variants.{And, Or, Nand, Nor, Xor, Xnor}
+use Rattle.folding.specs.declared.Operator.{Operator}
+use Rattle.folding.specs.declared.Operator.the-variants as O
+use Rattle.folding.specs.declared.Sign.{Sign}
+use Rattle.folding.specs.declared.Sign.the-variants.{Plus, Minus, Absolute, Not}
+
+-- the six relations, on integers
+abbrev pub relationOf : Relation → ℤ → ℤ → Bool
+relationOf Equal a b = leZ a b && leZ b a
+relationOf Unequal a b = ltZ a b || ltZ b a
+relationOf Less a b = ltZ a b
+relationOf LessEqual a b = leZ a b
+relationOf Greater a b = ltZ b a
+relationOf GreaterEqual a b = leZ b a
+
+-- "All six relations hold on two truths, false below true": a truth's place in that order
+abbrev pub placeOf : Bool → ℤ
+placeOf false = pos 0
+placeOf true = pos 1
+
+-- the six operators on truths
+abbrev pub logicOf : Logic → Bool → Bool → Bool
+logicOf And t u = t && u
+logicOf Or t u = t || u
+logicOf Nand t u = not (t && u)
+logicOf Nor t u = not (t || u)
+logicOf Xor t u = t && not u || not t && u
+logicOf Xnor t u = t && u || not t && not u
+
+-- "`and`, `nand`, `or`, `nor` skip the right side where the left decides"
+abbrev pub decides : Logic → Bool → Bool
+decides And t = not t
+decides Or t = t
+decides Nand t = not t
+decides Nor t = t
+decides Xor t = false
+decides Xnor t = false
+
+-- an operator on two integers; state 6, "logic on integers", and state 3, "`&`"
+abbrev pub onWholes : Operator → ℤ → ℤ → Folded
+onWholes (O.Arithmetic o) a b = arithmeticOf o a b
+onWholes (O.Relation o) a b = Truth (relationOf o a b)
+onWholes (O.Logic o) a b = Stopped 6
+onWholes O.Join a b = Stopped 3
+
+-- an operator on two truths; state 6, "arithmetic on truths"
+abbrev pub onTruths : Operator → Bool → Bool → Folded
+onTruths (O.Arithmetic o) t u = Stopped 6
+onTruths (O.Relation o) t u = Truth (relationOf o (placeOf t) (placeOf u))
+onTruths (O.Logic o) t u = Truth (logicOf o t u)
+onTruths O.Join t u = Stopped 3
+
+-- the right side behind an integer; state 6, "integer and truth mixed"
+abbrev pub afterWhole : Operator → ℤ → Folded → Folded
+afterWhole op a (Whole b) = onWholes op a b
+afterWhole op a (Truth u) = Stopped 6
+afterWhole op a (Stopped s) = Stopped s
+
+-- the right side behind a truth that does not decide
+abbrev pub afterTruth : Operator → Bool → Folded → Folded
+afterTruth op t (Whole b) = Stopped 6
+afterTruth op t (Truth u) = onTruths op t u
+afterTruth op t (Stopped s) = Stopped s
+
+-- where the left side decides, the result is the same for either right side
+abbrev pub shortCircuit : Logic → Bool → Folded → Folded
+shortCircuit o t y = cond (decides o t) (Truth (logicOf o t t)) (afterTruth (O.Logic o) t y)
+
+abbrev pub besideTruth : Operator → Bool → Folded → Folded
+besideTruth (O.Arithmetic o) t y = afterTruth (O.Arithmetic o) t y
+besideTruth (O.Relation o) t y = afterTruth (O.Relation o) t y
+besideTruth (O.Logic o) t y = shortCircuit o t y
+besideTruth O.Join t y = afterTruth O.Join t y
+
+-- "the first of 7 to 9 met, left operand, right operand, operator"
+abbrev pub binaryOf : Operator → Folded → Folded → Folded
+binaryOf op (Whole a) y = afterWhole op a y
+binaryOf op (Truth t) y = besideTruth op t y
+binaryOf op (Stopped s) y = Stopped s
+
+-- a sign or `abs` on an integer, `not` on a truth
+abbrev pub signOf : Sign → ℤ → Folded
+signOf Plus a = sizedOf a
+signOf Minus a = sizedOf (negℤ a)
+signOf Absolute a = sizedOf (pos (natAbs a))
+signOf Not a = Stopped 6
+
+abbrev pub notOf : Sign → Bool → Folded
+notOf Plus t = Stopped 6
+notOf Minus t = Stopped 6
+notOf Absolute t = Stopped 6
+notOf Not t = Truth (not t)
+
+abbrev pub unaryOf : Sign → Folded → Folded
+unaryOf op (Whole a) = signOf op a
+unaryOf op (Truth t) = notOf op t
+unaryOf op (Stopped s) = Stopped s

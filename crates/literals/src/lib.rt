@@ -1,0 +1,113 @@
+// The value of an integer literal, in time linear in its bytes. Every public function takes any bytes.
+use classes::Run;
+use integers::Folded;
+ghost use mathlib.Core.Path.{_≡_};
+ghost use Prim.Native.Nat.{_+_, _*_, _^_, _≤_, _<_, min};
+ghost use lib.IntN.{pos};
+ghost use lib.ListN.{length, drop};
+ghost use Rattle.integers.specs.Integers.{sizedOf};
+ghost use Rattle.literals.specs.Literals.{digitIn, spelled, leading, exponentOf, numberIn, literalOf};
+
+// One digit more, where 2147483648 stands for any number from there on.
+fn with_digit(base: u8, v: u64, b: u8) -> u64
+    requires { ⌜ (2 ≤ base) × (base ≤ 16) × (v ≤ 2147483648) ⌝ }
+    ensures { λ r. ⌜ r ≡ min 2147483648 (digitIn base v b) ⌝ }
+{
+    if b == 95 {
+        return v;
+    }
+    let n = v * (base as u64) + (classes::digit_value(b) as u64);
+    if 2147483648 < n {
+        return 2147483648;
+    }
+    n
+}
+
+// The number that digits and underscores spell, or 2147483648 where it is larger.
+fn capped(base: u8, s: &[u8]) -> u64
+    requires { ⌜ (2 ≤ base) × (base ≤ 16) ⌝ }
+    ensures { λ r. ⌜ r ≡ min 2147483648 (spelled base 0 (now (s .entry))) ⌝ }
+{
+    let mut v: u64 = 0;
+    let mut i = 0;
+    while i < s.len() {
+        v = with_digit(base, v, s[i]);
+        i += 1;
+    }
+    v
+}
+
+fn leading_value(base: u8, s: &[u8]) -> u64
+    requires { ⌜ (2 ≤ base) × (base ≤ 16) ⌝ }
+    ensures { λ r. ⌜ r ≡ min 2147483648 (leading base (now (s .entry))) ⌝ }
+{
+    let n = classes::run_length(Run::Below(base), s);
+    capped(base, &s[..n])
+}
+
+fn exponent_at(s: &[u8], at: usize) -> u64
+    ensures { λ r. ⌜ r ≡ min 2147483648 (exponentOf (drop at (now (s .entry)))) ⌝ }
+{
+    if classes::lower_case(classes::byte_or(s, at)) != 101 {
+        return 0;
+    }
+    let n = at + 1;
+    if classes::byte_or(s, n) == 43 {
+        let m = at + 2;
+        return leading_value(10, &s[m..]);
+    }
+    leading_value(10, &s[n..])
+}
+
+// m times the base to the e. A number other than 0 grows past the largest in at most 31 turns.
+fn scaled(m: u64, base: u8, e: u64) -> Folded
+    requires { ⌜ (m ≤ 2147483647) × (2 ≤ base) × (base ≤ 16) ⌝ }
+    ensures { λ r. ⌜ r ≡ sizedOf (pos (m * base ^ e)) ⌝ }
+{
+    if m == 0 {
+        return Folded::Whole(0);
+    }
+    let mut acc = m;
+    let mut i: u64 = 0;
+    while i < e {
+        let next = acc * (base as u64);
+        if 2147483647 < next {
+            return Folded::Stopped(9);
+        }
+        acc = next;
+        i += 1;
+    }
+    Folded::Whole(acc as i32)
+}
+
+fn number_in(base: u8, closing: usize, s: &[u8]) -> Folded
+    requires { ⌜ (2 ≤ base) × (base ≤ 16) × (closing ≤ 1) ⌝ }
+    ensures { λ r. ⌜ r ≡ sizedOf (pos (numberIn base closing (now (s .entry)))) ⌝ }
+{
+    let m = leading_value(base, s);
+    if 2147483647 < m {
+        return Folded::Stopped(9);
+    }
+    let n = classes::run_length(Run::Below(base), s);
+    let e = exponent_at(s, n + closing);
+    scaled(m, base, e)
+}
+
+// The value of the literal at the front of the bytes, or state 9.
+pub fn literal(s: &[u8]) -> Folded
+    ensures { λ r. ⌜ r ≡ literalOf (now (s .entry)) ⌝ }
+{
+    let n = classes::run_length(Run::Below(10), s);
+    if classes::byte_or(s, n) != 35 {
+        return number_in(10, 0, s);
+    }
+    let base = leading_value(10, s);
+    if base < 2 {
+        return number_in(10, 0, s);
+    }
+    if 16 < base {
+        return number_in(10, 0, s);
+    }
+    let m = n + 1;
+    number_in(base as u8, 1, &s[m..])
+}

@@ -1,0 +1,113 @@
+-- The ways that a piece is told by its kinds, in the code's terms: each premise is what a call or a test gives. Assumes nothing.
+use mathlib.Core.Path.{_≡_, refl, sym}
+use mathlib.Core.Bool.{Bool, true, false, not, _&&_}
+use mathlib.Core.List.{List, [], _∷_}
+use Prim.Native.Nat.{ℕ, zero, suc, _+_, _*_, _≤_, _<_}
+use native.Mathlib.Omega.{arith}
+use borrow.Author.Tests.{eq-eqb, ne-eqb, not-true, not-false}
+use mir.Syntax.{w64}
+use mir.Val.{Fits}
+use lib.Dec.{eqb}
+use lib.ListN.{length, getD, drop, length-drop}
+use lib.Seq.{getD-drop, getD-take, length-take-le}
+use Rattle.classes.proofs.Laws.{by-test}
+use Rattle.pieces.specs.Kinds.{mark, kindsOf, pieceAt, isName, isHeading, behindWord, hasName, endsAt, isClosing, claimMark, markOf}
+use Rattle.pieces.specs.declared.Mark.{Mark}
+use Rattle.pieces.proofs.Laws.{kinds-length, kinds-at}
+
+module _ (n : ℕ) (t : List ℕ) (from count : ℕ) (r : from + count ≤ n) where
+  pub piece-length : length (pieceAt n t from count) ≡ count
+  unfolding pieceAt
+  piece-length = length-take-le count (drop from (kindsOf n t)) (omega (arith, length-drop from (kindsOf n t), kinds-length n t))
+
+  pub piece-kind : (i : ℕ) → i < count → getD t (3 * (from + i)) 0 ≡ getD (pieceAt n t from count) i 0
+  unfolding pieceAt
+  piece-kind i h = rw (getD-take, getD-drop) (kinds-at n (from + i) t (omega arith))
+
+  pub piece-past : (i : ℕ) → count ≤ i → _≡_ {A = ℕ} 0 (getD (pieceAt n t from count) i 0)
+  piece-past i h = sym (past-end (pieceAt n t from count) i (omega (arith, piece-length)))
+    where
+      past-end : (s : List ℕ) (i : ℕ) → length s ≤ i → getD s i 0 ≡ 0
+      past-end [] i h = refl
+      past-end (x ∷ s) zero h = absurd (omega arith)
+      past-end (x ∷ s) (suc i) h = past-end s i (omega arith)
+
+  pub heading-other : (count ≡ 3 → ⊥) → false ≡ isHeading (pieceAt n t from count)
+  unfolding isHeading
+  heading-other h = rw (piece-length, ne-eqb count 3 h)
+
+  pub heading-is : (a b c : ℕ) (x : Bool) → a ≡ getD (pieceAt n t from count) 0 0 → b ≡ getD (pieceAt n t from count) 1 0 → c ≡ getD (pieceAt n t from count) 2 0
+      → x ≡ isName b → count ≡ 3 → ((eqb a 98 && x) && eqb c 78) ≡ isHeading (pieceAt n t from count)
+  unfolding isHeading
+  heading-is a b c x p q k y h = rw (piece-length, eq-eqb count 3 h, ← p, ← q, ← k, y)
+
+  pub ends-at : (at a b : ℕ) → a ≡ getD (pieceAt n t from count) 0 0 → b ≡ getD (pieceAt n t from count) at 0
+      → ((eqb a 61 && eqb b 26) && eqb count (at + 1)) ≡ endsAt (pieceAt n t from count) at
+  unfolding endsAt
+  ends-at at a b p q = rw (piece-length, ← p, ← q)
+
+module _ (p : List ℕ) where
+  pub behind-two : (k : ℕ) → k ≡ getD p 1 0 → k ≡ 98 → _≡_ {A = ℕ} 2 (behindWord p)
+  unfolding behindWord
+  behind-two k e h = rw (← e, eq-eqb k 98 h)
+
+  pub behind-one : (k : ℕ) → k ≡ getD p 1 0 → (k ≡ 98 → ⊥) → _≡_ {A = ℕ} 1 (behindWord p)
+  unfolding behindWord
+  behind-one k e h = rw (← e, ne-eqb k 98 h)
+
+  pub behind-small : behindWord p ≤ 2
+  unfolding behindWord
+  behind-small = by-test (λ (m : ℕ). m ≤ 2) (eqb (getD p 1 0) 98) (λ _. omega arith) (λ _. omega arith)
+
+  pub word-room : (w : ℕ) → w ≡ behindWord p → w ≤ 3
+  word-room w e = omega (arith, behind-small)
+
+  pub next-room : (w : ℕ) → w ≡ behindWord p → w + 1 ≤ 3
+  next-room w e = omega (arith, behind-small)
+
+  pub next-fits : (w : ℕ) → w ≡ behindWord p → Fits w64 (w + 1)
+  next-fits w e = omega (arith, behind-small)
+
+  module _ (k : ℕ) (x : Bool) (e : k ≡ getD p 1 0) (q : x ≡ isName k) where
+    pub claim-none : not x ≡ true → mark 5 0 ≡ claimMark p
+    unfolding claimMark
+    claim-none h = rw (← e, ← q, not-true x h)
+
+    module _ (j : ℕ) (h : not x ≡ false) (f : j ≡ getD p 0 0) where
+      pub claim-constant : j ≡ 53 → mark 3 1 ≡ claimMark p
+      unfolding claimMark
+      claim-constant g = rw (← e, ← q, not-false x h, ← f, eq-eqb j 53 g)
+
+      pub claim-subtype : (j ≡ 53 → ⊥) → j ≡ 129 → mark 4 1 ≡ claimMark p
+      unfolding claimMark
+      claim-subtype g g′ = rw (← e, ← q, not-false x h, ← f, ne-eqb j 53 g, eq-eqb j 129 g′)
+
+      pub claim-other : (j ≡ 53 → ⊥) → (j ≡ 129 → ⊥) → mark 5 0 ≡ claimMark p
+      unfolding claimMark
+      claim-other g g′ = rw (← e, ← q, not-false x h, ← f, ne-eqb j 53 g, ne-eqb j 129 g′)
+
+  module _ (x : Bool) (e : x ≡ isHeading p) where
+    pub mark-heading : x ≡ true → mark 1 1 ≡ markOf p
+    unfolding markOf
+    mark-heading h = rw (← e, h)
+
+    module _ (w k : ℕ) (y z : Bool) (h : x ≡ false) (f : w ≡ behindWord p) (g : k ≡ getD p w 0) (q : y ≡ isName k) where
+      named : hasName p ≡ y
+      unfolding hasName
+      named = rw (← f, ← g, ← q)
+
+      pub mark-named : y ≡ true → z ≡ endsAt p (w + 1) → z ≡ true → mark 2 w ≡ markOf p
+      unfolding markOf isClosing
+      mark-named o i l = rw (← e, h, named, o, ← f, ← i, l)
+
+      pub mark-named-other : (m : Mark) → y ≡ true → z ≡ endsAt p (w + 1) → z ≡ false → m ≡ claimMark p → m ≡ markOf p
+      unfolding markOf isClosing
+      mark-named-other m o i l c = rw (← e, h, named, o, ← f, ← i, l) c
+
+      pub mark-plain : y ≡ false → z ≡ endsAt p w → z ≡ true → mark 2 0 ≡ markOf p
+      unfolding markOf isClosing
+      mark-plain o i l = rw (← e, h, named, o, ← f, ← i, l)
+
+      pub mark-plain-other : (m : Mark) → y ≡ false → z ≡ endsAt p w → z ≡ false → m ≡ claimMark p → m ≡ markOf p
+      unfolding markOf isClosing
+      mark-plain-other m o i l c = rw (← e, h, named, o, ← f, ← i, l) c

@@ -1,0 +1,152 @@
+-- Records put into the item table one after the other, in the code's terms. Assumes nothing.
+use mathlib.Core.Path.{_≡_, refl, sym, ap, _∙_}
+use mathlib.Core.List.{List, [], _∷_, _++_}
+use Prim.Native.Nat.{ℕ, zero, suc, _+_, _-_, _*_, _/_, _^_, _≤_, _<_, min}
+use native.Mathlib.Nat.{zero-add, add-zero, suc-sub-suc, zero-sub, sub-zero}
+use native.Mathlib.Numerals.{add-one, add-two, add-three, add-four, add-five, add-six, add-seven}
+use native.Mathlib.Omega.{arith}
+use borrow.Author.Tests.{eq-eqb, ne-eqb, lt-ltb, le-ltb}
+use lib.Dec.{eqb}
+use lib.ListN.{length, getD, set, take, drop, replicate, length-replicate, length-append}
+use lib.Seq.{sets, length-sets, sets-eq}
+use Rattle.classes.proofs.Laws.{by-test}
+use Rattle.pieces.specs.Cutting.{pieceSize, cut}
+use Rattle.pieces.specs.Kinds.{kindsOf, pieceAt, closesPiece, opensPiece, piecesOf, isHeading, isClosing, hasName, isName, claimMark, markOf}
+use Rattle.pieces.specs.Records.{nameOf, recordOf, recordsFrom, piecesIn, markingOf, recordTable}
+use Rattle.pieces.specs.declared.Mark.{Mark}
+use Rattle.pieces.specs.declared.Marking.the-variants.{Marked, TooMany, TableShort}
+use Rattle.pieces.proofs.Laws.{past, size-inside, first-piece}
+use Rattle.pieces.proofs.Marks.{piece-length, behind-small}
+
+pub name-none : (from place : ℕ) → place ≡ 0 → _≡_ {A = ℕ} 0 (nameOf from place)
+unfolding nameOf
+name-none from place h = rw (eq-eqb place 0 h)
+
+pub name-some : (from place : ℕ) → (place ≡ 0 → ⊥) → from + place ≡ nameOf from place
+unfolding nameOf
+name-some from place h = rw (ne-eqb place 0 h)
+
+-- the eight stores of a record
+pub stored : (t : List ℕ) (w from count name : ℕ) (m : Mark) → name ≡ nameOf from (m .place)
+    → set (set (set (set (set (set (set (set t w (m .class)) (w + 1) from) (w + 2) count) (w + 3) name) (w + 4) 0) (w + 5) 0) (w + 6) 0) (w + 7) 0
+    ≡ sets t w (recordOf from count m)
+unfolding recordOf
+stored t w from count name m e = rw (e, add-one w, add-two w, add-three w, add-four w, add-five w, add-six w, add-seven w)
+
+-- a place is at most 2
+place-small : (p : List ℕ) → markOf p .place ≤ 2
+unfolding markOf claimMark
+place-small p =
+    by-test small (isHeading p) (λ _. omega arith)
+    (λ _. by-test small (isClosing p) (λ _. by-test (λ (n : ℕ). n ≤ 2) (hasName p) (λ _. behind-small p) (λ _. omega arith))
+    (λ _. by-test small (isName (getD p 1 0))
+    (λ _. by-test small (eqb (getD p 0 0) 53) (λ _. omega arith) (λ _. by-test small (eqb (getD p 0 0) 129) (λ _. omega arith) (λ _. omega arith)))
+    (λ _. omega arith)))
+  where
+    small : Mark → Type 0
+    small m = m .place ≤ 2
+
+pub place-fits : (n from : ℕ) (t p : List ℕ) (m : Mark) → m ≡ markOf p → 3 * n ≤ length t → length t < 2 ^ 64 → from < n → from + m .place < 2 ^ 64
+place-fits n from t p m e h k l = omega (arith, place-small p, ap (λ (x : Mark). x .place) e)
+
+sets-append : (t : List ℕ) (w : ℕ) (xs ys : List ℕ) → sets t w (xs ++ ys) ≡ sets (sets t w xs) (w + length xs) ys
+sets-append t w [] ys = rw (add-zero w)
+sets-append t w (x ∷ xs) ys = sets-append (set t w x) (suc w) xs ys ∙ ap (λ (k : ℕ). sets (sets (set t w x) (suc w) xs) k ys) (omega arith)
+
+record-length : (at count : ℕ) (m : Mark) → length (recordOf at count m) ≡ 8
+unfolding recordOf
+record-length at count m = refl
+
+pub records-length : (at : ℕ) (ps : List (List ℕ)) → length (recordsFrom at ps) ≡ 8 * length ps
+unfolding recordsFrom
+records-length at [] = refl
+records-length at (p ∷ ps) =
+    omega (arith, length-append (recordOf at (length p) (markOf p)) (recordsFrom (at + length p) ps), record-length at (length p) (markOf p), records-length (at + length p) ps)
+
+-- the turns of `write_records`
+module _ (n : ℕ) (t : List ℕ) (from r : ℕ) (e : r ≡ pieceSize closesPiece opensPiece (drop from (kindsOf n t))) (l : from < n) where
+  abbrev Rest : List (List ℕ)
+  Rest = piecesOf (drop (from + r) (kindsOf n t))
+
+  opened : recordsFrom from (piecesOf (drop from (kindsOf n t))) ≡ recordOf from r (markOf (pieceAt n t from r)) ++ recordsFrom (from + r) Rest
+  unfolding recordsFrom pieceAt
+  opened =
+      rw (first-piece n t from r e l)
+      (ap (λ (k : ℕ). recordOf from k (markOf (take r (drop from (kindsOf n t)))) ++ recordsFrom (from + k) Rest) (long))
+    where
+      long : length (take r (drop from (kindsOf n t))) ≡ r
+      long = piece-length n t from r (size-inside n t from r e l)
+
+  pub record-turn : (items items′ whole : List ℕ) (w : ℕ) (m : Mark) → m ≡ markOf (pieceAt n t from r) → items′ ≡ sets items w (recordOf from r m)
+      → sets items w (recordsFrom from (piecesOf (drop from (kindsOf n t)))) ≡ whole → sets items′ (w + 8) (recordsFrom (from + r) Rest) ≡ whole
+  record-turn items items′ whole w m p q h =
+      ap (λ (u : List ℕ). sets u (w + 8) (recordsFrom (from + r) Rest)) (q ∙ ap (λ (x : Mark). sets items w (recordOf from r x)) p)
+      ∙ ap (λ (k : ℕ). sets (sets items w (recordOf from r (markOf (pieceAt n t from r)))) (w + k) (recordsFrom (from + r) Rest)) (sym (record-length from r (markOf (pieceAt n t from r))))
+      ∙ sym (sets-append items w (recordOf from r (markOf (pieceAt n t from r))) (recordsFrom (from + r) Rest))
+      ∙ ap (sets items w) (sym opened)
+      ∙ h
+
+  pub room-here : (items : List ℕ) (w : ℕ) → w + 8 * length (piecesOf (drop from (kindsOf n t))) ≤ length items → w + 8 ≤ length items
+  room-here items w h = omega (arith, ap length (first-piece n t from r e l))
+
+  pub room-turn : (items items′ : List ℕ) (w : ℕ) (m : Mark) → items′ ≡ sets items w (recordOf from r m)
+      → w + 8 * length (piecesOf (drop from (kindsOf n t))) ≤ length items → w + 8 + 8 * length Rest ≤ length items′
+  room-turn items items′ w m q h = omega (arith, ap length (first-piece n t from r e l), ap length q ∙ length-sets items w (recordOf from r m))
+
+  pub length-turn : (items items′ : List ℕ) (w k : ℕ) (m : Mark) → items′ ≡ sets items w (recordOf from r m) → length items ≡ k → length items′ ≡ k
+  length-turn items items′ w k m q h = ap length q ∙ length-sets items w (recordOf from r m) ∙ h
+
+pub records-end : (n : ℕ) (t : List ℕ) (items whole : List ℕ) (w at : ℕ) → sets items w (recordsFrom at (piecesOf (drop at (kindsOf n t)))) ≡ whole → n ≤ at → items ≡ whole
+unfolding recordsFrom cut
+records-end n t items whole w at h l = rw (past n t at l) at h
+
+-- the whole table
+all-there : (xs : List ℕ) (words : ℕ) → length xs ≤ words → sets (replicate words 0) 0 xs ≡ xs ++ replicate (words - length xs) 0
+all-there xs words h =
+    sets-eq xs (replicate words 0) 0 (rw (zero-add (length xs), length-replicate {A = ℕ} words 0) h)
+    ∙ ap (λ (k : ℕ). xs ++ drop k (replicate {A = ℕ} words 0)) (zero-add (length xs))
+    ∙ ap (λ (u : List ℕ). xs ++ u) (drop-zeros words (length xs))
+  where
+    drop-zeros : (words k : ℕ) → _≡_ {A = List ℕ} (drop k (replicate words 0)) (replicate (words - k) 0)
+    drop-zeros zero zero = refl
+    drop-zeros zero (suc k) = rw (zero-sub (suc k))
+    drop-zeros (suc w) zero = rw (sub-zero (suc w))
+    drop-zeros (suc w) (suc k) = rw (suc-sub-suc w k) (drop-zeros w k)
+
+-- the answers, and the table with each
+module _ (table : List ℕ) (count n words c : ℕ) (e : n ≡ min count (length table / 3)) (p : c ≡ length (piecesOf (kindsOf n table))) where
+  whole : piecesIn table count ≡ piecesOf (kindsOf n table)
+  unfolding piecesIn
+  whole = rw (← e)
+
+  pub too-many : 1024 < c → TooMany ≡ markingOf (piecesIn table count) words
+  unfolding markingOf
+  too-many h = rw (whole, ← p, lt-ltb 1024 c h)
+
+  pub too-short : c ≤ 1024 → words / 8 < c → TableShort (words / 8) ≡ markingOf (piecesIn table count) words
+  unfolding markingOf
+  too-short h k = rw (whole, ← p, le-ltb 1024 c h, lt-ltb (words / 8) c k)
+
+  pub marked : c ≤ 1024 → c ≤ words / 8 → Marked c ≡ markingOf (piecesIn table count) words
+  unfolding markingOf
+  marked h k = rw (whole, ← p, le-ltb 1024 c h, le-ltb (words / 8) c k)
+
+  pub table-many : (u : List ℕ) → 1024 < c → u ≡ replicate words 0 → u ≡ recordTable (piecesIn table count) words
+  unfolding recordTable
+  table-many u h z = rw (← too-many h) z
+
+  pub table-short : (u : List ℕ) → c ≤ 1024 → words / 8 < c → u ≡ replicate words 0 → u ≡ recordTable (piecesIn table count) words
+  unfolding recordTable
+  table-short u h k z = rw (← too-short h k) z
+
+  pub table-marked : (u v : List ℕ) → c ≤ 1024 → c ≤ words / 8 → v ≡ replicate words 0 → u ≡ sets v 0 (recordsFrom 0 (piecesOf (kindsOf n table)))
+      → u ≡ recordTable (piecesIn table count) words
+  unfolding recordTable
+  table-marked u v h k z o =
+      rw (← marked h k, whole) (o ∙ ap (λ (x : List ℕ). sets x 0 (recordsFrom 0 (piecesOf (kindsOf n table)))) z ∙ all-there (recordsFrom 0 (piecesOf (kindsOf n table))) words (omega (arith, records-length 0 (piecesOf (kindsOf n table)))))
+
+  pub room-all : (v : List ℕ) → v ≡ replicate words 0 → c ≤ words / 8 → 8 * length (piecesOf (kindsOf n table)) ≤ length v
+  room-all v z k = omega (arith, ap length z ∙ length-replicate {A = ℕ} words 0)
+
+pub least-room : (table : List ℕ) (count n : ℕ) → n ≡ min count (length table / 3) → 3 * n ≤ length table
+least-room table count n e = omega arith

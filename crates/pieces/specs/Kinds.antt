@@ -1,0 +1,66 @@
+-- The kinds of elements that pieces are told by, and what a piece is by its kinds. Assumes nothing.
+use Prim.Native.Nat.{ℕ, zero, suc, _+_}
+use mathlib.Core.Bool.{Bool, true, false, cond, _&&_, _||_}
+use mathlib.Core.List.{List, [], _∷_}
+use lib.Dec.{eqb}
+use lib.ListN.{length, getD, take, drop}
+use Rattle.pieces.specs.Cutting.{cut, pieceSize}
+use Rattle.pieces.specs.declared.Mark.{Mark}
+
+-- a class and a place
+abbrev pub mark : ℕ → ℕ → Mark
+mark c p = record { class = c; place = p }
+
+-- the kinds of the first n elements of a table
+unfoldable pub kindsOf : ℕ → List ℕ → List ℕ
+kindsOf zero table = []
+kindsOf (suc n) table = getD table 0 0 ∷ kindsOf n (drop 3 table)
+
+-- the kinds of the elements of a piece
+unfoldable pub pieceAt : ℕ → List ℕ → ℕ → ℕ → List ℕ
+pieceAt n table from count = take count (drop from (kindsOf n table))
+
+-- an identifier (1) or an extended one (2)
+abbrev pub isName : ℕ → Bool
+isName k = eqb k 1 || eqb k 2
+
+-- `;` (26)
+abbrev pub closesPiece : ℕ → Bool
+closesPiece k = eqb k 26
+
+-- the words constant (53), subtype (129), end (61)
+abbrev pub opensPiece : ℕ → Bool
+opensPiece k = eqb k 53 || eqb k 129 || eqb k 61
+
+-- the pieces, each as its kinds
+abbrev pub piecesOf : List ℕ → List (List ℕ)
+piecesOf ks = cut closesPiece opensPiece ks
+
+-- "a heading (package N is)": the words package (98) and is (78)
+unfoldable pub isHeading : List ℕ → Bool
+isHeading p = eqb (length p) 3 && ((eqb (getD p 0 0) 98 && isName (getD p 1 0)) && eqb (getD p 2 0) 78)
+
+-- "a closing (end [package] [N];)": the place behind `end` and perhaps `package`, and whether a name stands there
+unfoldable pub behindWord : List ℕ → ℕ
+behindWord p = cond (eqb (getD p 1 0) 98) 2 1
+
+unfoldable pub hasName : List ℕ → Bool
+hasName p = isName (getD p (behindWord p) 0)
+
+-- the piece begins with `end`, and its last element is a `;` at a place
+unfoldable pub endsAt : List ℕ → ℕ → Bool
+endsAt p at = (eqb (getD p 0 0) 61 && eqb (getD p at 0) 26) && eqb (length p) (at + 1)
+
+unfoldable pub isClosing : List ℕ → Bool
+isClosing p = endsAt p (cond (hasName p) (behindWord p + 1) (behindWord p))
+
+-- "A piece claims a name if it begins with constant or subtype and then a name, broken or not": the class, and the name's place
+abbrev pub claimOf : ℕ → Mark
+claimOf k = cond (eqb k 53) (mark 3 1) (cond (eqb k 129) (mark 4 1) (mark 5 0))
+
+unfoldable pub claimMark : List ℕ → Mark
+claimMark p = cond (isName (getD p 1 0)) (claimOf (getD p 0 0)) (mark 5 0)
+
+-- "class 1 to 5: heading, closing, constant, subtype, unclaimed", and the name's place in the piece, 0 where there is none
+unfoldable pub markOf : List ℕ → Mark
+markOf p = cond (isHeading p) (mark 1 1) (cond (isClosing p) (mark 2 (cond (hasName p) (behindWord p) 0)) (claimMark p))

@@ -1,0 +1,3 @@
+pub mod Cutting
+pub mod Kinds
+pub mod Records

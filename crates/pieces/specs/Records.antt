@@ -1,0 +1,41 @@
+-- The records of pieces before any item is read, and the refusals 9 and 10: "one record to a piece (class 1 to 5 ...; first element, count, name
+-- element, state; in state 0 kind ... and two numbers; what is absent is 0)". Assumes nothing.
+use Prim.Native.Nat.{ℕ, _+_, _-_, _*_, _/_, min}
+use mathlib.Core.Bool.{cond}
+use mathlib.Core.List.{List, [], _∷_, _++_}
+use lib.Dec.{eqb, ltb}
+use lib.ListN.{length, replicate}
+use Rattle.pieces.specs.Kinds.{kindsOf, piecesOf, markOf}
+use Rattle.pieces.specs.declared.Mark.{Mark}
+use Rattle.pieces.specs.declared.Marking.{Marking}
+use Rattle.pieces.specs.declared.Marking.the-variants.{Marked, TooMany, TableShort}
+
+-- the name's element, of a piece that begins at the element `at`
+unfoldable pub nameOf : ℕ → ℕ → ℕ
+nameOf at place = cond (eqb place 0) 0 (at + place)
+
+-- the eight words of a piece's record
+unfoldable pub recordOf : ℕ → ℕ → Mark → List ℕ
+recordOf at count m = m .class ∷ at ∷ count ∷ nameOf at (m .place) ∷ 0 ∷ 0 ∷ 0 ∷ 0 ∷ []
+
+-- the records one after the other
+unfoldable pub recordsFrom : ℕ → List (List ℕ) → List ℕ
+recordsFrom at [] = []
+recordsFrom at (p ∷ ps) = recordOf at (length p) (markOf p) ++ recordsFrom (at + length p) ps
+
+-- the pieces of the elements that count: no more than the table has
+unfoldable pub piecesIn : List ℕ → ℕ → List (List ℕ)
+piecesIn table count = piecesOf (kindsOf (min count (length table / 3)) table)
+
+-- 9: "more than 1,024 pieces"; 10: "item table short", "rows it has"
+unfoldable pub markingOf : List (List ℕ) → ℕ → Marking
+markingOf ps words = cond (ltb 1024 (length ps)) TooMany (cond (ltb (words / 8) (length ps)) (TableShort (words / 8)) (Marked (length ps)))
+
+-- "On refusal every lent table is all zeros. On success unused rows are zeros."
+abbrev pub holds : ℕ → List ℕ → Marking → List ℕ
+holds words rs (Marked n) = rs ++ replicate (words - length rs) 0
+holds words rs TooMany = replicate words 0
+holds words rs (TableShort n) = replicate words 0
+
+unfoldable pub recordTable : List (List ℕ) → ℕ → List ℕ
+recordTable ps words = holds words (recordsFrom 0 ps) (markingOf ps words)

@@ -1,0 +1,227 @@
+// The pieces of an element table: where each begins and ends, its class and its name. Every public function takes any table.
+ghost use mathlib.Core.Path.{_≡_};
+ghost use mathlib.Core.List.{List};
+ghost use Prim.Native.Nat.{ℕ, _+_, _*_, _/_, _^_, _≤_, _<_, min};
+ghost use lib.ListN.{length, getD, drop, take};
+ghost use lib.Seq.{sets};
+ghost use Rattle.pieces.specs.Cutting.{pieceSize};
+ghost use Rattle.pieces.specs.Kinds.{kindsOf, pieceAt, isName, closesPiece, opensPiece, piecesOf, isHeading, behindWord, endsAt, claimMark, markOf};
+ghost use Rattle.pieces.specs.Records.{nameOf, recordOf, recordsFrom, piecesIn, markingOf, recordTable};
+
+// How many pieces were marked; or refusal 9; or refusal 10 with the rows that the table has.
+pub enum Marking {
+    Marked(usize),
+    TooMany,
+    TableShort(usize),
+}
+
+fn is_name(k: u64) -> bool
+    ensures { λ r. ⌜ r ≡ isName k ⌝ }
+{
+    (k == 1) | (k == 2)
+}
+
+fn closes_piece(k: u64) -> bool
+    ensures { λ r. ⌜ r ≡ closesPiece k ⌝ }
+{
+    k == 26
+}
+
+fn opens_piece(k: u64) -> bool
+    ensures { λ r. ⌜ r ≡ opensPiece k ⌝ }
+{
+    (k == 53) | (k == 129) | (k == 61)
+}
+
+// The kind of an element, 0 past the last.
+fn kind_at(elements: &[u64], n: usize, i: usize) -> u64
+    requires { ⌜ 3 * n ≤ length (now elements) ⌝ }
+    ensures { λ r. ⌜ r ≡ getD (kindsOf n (now (elements .entry))) i 0 ⌝ }
+{
+    if i < n { elements[3 * i] } else { 0 }
+}
+
+// How many elements the piece has that begins at an element.
+fn piece_size(elements: &[u64], n: usize, from: usize) -> usize
+    requires { ⌜ (3 * n ≤ length (now elements)) × (from < n) ⌝ }
+    ensures { λ r. ⌜ r ≡ pieceSize closesPiece opensPiece (drop from (kindsOf n (now (elements .entry)))) ⌝ }
+{
+    let mut closed = closes_piece(kind_at(elements, n, from));
+    let mut m: usize = 1;
+    while from + m < n {
+        let k = kind_at(elements, n, from + m);
+        if closed | opens_piece(k) {
+            return m;
+        }
+        closed = closes_piece(k);
+        m += 1;
+    }
+    m
+}
+
+fn count_pieces(elements: &[u64], n: usize) -> usize
+    requires { ⌜ 3 * n ≤ length (now elements) ⌝ }
+    ensures { λ r. ⌜ r ≡ length (piecesOf (kindsOf n (now (elements .entry)))) ⌝ }
+{
+    let mut at: usize = 0;
+    let mut c: usize = 0;
+    while at < n {
+        at += piece_size(elements, n, at);
+        c += 1;
+    }
+    c
+}
+
+// The kind of the i-th element of a piece, 0 past its last.
+fn kind_in(elements: &[u64], n: usize, from: usize, count: usize, i: usize) -> u64
+    requires { ⌜ (3 * n ≤ length (now elements)) × (from + count ≤ n) ⌝ }
+    ensures { λ r. ⌜ r ≡ getD (pieceAt n (now (elements .entry)) from count) i 0 ⌝ }
+{
+    if i < count {
+        elements[3 * (from + i)]
+    } else {
+        0
+    }
+}
+
+fn is_heading(elements: &[u64], n: usize, from: usize, count: usize) -> bool
+    requires { ⌜ (3 * n ≤ length (now elements)) × (from + count ≤ n) ⌝ }
+    ensures { λ r. ⌜ r ≡ isHeading (pieceAt n (now (elements .entry)) from count) ⌝ }
+{
+    if count != 3 {
+        return false;
+    }
+    let first = kind_in(elements, n, from, count, 0);
+    let second = kind_in(elements, n, from, count, 1);
+    let third = kind_in(elements, n, from, count, 2);
+    (first == 98) & is_name(second) & (third == 78)
+}
+
+// Where the name of a closing would stand: behind `end` and perhaps `package`.
+fn behind_word(elements: &[u64], n: usize, from: usize, count: usize) -> usize
+    requires { ⌜ (3 * n ≤ length (now elements)) × (from + count ≤ n) ⌝ }
+    ensures { λ r. ⌜ r ≡ behindWord (pieceAt n (now (elements .entry)) from count) ⌝ }
+{
+    if kind_in(elements, n, from, count, 1) == 98 {
+        2
+    } else {
+        1
+    }
+}
+
+// What a piece is: its class, and its name's place in it, 0 where there is none.
+pub struct Mark {
+    pub class: u64,
+    pub place: usize,
+}
+
+// A piece that begins with `end`, its name's place aside.
+fn closes_with(elements: &[u64], n: usize, from: usize, count: usize, at: usize) -> bool
+    requires { ⌜ (3 * n ≤ length (now elements)) × (from + count ≤ n) × (at ≤ 3) ⌝ }
+    ensures { λ r. ⌜ r ≡ endsAt (pieceAt n (now (elements .entry)) from count) at ⌝ }
+{
+    let first = kind_in(elements, n, from, count, 0);
+    let last = kind_in(elements, n, from, count, at);
+    (first == 61) & (last == 26) & (count == at + 1)
+}
+
+fn mark_claim(elements: &[u64], n: usize, from: usize, count: usize) -> Mark
+    requires { ⌜ (3 * n ≤ length (now elements)) × (from + count ≤ n) ⌝ }
+    ensures { λ r. ⌜ r ≡ claimMark (pieceAt n (now (elements .entry)) from count) ⌝ }
+{
+    if !is_name(kind_in(elements, n, from, count, 1)) {
+        return Mark { class: 5, place: 0 };
+    }
+    let k = kind_in(elements, n, from, count, 0);
+    if k == 53 {
+        return Mark { class: 3, place: 1 };
+    }
+    if k == 129 {
+        return Mark { class: 4, place: 1 };
+    }
+    Mark { class: 5, place: 0 }
+}
+
+fn mark_piece(elements: &[u64], n: usize, from: usize, count: usize) -> Mark
+    requires { ⌜ (3 * n ≤ length (now elements)) × (from + count ≤ n) ⌝ }
+    ensures { λ r. ⌜ r ≡ markOf (pieceAt n (now (elements .entry)) from count) ⌝ }
+{
+    if is_heading(elements, n, from, count) {
+        return Mark { class: 1, place: 1 };
+    }
+    let w = behind_word(elements, n, from, count);
+    if is_name(kind_in(elements, n, from, count, w)) {
+        if closes_with(elements, n, from, count, w + 1) {
+            return Mark { class: 2, place: w };
+        }
+        return mark_claim(elements, n, from, count);
+    }
+    if closes_with(elements, n, from, count, w) {
+        return Mark { class: 2, place: 0 };
+    }
+    mark_claim(elements, n, from, count)
+}
+
+// The name's element, 0 where there is none.
+fn name_element(from: usize, place: usize) -> usize
+    requires { ⌜ from + place < 2 ^ 64 ⌝ }
+    ensures { λ r. ⌜ r ≡ nameOf from place ⌝ }
+{
+    if place == 0 { 0 } else { from + place }
+}
+
+// The record of a piece: class, first element, count, name element; nothing is known of its state yet.
+fn write_record(items: &mut [u64], w: usize, from: usize, count: usize, m: Mark)
+    requires { ⌜ (w + 8 ≤ length (now items)) × (from + m .place < 2 ^ 64) ⌝ }
+    ensures { λ _. ⌜ now (items .exit) ≡ sets (now (items .entry)) w (recordOf from count m) ⌝ }
+{
+    items[w] = m.class;
+    items[w + 1] = from as u64;
+    items[w + 2] = count as u64;
+    items[w + 3] = name_element(from, m.place) as u64;
+    items[w + 4] = 0;
+    items[w + 5] = 0;
+    items[w + 6] = 0;
+    items[w + 7] = 0;
+}
+
+// Marks every piece: its record stands at its number.
+fn write_records(elements: &[u64], n: usize, items: &mut [u64])
+    requires { ⌜ (3 * n ≤ length (now elements)) × (8 * length (piecesOf (kindsOf n (now elements))) ≤ length (now items)) ⌝ }
+    ensures { λ _. ⌜ now (items .exit) ≡ sets (now (items .entry)) 0 (recordsFrom 0 (piecesOf (kindsOf n (now (elements .entry))))) ⌝ }
+{
+    let mut at: usize = 0;
+    let mut w: usize = 0;
+    while at < n {
+        let count = piece_size(elements, n, at);
+        let m = mark_piece(elements, n, at, count);
+        write_record(items, w, at, count, m);
+        at += count;
+        w += 8;
+    }
+}
+
+// Cuts the elements into pieces and marks each; the item table holds the records, and zeros behind them or on a refusal.
+pub fn mark_pieces(elements: &[u64], count: usize, items: &mut [u64]) -> Marking
+    ensures { λ r. ⌜ r ≡ markingOf (piecesIn (now (elements .entry)) count) (length (now (items .entry))) ⌝ }
+    ensures { λ _. ⌜ now (items .exit) ≡ recordTable (piecesIn (now (elements .entry)) count) (length (now (items .entry))) ⌝ }
+{
+    let rows = items.len() / 8;
+    lent::clear(items);
+    let n = least(count, elements.len() / 3);
+    let pieces = count_pieces(elements, n);
+    if 1024 < pieces {
+        return Marking::TooMany;
+    }
+    if rows < pieces {
+        return Marking::TableShort(rows);
+    }
+    write_records(elements, n, items);
+    Marking::Marked(pieces)
+}
+
+fn least(a: usize, b: usize) -> usize
+    ensures { λ r. ⌜ r ≡ min a b ⌝ }
+{
+    if a <= b { a } else { b }
+}
