@@ -1,6 +1,6 @@
 #!/usr/bin/env python3
 """Writes the tables that follow from the rules: crates/forms/specs/Picks.antt (which rule at which next kind), crates/forms/proofs/Hints.antt
-(the hint tables of the computed tests) and crates/tables/src/lib.rt's const arrays, between its marks. Reads crates/forms/specs/{Kinds,Names,Rules}.antt.
+(the hint tables of the computed tests) and crates/tables/src/lib.rt's byte strings, each under its mark. Reads crates/forms/specs/{Kinds,Names,Rules}.antt.
 No table is trusted: the checker computes the tests. Run it from the repository's root after an edit of the rules. Python 3, standard library."""
 import os
 import re
@@ -270,7 +270,8 @@ use mathlib.Core.Bool.{Bool, true, false}
             'SIZES': [len(b) for _, b in g.rules],
             'BODIES': [c for _, b in g.rules for c in [g.code(x) for x in b] + [0] * (WIDE - len(b))]}
         for name, xs in made.items():
-            s = re.sub(r'(// %s\n\s*let \w+ = byte_at\()b"[^"]*"' % name, lambda m: m.group(1) + string(xs), s)
+            s = re.sub(r'(-> \[u8; )\d+(\][^{}]*\{[^{}]*\}[^{}]*\{\s*// %s\n\s*\*)b"[^"]*"' % name,
+                       lambda m: m.group(1) + str(len(xs)) + m.group(2) + string(xs), s)
         write(path, s)
     print('%d rules, %d names, %d kinds with the end and any other' % (len(g.rules), g.names, g.columns))
 

@@ -1,2 +1,2 @@
-mod Tables
-mod Bodies
+pub mod Tables
+pub mod Lines

@@ -9,6 +9,7 @@ use lib.Seq.{drop-cons, drop-length, drop-drop, getD-drop, getD-set-same, drop-s
 use Rattle.ll.specs.Grammar.{Sym, tok, nt, act, look}
 use Rattle.forms.specs.Kinds.{terminalOf}
 use Rattle.tables.specs.Symbols.{symOf, syms}
+use Rattle.tables.proofs.Tables.{terminal-small}
 use Rattle.tree.specs.Answers.{terminalsOf}
 
 pub look-at : (l : List ℕ) (i : ℕ) → i < length l → look (drop i l) ≡ getD l i 0
@@ -35,6 +36,16 @@ terminals-at n l i r h e = e ∙ flip (look-at (terminalsOf n l) i (omega (arith
 
 pub terminals-end : (n : ℕ) (l : List ℕ) (i : ℕ) → n ≤ i → 0 ≡ look (drop i (terminalsOf n l))
 terminals-end n l i h = look-end (terminalsOf n l) i (omega (arith, terminals-size n l))
+
+terminals-small : (n : ℕ) (l : List ℕ) (i : ℕ) → look (drop i (terminalsOf n l)) < 68
+unfolding terminalsOf
+terminals-small zero l zero = omega arith
+terminals-small zero l (suc i) = omega arith
+terminals-small (suc n) l zero = terminal-small (getD l 0 0)
+terminals-small (suc n) l (suc i) = terminals-small n (drop 3 l) i
+
+pub kind-small : (n : ℕ) (l : List ℕ) (i r : ℕ) → r ≡ look (drop i (terminalsOf n l)) → r < 68
+kind-small n l i r e = subst (λ (x : ℕ). x < 68) (flip e) (terminals-small n l i)
 
 pub drop-set-here : (l : List ℕ) (k x : ℕ) → k < length l → drop k (set l k x) ≡ x ∷ drop (suc k) l
 drop-set-here l k x h =

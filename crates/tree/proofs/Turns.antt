@@ -98,6 +98,9 @@ module _ (text elements : List ℕ) (n : ℕ) (stk : List ℕ) (sp : ℕ) (size 
         nz : (q : ℕ) → (q ≡ 0 → ⊥) → q ≡ suc (q - 1)
         nz q z = omega arith
 
+    pub rule-in : q - 1 < 165
+    rule-in = tests.forms-ll .table (getD stk sp 0 - 68) (look (drop at (terminalsOf n elements))) (q - 1) rule-is .0
+
     module _ {frames cells next heads : List ℕ} {fp depth used : ℕ} (g : Going text elements n left frames cells next heads fp depth used at) where
       grown : Going text elements n (body (q - 1) ++ rest) frames cells next heads fp depth used at
       grown = going.by-rule text elements n (at-nt g l h m) (q - 1) rule-is

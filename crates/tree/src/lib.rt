@@ -1,5 +1,6 @@
 // Elements to a tree: the machine over the tables of the forms, with its rows. Rows are complete innermost first and stand parent first:
-// they are kept in the order of completion, in a list to each base, and written out at the end, so that a text costs by its elements.
+// they are kept in the order of completion, in a list to each base, and written out at the end, so that a text costs by its elements. The
+// tables are made once, in `read_tree`, and lent: made anew at each use, they would cost more than all else.
 ghost use mathlib.Core.Path.{_≡_};
 ghost use mathlib.Core.List.{List, [], _∷_, _++_};
 ghost use Prim.Native.Nat.{ℕ, _+_, _-_, _*_, _/_, _≤_, _<_, min};
@@ -7,9 +8,11 @@ ghost use lib.ListN.{length, drop, getD, set, replicate};
 ghost use lib.Seq.{sets};
 ghost use Rattle.ll.specs.Grammar.{look};
 ghost use Rattle.forms.specs.Rules.{body};
+ghost use Rattle.forms.specs.Picks.{predict};
 ghost use Rattle.forms.specs.Tree.{State, Row, does};
 ghost use Rattle.alike.specs.Alike.{sameName};
 ghost use Rattle.tables.specs.Symbols.{syms};
+ghost use Rattle.tables.specs.Bytes.{kindBytes, pickBytes, sizeBytes, bodyBytes};
 ghost use Rattle.tree.specs.Answers.{elementsIn, terminalsOf, readingIn, wordsOf, answerOf, tableOf};
 ghost use Rattle.tree.specs.Held.{Held, Spans, Done, Tells, usedAfter};
 
@@ -48,28 +51,54 @@ fn minus(a: u64, b: u64) -> u64
     if b <= a { a - b } else { 0 }
 }
 
+fn wide(x: u8) -> u64
+    ensures { λ r. ⌜ r ≡ x ⌝ }
+{
+    x as u64
+}
+
 // What the next element is to the forms, 0 at the end.
-fn next_kind(elements: &[u64], count: usize, at: usize) -> u64
-    requires { ⌜ 3 * count ≤ length (now elements) ⌝ }
+fn next_kind(kinds: &[u8], elements: &[u64], count: usize, at: usize) -> u64
+    requires { ⌜ (now kinds ≡ kindBytes) × (3 * count ≤ length (now elements)) ⌝ }
     ensures { λ r. ⌜ r ≡ look (drop at (terminalsOf count (now (elements .entry)))) ⌝ }
 {
-    if at < count {
-        tables::terminal(elements[3 * at])
-    } else {
-        0
+    if count <= at {
+        return 0;
     }
+    let kind = elements[3 * at];
+    if kind < 148 {
+        return wide(kinds[kind as usize]);
+    }
+    67
+}
+
+// The rule for name n at the next kind t, its number and one more; 0 where there is none.
+fn pick(picks: &[u8], n: usize, t: u64) -> u64
+    requires { ⌜ (now picks ≡ pickBytes) × (n < 80) × (t < 68) ⌝ }
+    ensures { λ r. ⌜ r ≡ predict n t ⌝ }
+{
+    let j = t as usize;
+    wide(picks[n * 68 + j])
+}
+
+// How many symbols rule p has.
+fn body_len(sizes: &[u8], p: usize) -> usize
+    requires { ⌜ (now sizes ≡ sizeBytes) × (p < 165) ⌝ }
+    ensures { λ r. ⌜ r ≡ length (body p) ⌝ }
+{
+    wide(sizes[p]) as usize
 }
 
 // Puts rule p's symbols on the stack, which grows downwards.
-fn push(stk: &mut [u64], sp: usize, p: usize, m: usize)
-    requires { ⌜ (m ≡ length (body p)) × (m ≤ sp) × (sp ≤ length (now stk)) ⌝ }
+fn push(bodies: &[u8], stk: &mut [u64], sp: usize, p: usize, m: usize)
+    requires { ⌜ (m ≡ length (body p)) × (m ≤ sp) × (sp ≤ length (now stk)) × (now bodies ≡ bodyBytes) ⌝ }
     ensures { λ _. ⌜ syms (drop (sp - m) (now (stk .exit))) ≡ body p ++ syms (drop sp (now (stk .entry))) ⌝ }
 {
     let base = sp - m;
     let mut i = m;
     while 0 < i {
         i -= 1;
-        let x = tables::body_at(p, i);
+        let x = wide(bodies[p * 16 + i]);
         stk[base + i] = x;
     }
 }
@@ -191,8 +220,12 @@ fn scan(
     cells: &mut [u64],
     next: &mut [u64],
     heads: &mut [u64],
+    kinds: &[u8],
+    picks: &[u8],
+    sizes: &[u8],
+    bodies: &[u8],
 ) -> Found
-    requires { ⌜ (3 * count ≤ length (now elements)) × (count ≤ 8192) × (length (now cells) ≡ 51840) × (length (now next) ≡ 10368) × (length (now heads) ≡ 10368) × ((i : ℕ) → getD (now heads) i 0 ≡ 0) ⌝ }
+    requires { ⌜ (3 * count ≤ length (now elements)) × (count ≤ 8192) × (length (now cells) ≡ 51840) × (length (now next) ≡ 10368) × (length (now heads) ≡ 10368) × ((i : ℕ) → getD (now heads) i 0 ≡ 0) × (now kinds ≡ kindBytes) × (now picks ≡ pickBytes) × (now sizes ≡ sizeBytes) × (now bodies ≡ bodyBytes) ⌝ }
     ensures { λ r. ⌜ Tells r (now (cells .exit)) (now (next .exit)) (now (heads .exit)) (readingIn (now (text .entry)) (now (elements .entry)) count) ⌝ }
 {
     let mut stk = [0u64; 2176];
@@ -209,21 +242,21 @@ fn scan(
             if count <= at {
                 return Found::Wrong(at);
             }
-            let t = next_kind(elements, count, at);
+            let t = next_kind(kinds, elements, count, at);
             if top != t {
                 return Found::Wrong(at);
             }
             sp += 1;
             at += 1;
         } else if top < 148 {
-            let t = next_kind(elements, count, at);
-            let q = tables::pick((top - 68) as usize, t);
+            let t = next_kind(kinds, elements, count, at);
+            let q = pick(picks, (top - 68) as usize, t);
             if q == 0 {
                 return Found::Wrong(at);
             }
             let p = (q - 1) as usize;
-            let m = tables::body_len(p);
-            push(&mut stk, sp + 1, p, m);
+            let m = body_len(sizes, p);
+            push(bodies, &mut stk, sp + 1, p, m);
             sp = sp + 1 - m;
         } else {
             let r = do_act(
@@ -314,7 +347,22 @@ pub fn read_tree(text: &[u8], elements: &[u64], count: usize, tree: &mut [u64]) 
     let mut cells = [0u64; 51840];
     let mut next = [0u64; 10368];
     let mut heads = [0u64; 10368];
-    let found = scan(text, elements, n, &mut cells, &mut next, &mut heads);
+    let kinds = tables::kinds();
+    let picks = tables::picks();
+    let sizes = tables::sizes();
+    let bodies = tables::bodies();
+    let found = scan(
+        text,
+        elements,
+        n,
+        &mut cells,
+        &mut next,
+        &mut heads,
+        &kinds,
+        &picks,
+        &sizes,
+        &bodies,
+    );
     match found {
         Found::Whole(used) => {
             if used <= tree.len() / 5 {

@@ -10,12 +10,13 @@ use Rattle.ll.specs.Grammar.{Sym}
 use Rattle.tables.specs.Symbols.{syms}
 use Rattle.tree.proofs.Going as going
 use Rattle.tree.proofs.Going.{Going}
+use Rattle.tree.proofs.Lists.{kind-small}
 use Rattle.tree.proofs.Turns as turns
 use Rattle.tree.proofs.scan.Statement.{statement}
 use Rattle.tree.proofs.scan.Tie as tie
 
 abbrev Inv-loop : tie.InvT-loop
-Inv-loop text elements count cells₀ next₀ heads₀ stk₀ sp₀ frames₀ fp₀ depth₀ used₀ at₀ cells next heads stk sp frames fp depth used at =
+Inv-loop text elements count cells₀ next₀ heads₀ kinds picks sizes bodies stk₀ sp₀ frames₀ fp₀ depth₀ used₀ at₀ cells next heads stk sp frames fp depth used at =
     (length stk ≡ 2176)
     × (sp ≤ 2176)
     × (length frames ≡ 8708)
@@ -26,13 +27,13 @@ Inv-loop text elements count cells₀ next₀ heads₀ stk₀ sp₀ frames₀ fp
     × Going text elements count (syms (drop sp stk)) frames cells next heads fp depth used at
 
 abbrev μ-loop : tie.MeasureT-loop
-μ-loop text elements count cells₀ next₀ heads₀ stk₀ sp₀ frames₀ fp₀ depth₀ used₀ at₀ cells next heads stk sp frames fp depth used at = turns.to-do count stk sp at
+μ-loop text elements count cells₀ next₀ heads₀ kinds picks sizes bodies stk₀ sp₀ frames₀ fp₀ depth₀ used₀ at₀ cells next heads stk sp frames fp depth used at = turns.to-do count stk sp at
 
 array-write-stk : tie.Need-array-write-stk Inv-loop μ-loop
 array-write-stk c = omega arith
 
 loop-holds : tie.Need-loop-holds Inv-loop μ-loop
-loop-holds c = (refl, omega arith, refl, c .before .before .before .before .before .pre .2, c .before .before .before .before .before .pre .3, c .before .before .before .before .before .pre .4, omega arith, turns.first-turn (c .before .before .before .before .before .args .text .now) (c .before .before .before .before .before .args .elements .now) (c .before .before .before .before .before .args .count) (c .before .before .before .before .before .args .cells .now) (c .before .before .before .before .before .args .next .now) (c .before .before .before .before .before .args .heads .now) (c .before .before .before .before .before .pre .5))
+loop-holds c = (refl, omega arith, refl, c .before .before .before .before .before .before .before .before .before .pre .2, c .before .before .before .before .before .before .before .before .before .pre .3, c .before .before .before .before .before .before .before .before .before .pre .4, omega arith, turns.first-turn (c .before .before .before .before .before .before .before .before .before .args .text .now) (c .before .before .before .before .before .before .before .before .before .args .elements .now) (c .before .before .before .before .before .before .before .before .before .args .count) (c .before .before .before .before .before .before .before .before .before .args .cells .now) (c .before .before .before .before .before .before .before .before .before .args .next .now) (c .before .before .before .before .before .before .before .before .before .args .heads .now) (c .before .before .before .before .before .before .before .before .before .pre .5))
 
 mul-top : tie.Need-mul-top Inv-loop μ-loop
 mul-top c = omega arith
@@ -50,10 +51,10 @@ same-length-3 : tie.Need-same-length-3 Inv-loop μ-loop
 same-length-3 c = search needs
 
 returns : tie.Need-returns Inv-loop μ-loop
-returns c = going.ends-early (c .before .before .before .before .before .before .before .before .before .args .text .now) (c .before .before .before .before .before .before .before .before .before .args .elements .now) (c .before .before .before .before .before .before .before .before .before .args .count) (turns.at-tok (c .before .before .before .before .before .before .before .before .before .args .text .now) (c .before .before .before .before .before .before .before .before .before .args .elements .now) (c .before .before .before .before .before .before .before .before .before .args .count) (c .before .before .before .loop .stk) (c .before .before .before .loop .sp) (c .before .before .before .loop .inv .0) (c .before .before .before .loop .inv .7) (c .before .before .loop-test .taken) (c .before .if1 .taken)) (c .if2 .taken)
+returns c = going.ends-early (c .before .before .before .before .before .before .before .before .before .before .before .before .before .args .text .now) (c .before .before .before .before .before .before .before .before .before .before .before .before .before .args .elements .now) (c .before .before .before .before .before .before .before .before .before .before .before .before .before .args .count) (turns.at-tok (c .before .before .before .before .before .before .before .before .before .before .before .before .before .args .text .now) (c .before .before .before .before .before .before .before .before .before .before .before .before .before .args .elements .now) (c .before .before .before .before .before .before .before .before .before .before .before .before .before .args .count) (c .before .before .before .loop .stk) (c .before .before .before .loop .sp) (c .before .before .before .loop .inv .0) (c .before .before .before .loop .inv .7) (c .before .before .loop-test .taken) (c .before .if1 .taken)) (c .if2 .taken)
 
 next-kind-requires : tie.Need-next-kind-requires Inv-loop μ-loop
-next-kind-requires c κs = search needs
+next-kind-requires c κs = (c .before .before .before .before .before .before .before .before .before .before .before .before .before .pre .6, c .before .before .before .before .before .before .before .before .before .before .before .before .before .pre .0)
 
 same-length-4 : tie.Need-same-length-4 Inv-loop μ-loop
 same-length-4 c = search needs
@@ -65,7 +66,7 @@ same-length-6 : tie.Need-same-length-6 Inv-loop μ-loop
 same-length-6 c = search needs
 
 returns-2 : tie.Need-returns-2 Inv-loop μ-loop
-returns-2 c = going.wrong-kind (c .before .before .before .before .before .before .before .before .before .before .before .args .text .now) (c .before .before .before .before .before .before .before .before .before .before .before .args .elements .now) (c .before .before .before .before .before .before .before .before .before .before .before .args .count) (turns.at-tok (c .before .before .before .before .before .before .before .before .before .before .before .args .text .now) (c .before .before .before .before .before .before .before .before .before .before .before .args .elements .now) (c .before .before .before .before .before .before .before .before .before .before .before .args .count) (c .before .before .before .before .before .loop .stk) (c .before .before .before .before .before .loop .sp) (c .before .before .before .before .before .loop .inv .0) (c .before .before .before .before .before .loop .inv .7) (c .before .before .before .before .loop-test .taken) (c .before .before .before .if1 .taken)) (c .before .next-kind .result) (c .before .before .if2 .left) (c .before .next-kind .ensures) (c .if3 .taken)
+returns-2 c = going.wrong-kind (c .before .before .before .before .before .before .before .before .before .before .before .before .before .before .before .args .text .now) (c .before .before .before .before .before .before .before .before .before .before .before .before .before .before .before .args .elements .now) (c .before .before .before .before .before .before .before .before .before .before .before .before .before .before .before .args .count) (turns.at-tok (c .before .before .before .before .before .before .before .before .before .before .before .before .before .before .before .args .text .now) (c .before .before .before .before .before .before .before .before .before .before .before .before .before .before .before .args .elements .now) (c .before .before .before .before .before .before .before .before .before .before .before .before .before .before .before .args .count) (c .before .before .before .before .before .loop .stk) (c .before .before .before .before .before .loop .sp) (c .before .before .before .before .before .loop .inv .0) (c .before .before .before .before .before .loop .inv .7) (c .before .before .before .before .loop-test .taken) (c .before .before .before .if1 .taken)) (c .before .next-kind .result) (c .before .before .if2 .left) (c .before .next-kind .ensures) (c .if3 .taken)
 
 add-sp : tie.Need-add-sp Inv-loop μ-loop
 add-sp c = omega arith
@@ -74,7 +75,7 @@ add-at : tie.Need-add-at Inv-loop μ-loop
 add-at c = omega arith
 
 loop-less : tie.Need-loop-less Inv-loop μ-loop
-loop-less c = turns.less-eat (c .before .before .before .before .before .before .before .before .before .before .before .args .text .now) (c .before .before .before .before .before .before .before .before .before .before .before .args .elements .now) (c .before .before .before .before .before .before .before .before .before .before .before .args .count) (c .before .before .before .before .before .loop .stk) (c .before .before .before .before .before .loop .sp) (c .before .before .before .before .before .loop .inv .0) (c .before .before .before .before .before .loop .at) (c .before .before .before .before .loop-test .taken) (c .before .before .before .if1 .taken) (c .before .before .if2 .left)
+loop-less c = turns.less-eat (c .before .before .before .before .before .before .before .before .before .before .before .before .before .before .before .args .text .now) (c .before .before .before .before .before .before .before .before .before .before .before .before .before .before .before .args .elements .now) (c .before .before .before .before .before .before .before .before .before .before .before .before .before .before .before .args .count) (c .before .before .before .before .before .loop .stk) (c .before .before .before .before .before .loop .sp) (c .before .before .before .before .before .loop .inv .0) (c .before .before .before .before .before .loop .at) (c .before .before .before .before .loop-test .taken) (c .before .before .before .if1 .taken) (c .before .before .if2 .left)
 
 loop-again : tie.Need-loop-again Inv-loop μ-loop
 loop-again c = (
@@ -85,14 +86,14 @@ loop-again c = (
   c .before .before .before .before .before .loop .inv .4,
   c .before .before .before .before .before .loop .inv .5,
   omega arith,
-  going.right-kind (c .before .before .before .before .before .before .before .before .before .before .before .args .text .now) (c .before .before .before .before .before .before .before .before .before .before .before .args .elements .now) (c .before .before .before .before .before .before .before .before .before .before .before .args .count) (turns.at-tok (c .before .before .before .before .before .before .before .before .before .before .before .args .text .now) (c .before .before .before .before .before .before .before .before .before .before .before .args .elements .now) (c .before .before .before .before .before .before .before .before .before .before .before .args .count) (c .before .before .before .before .before .loop .stk) (c .before .before .before .before .before .loop .sp) (c .before .before .before .before .before .loop .inv .0) (c .before .before .before .before .before .loop .inv .7) (c .before .before .before .before .loop-test .taken) (c .before .before .before .if1 .taken)) (c .before .next-kind .result) (c .before .before .if2 .left) (c .before .next-kind .ensures) (c .if3 .left),
+  going.right-kind (c .before .before .before .before .before .before .before .before .before .before .before .before .before .before .before .args .text .now) (c .before .before .before .before .before .before .before .before .before .before .before .before .before .before .before .args .elements .now) (c .before .before .before .before .before .before .before .before .before .before .before .before .before .before .before .args .count) (turns.at-tok (c .before .before .before .before .before .before .before .before .before .before .before .before .before .before .before .args .text .now) (c .before .before .before .before .before .before .before .before .before .before .before .before .before .before .before .args .elements .now) (c .before .before .before .before .before .before .before .before .before .before .before .before .before .before .before .args .count) (c .before .before .before .before .before .loop .stk) (c .before .before .before .before .before .loop .sp) (c .before .before .before .before .before .loop .inv .0) (c .before .before .before .before .before .loop .inv .7) (c .before .before .before .before .loop-test .taken) (c .before .before .before .if1 .taken)) (c .before .next-kind .result) (c .before .before .if2 .left) (c .before .next-kind .ensures) (c .if3 .left),
 )
 
 next-kind-requires-2 : tie.Need-next-kind-requires-2 Inv-loop μ-loop
-next-kind-requires-2 c κs = search needs
+next-kind-requires-2 c κs = (c .before .before .before .before .before .before .before .before .before .before .before .before .before .pre .6, c .before .before .before .before .before .before .before .before .before .before .before .before .before .pre .0)
 
 pick-requires : tie.Need-pick-requires Inv-loop μ-loop
-pick-requires c κs = search needs
+pick-requires c κs = (c .before .before .before .before .before .before .before .before .before .before .before .before .before .before .pre .7, omega arith, kind-small (c .before .before .before .before .before .before .before .before .before .before .before .before .before .before .args .count) (c .before .before .before .before .before .before .before .before .before .before .before .before .before .before .args .elements .now) (c .before .before .before .before .loop .at) (c .next-kind2 .result) (c .next-kind2 .ensures))
 
 same-length-7 : tie.Need-same-length-7 Inv-loop μ-loop
 same-length-7 c = search needs
@@ -104,13 +105,13 @@ same-length-9 : tie.Need-same-length-9 Inv-loop μ-loop
 same-length-9 c = search needs
 
 returns-3 : tie.Need-returns-3 Inv-loop μ-loop
-returns-3 c = going.no-rule (c .before .before .before .before .before .before .before .before .before .before .before .before .args .text .now) (c .before .before .before .before .before .before .before .before .before .before .before .before .args .elements .now) (c .before .before .before .before .before .before .before .before .before .before .before .before .args .count) (turns.at-nt (c .before .before .before .before .before .before .before .before .before .before .before .before .args .text .now) (c .before .before .before .before .before .before .before .before .before .before .before .before .args .elements .now) (c .before .before .before .before .before .before .before .before .before .before .before .before .args .count) (c .before .before .before .before .before .before .loop .stk) (c .before .before .before .before .before .before .loop .sp) (c .before .before .before .before .before .before .loop .inv .0) (c .before .before .before .before .before .before .loop .inv .7) (c .before .before .before .before .before .loop-test .taken) (c .before .before .before .before .if1 .left) (c .before .before .before .if4 .taken)) (ap (predict (getD (c .before .before .before .before .before .before .loop .stk) (c .before .before .before .before .before .before .loop .sp) 0 - 68)) (sym (c .before .before .next-kind2 .ensures)) ∙ sym (c .before .pick .ensures) ∙ c .if5 .taken)
+returns-3 c = going.no-rule (c .before .before .before .before .before .before .before .before .before .before .before .before .before .before .before .before .args .text .now) (c .before .before .before .before .before .before .before .before .before .before .before .before .before .before .before .before .args .elements .now) (c .before .before .before .before .before .before .before .before .before .before .before .before .before .before .before .before .args .count) (turns.at-nt (c .before .before .before .before .before .before .before .before .before .before .before .before .before .before .before .before .args .text .now) (c .before .before .before .before .before .before .before .before .before .before .before .before .before .before .before .before .args .elements .now) (c .before .before .before .before .before .before .before .before .before .before .before .before .before .before .before .before .args .count) (c .before .before .before .before .before .before .loop .stk) (c .before .before .before .before .before .before .loop .sp) (c .before .before .before .before .before .before .loop .inv .0) (c .before .before .before .before .before .before .loop .inv .7) (c .before .before .before .before .before .loop-test .taken) (c .before .before .before .before .if1 .left) (c .before .before .before .if4 .taken)) (ap (predict (getD (c .before .before .before .before .before .before .loop .stk) (c .before .before .before .before .before .before .loop .sp) 0 - 68)) (sym (c .before .before .next-kind2 .ensures)) ∙ sym (c .before .pick .ensures) ∙ c .if5 .taken)
 
 sub-p : tie.Need-sub-p Inv-loop μ-loop
 sub-p c = omega arith
 
 body-len-requires : tie.Need-body-len-requires Inv-loop μ-loop
-body-len-requires c κs = search needs
+body-len-requires c κs = (c .before .before .before .before .before .before .before .before .before .before .before .before .before .before .before .before .pre .8, turns.rule-in (c .before .before .before .before .before .before .before .before .before .before .before .before .before .before .before .before .args .text .now) (c .before .before .before .before .before .before .before .before .before .before .before .before .before .before .before .before .args .elements .now) (c .before .before .before .before .before .before .before .before .before .before .before .before .before .before .before .before .args .count) (c .before .before .before .before .before .before .loop .stk) (c .before .before .before .before .before .before .loop .sp) (c .before .before .before .before .before .before .loop .inv .0) (c .before .before .before .before .before .before .loop .at) (c .before .before .next-kind2 .result) (c .before .pick .result) (c .before .before .before .before .before .loop-test .taken) (c .before .before .before .before .if1 .left) (c .before .before .before .if4 .taken) (c .before .before .next-kind2 .ensures) (c .before .pick .ensures) (c .if5 .left))
 
 slice-aggregate-push : tie.Need-slice-aggregate-push Inv-loop μ-loop
 slice-aggregate-push c = omega arith
@@ -119,27 +120,27 @@ add-push : tie.Need-add-push Inv-loop μ-loop
 add-push c = omega arith
 
 push-requires : tie.Need-push-requires Inv-loop μ-loop
-push-requires c κs = (c .before .body-len .ensures, turns.rule-room (c .before .before .before .before .before .before .before .before .before .before .before .before .before .before .args .text .now) (c .before .before .before .before .before .before .before .before .before .before .before .before .before .before .args .elements .now) (c .before .before .before .before .before .before .before .before .before .before .before .before .before .before .args .count) (c .before .before .before .before .before .before .before .before .loop .stk) (c .before .before .before .before .before .before .before .before .loop .sp) (c .before .before .before .before .before .before .before .before .loop .inv .0) (c .before .before .before .before .before .before .before .before .loop .at) (c .before .before .before .before .next-kind2 .result) (c .before .before .before .pick .result) (c .before .before .before .before .before .before .before .loop-test .taken) (c .before .before .before .before .before .before .if1 .left) (c .before .before .before .before .before .if4 .taken) (c .before .before .before .before .next-kind2 .ensures) (c .before .before .before .pick .ensures) (c .before .before .if5 .left) (c .before .before .before .before .before .before .before .before .loop .inv .7) (c .before .body-len .result) (c .before .body-len .ensures), omega arith)
+push-requires c κs = (c .before .body-len .ensures, turns.rule-room (c .before .before .before .before .before .before .before .before .before .before .before .before .before .before .before .before .before .before .args .text .now) (c .before .before .before .before .before .before .before .before .before .before .before .before .before .before .before .before .before .before .args .elements .now) (c .before .before .before .before .before .before .before .before .before .before .before .before .before .before .before .before .before .before .args .count) (c .before .before .before .before .before .before .before .before .loop .stk) (c .before .before .before .before .before .before .before .before .loop .sp) (c .before .before .before .before .before .before .before .before .loop .inv .0) (c .before .before .before .before .before .before .before .before .loop .at) (c .before .before .before .before .next-kind2 .result) (c .before .before .before .pick .result) (c .before .before .before .before .before .before .before .loop-test .taken) (c .before .before .before .before .before .before .if1 .left) (c .before .before .before .before .before .if4 .taken) (c .before .before .before .before .next-kind2 .ensures) (c .before .before .before .pick .ensures) (c .before .before .if5 .left) (c .before .before .before .before .before .before .before .before .loop .inv .7) (c .before .body-len .result) (c .before .body-len .ensures), omega arith, c .before .before .before .before .before .before .before .before .before .before .before .before .before .before .before .before .before .before .pre .9)
 
 add-sp-2 : tie.Need-add-sp-2 Inv-loop μ-loop
 add-sp-2 c = omega arith
 
 sub-sp : tie.Need-sub-sp Inv-loop μ-loop
-sub-sp c = turns.rule-room (c .before .before .before .before .before .before .before .before .before .before .before .before .before .before .before .before .args .text .now) (c .before .before .before .before .before .before .before .before .before .before .before .before .before .before .before .before .args .elements .now) (c .before .before .before .before .before .before .before .before .before .before .before .before .before .before .before .before .args .count) (c .before .before .before .before .before .before .before .before .before .before .loop .stk) (c .before .before .before .before .before .before .before .before .before .before .loop .sp) (c .before .before .before .before .before .before .before .before .before .before .loop .inv .0) (c .before .before .before .before .before .before .before .before .before .before .loop .at) (c .before .before .before .before .before .before .next-kind2 .result) (c .before .before .before .before .before .pick .result) (c .before .before .before .before .before .before .before .before .before .loop-test .taken) (c .before .before .before .before .before .before .before .before .if1 .left) (c .before .before .before .before .before .before .before .if4 .taken) (c .before .before .before .before .before .before .next-kind2 .ensures) (c .before .before .before .before .before .pick .ensures) (c .before .before .before .before .if5 .left) (c .before .before .before .before .before .before .before .before .before .before .loop .inv .7) (c .before .before .before .body-len .result) (c .before .before .before .body-len .ensures)
+sub-sp c = turns.rule-room (c .before .before .before .before .before .before .before .before .before .before .before .before .before .before .before .before .before .before .before .before .args .text .now) (c .before .before .before .before .before .before .before .before .before .before .before .before .before .before .before .before .before .before .before .before .args .elements .now) (c .before .before .before .before .before .before .before .before .before .before .before .before .before .before .before .before .before .before .before .before .args .count) (c .before .before .before .before .before .before .before .before .before .before .loop .stk) (c .before .before .before .before .before .before .before .before .before .before .loop .sp) (c .before .before .before .before .before .before .before .before .before .before .loop .inv .0) (c .before .before .before .before .before .before .before .before .before .before .loop .at) (c .before .before .before .before .before .before .next-kind2 .result) (c .before .before .before .before .before .pick .result) (c .before .before .before .before .before .before .before .before .before .loop-test .taken) (c .before .before .before .before .before .before .before .before .if1 .left) (c .before .before .before .before .before .before .before .if4 .taken) (c .before .before .before .before .before .before .next-kind2 .ensures) (c .before .before .before .before .before .pick .ensures) (c .before .before .before .before .if5 .left) (c .before .before .before .before .before .before .before .before .before .before .loop .inv .7) (c .before .before .before .body-len .result) (c .before .before .before .body-len .ensures)
 
 loop-less-2 : tie.Need-loop-less-2 Inv-loop μ-loop
-loop-less-2 c = turns.rule-less (c .before .before .before .before .before .before .before .before .before .before .before .before .before .before .before .before .args .text .now) (c .before .before .before .before .before .before .before .before .before .before .before .before .before .before .before .before .args .elements .now) (c .before .before .before .before .before .before .before .before .before .before .before .before .before .before .before .before .args .count) (c .before .before .before .before .before .before .before .before .before .before .loop .stk) (c .before .before .before .before .before .before .before .before .before .before .loop .sp) (c .before .before .before .before .before .before .before .before .before .before .loop .inv .0) (c .before .before .before .before .before .before .before .before .before .before .loop .at) (c .before .before .before .before .before .before .next-kind2 .result) (c .before .before .before .before .before .pick .result) (c .before .before .before .before .before .before .before .before .before .loop-test .taken) (c .before .before .before .before .before .before .before .before .if1 .left) (c .before .before .before .before .before .before .before .if4 .taken) (c .before .before .before .before .before .before .next-kind2 .ensures) (c .before .before .before .before .before .pick .ensures) (c .before .before .before .before .if5 .left) _ (c .before .push .ensures)
+loop-less-2 c = turns.rule-less (c .before .before .before .before .before .before .before .before .before .before .before .before .before .before .before .before .before .before .before .before .args .text .now) (c .before .before .before .before .before .before .before .before .before .before .before .before .before .before .before .before .before .before .before .before .args .elements .now) (c .before .before .before .before .before .before .before .before .before .before .before .before .before .before .before .before .before .before .before .before .args .count) (c .before .before .before .before .before .before .before .before .before .before .loop .stk) (c .before .before .before .before .before .before .before .before .before .before .loop .sp) (c .before .before .before .before .before .before .before .before .before .before .loop .inv .0) (c .before .before .before .before .before .before .before .before .before .before .loop .at) (c .before .before .before .before .before .before .next-kind2 .result) (c .before .before .before .before .before .pick .result) (c .before .before .before .before .before .before .before .before .before .loop-test .taken) (c .before .before .before .before .before .before .before .before .if1 .left) (c .before .before .before .before .before .before .before .if4 .taken) (c .before .before .before .before .before .before .next-kind2 .ensures) (c .before .before .before .before .before .pick .ensures) (c .before .before .before .before .if5 .left) _ (c .before .push .ensures)
 
 loop-again-2 : tie.Need-loop-again-2 Inv-loop μ-loop
 loop-again-2 c = (
-  c .before .push .kept .0 ∙ c .before .before .before .before .before .before .before .before .before .before .loop .inv .0,
+  c .before .push .kept .1 .0 ∙ c .before .before .before .before .before .before .before .before .before .before .loop .inv .0,
   omega arith,
   c .before .before .before .before .before .before .before .before .before .before .loop .inv .2,
   c .before .before .before .before .before .before .before .before .before .before .loop .inv .3,
   c .before .before .before .before .before .before .before .before .before .before .loop .inv .4,
   c .before .before .before .before .before .before .before .before .before .before .loop .inv .5,
   c .before .before .before .before .before .before .before .before .before .before .loop .inv .6,
-  turns.rule-on (c .before .before .before .before .before .before .before .before .before .before .before .before .before .before .before .before .args .text .now) (c .before .before .before .before .before .before .before .before .before .before .before .before .before .before .before .before .args .elements .now) (c .before .before .before .before .before .before .before .before .before .before .before .before .before .before .before .before .args .count) (c .before .before .before .before .before .before .before .before .before .before .loop .stk) (c .before .before .before .before .before .before .before .before .before .before .loop .sp) (c .before .before .before .before .before .before .before .before .before .before .loop .inv .0) (c .before .before .before .before .before .before .before .before .before .before .loop .at) (c .before .before .before .before .before .before .next-kind2 .result) (c .before .before .before .before .before .pick .result) (c .before .before .before .before .before .before .before .before .before .loop-test .taken) (c .before .before .before .before .before .before .before .before .if1 .left) (c .before .before .before .before .before .before .before .if4 .taken) (c .before .before .before .before .before .before .next-kind2 .ensures) (c .before .before .before .before .before .pick .ensures) (c .before .before .before .before .if5 .left) (c .before .before .before .before .before .before .before .before .before .before .loop .inv .7) (c .before .before .before .body-len .result) (c .before .push .last .0) (c .before .before .before .body-len .ensures) (c .before .push .ensures),
+  turns.rule-on (c .before .before .before .before .before .before .before .before .before .before .before .before .before .before .before .before .before .before .before .before .args .text .now) (c .before .before .before .before .before .before .before .before .before .before .before .before .before .before .before .before .before .before .before .before .args .elements .now) (c .before .before .before .before .before .before .before .before .before .before .before .before .before .before .before .before .before .before .before .before .args .count) (c .before .before .before .before .before .before .before .before .before .before .loop .stk) (c .before .before .before .before .before .before .before .before .before .before .loop .sp) (c .before .before .before .before .before .before .before .before .before .before .loop .inv .0) (c .before .before .before .before .before .before .before .before .before .before .loop .at) (c .before .before .before .before .before .before .next-kind2 .result) (c .before .before .before .before .before .pick .result) (c .before .before .before .before .before .before .before .before .before .loop-test .taken) (c .before .before .before .before .before .before .before .before .if1 .left) (c .before .before .before .before .before .before .before .if4 .taken) (c .before .before .before .before .before .before .next-kind2 .ensures) (c .before .before .before .before .before .pick .ensures) (c .before .before .before .before .if5 .left) (c .before .before .before .before .before .before .before .before .before .before .loop .inv .7) (c .before .before .before .body-len .result) (c .before .push .last .1 .0) (c .before .before .before .body-len .ensures) (c .before .push .ensures),
 )
 
 slice-aggregate-do-act : tie.Need-slice-aggregate-do-act Inv-loop μ-loop
@@ -148,15 +149,15 @@ slice-aggregate-do-act c = omega arith
 do-act-requires : tie.Need-do-act-requires Inv-loop μ-loop
 do-act-requires c κs =
     let g = c .before .before .before .before .before .before .before .loop .inv .7 in
-    let u = turns.room-rows (c .before .before .before .before .before .before .before .before .before .before .before .before .before .args .text .now) (c .before .before .before .before .before .before .before .before .before .before .before .before .before .args .elements .now) (c .before .before .before .before .before .before .before .before .before .before .before .before .before .args .count) (c .before .before .before .before .before .before .before .loop .stk) (c .before .before .before .before .before .before .before .loop .sp) (c .before .before .before .before .before .before .before .loop .inv .0) g (c .before .before .before .before .before .before .loop-test .taken) (omega arith) in (
-      turns.room-frames (c .before .before .before .before .before .before .before .before .before .before .before .before .before .args .text .now) (c .before .before .before .before .before .before .before .before .before .before .before .before .before .args .elements .now) (c .before .before .before .before .before .before .before .before .before .before .before .before .before .args .count) (c .before .before .before .before .before .before .before .loop .stk) (c .before .before .before .before .before .before .before .loop .sp) (c .before .before .before .before .before .before .before .loop .inv .0) g (c .before .before .before .before .before .before .loop-test .taken) (c .before .before .before .before .before .before .before .loop .inv .2) (c .before .before .before .before .if4 .left),
-      going.frames-bound (c .before .before .before .before .before .before .before .before .before .before .before .before .before .args .text .now) (c .before .before .before .before .before .before .before .before .before .before .before .before .before .args .elements .now) (c .before .before .before .before .before .before .before .before .before .before .before .before .before .args .count) g,
+    let u = turns.room-rows (c .before .before .before .before .before .before .before .before .before .before .before .before .before .before .before .before .before .args .text .now) (c .before .before .before .before .before .before .before .before .before .before .before .before .before .before .before .before .before .args .elements .now) (c .before .before .before .before .before .before .before .before .before .before .before .before .before .before .before .before .before .args .count) (c .before .before .before .before .before .before .before .loop .stk) (c .before .before .before .before .before .before .before .loop .sp) (c .before .before .before .before .before .before .before .loop .inv .0) g (c .before .before .before .before .before .before .loop-test .taken) (omega arith) in (
+      turns.room-frames (c .before .before .before .before .before .before .before .before .before .before .before .before .before .before .before .before .before .args .text .now) (c .before .before .before .before .before .before .before .before .before .before .before .before .before .before .before .before .before .args .elements .now) (c .before .before .before .before .before .before .before .before .before .before .before .before .before .before .before .before .before .args .count) (c .before .before .before .before .before .before .before .loop .stk) (c .before .before .before .before .before .before .before .loop .sp) (c .before .before .before .before .before .before .before .loop .inv .0) g (c .before .before .before .before .before .before .loop-test .taken) (c .before .before .before .before .before .before .before .loop .inv .2) (c .before .before .before .before .if4 .left),
+      going.frames-bound (c .before .before .before .before .before .before .before .before .before .before .before .before .before .before .before .before .before .args .text .now) (c .before .before .before .before .before .before .before .before .before .before .before .before .before .before .before .before .before .args .elements .now) (c .before .before .before .before .before .before .before .before .before .before .before .before .before .before .before .before .before .args .count) g,
       omega arith,
       omega arith,
       omega arith,
       omega arith,
-      going.depth-bound (c .before .before .before .before .before .before .before .before .before .before .before .before .before .args .text .now) (c .before .before .before .before .before .before .before .before .before .before .before .before .before .args .elements .now) (c .before .before .before .before .before .before .before .before .before .before .before .before .before .args .count) g,
-      going.base-bound (c .before .before .before .before .before .before .before .before .before .before .before .before .before .args .text .now) (c .before .before .before .before .before .before .before .before .before .before .before .before .before .args .elements .now) (c .before .before .before .before .before .before .before .before .before .before .before .before .before .args .count) g,
+      going.depth-bound (c .before .before .before .before .before .before .before .before .before .before .before .before .before .before .before .before .before .args .text .now) (c .before .before .before .before .before .before .before .before .before .before .before .before .before .before .before .before .before .args .elements .now) (c .before .before .before .before .before .before .before .before .before .before .before .before .before .before .before .before .before .args .count) g,
+      going.base-bound (c .before .before .before .before .before .before .before .before .before .before .before .before .before .before .before .before .before .args .text .now) (c .before .before .before .before .before .before .before .before .before .before .before .before .before .before .before .before .before .args .elements .now) (c .before .before .before .before .before .before .before .before .before .before .before .before .before .before .before .before .before .args .count) g,
     )
 
 enum-known-r : tie.Need-enum-known-r Inv-loop μ-loop
@@ -166,11 +167,11 @@ add-sp-3 : tie.Need-add-sp-3 Inv-loop μ-loop
 add-sp-3 c = omega arith
 
 loop-less-3 : tie.Need-loop-less-3 Inv-loop μ-loop
-loop-less-3 c = turns.less-act (c .before .before .before .before .before .before .before .before .before .before .before .before .before .before .before .before .before .before .before .before .before .before .before .before .args .text .now) (c .before .before .before .before .before .before .before .before .before .before .before .before .before .before .before .before .before .before .before .before .before .before .before .before .args .elements .now) (c .before .before .before .before .before .before .before .before .before .before .before .before .before .before .before .before .before .before .before .before .before .before .before .before .args .count) (c .before .before .before .before .before .before .before .before .before .before .before .before .before .before .before .before .before .before .loop .stk) (c .before .before .before .before .before .before .before .before .before .before .before .before .before .before .before .before .before .before .loop .sp) (c .before .before .before .before .before .before .before .before .before .before .before .before .before .before .before .before .before .before .loop .inv .0) (c .before .before .before .before .before .before .before .before .before .before .before .before .before .before .before .before .before .before .loop .at) (c .before .before .before .before .before .before .before .before .before .before .before .before .before .before .before .before .before .loop-test .taken) (c .before .before .before .before .before .before .before .before .before .before .before .before .before .before .before .if4 .left)
+loop-less-3 c = turns.less-act (c .before .before .before .before .before .before .before .before .before .before .before .before .before .before .before .before .before .before .before .before .before .before .before .before .before .before .before .before .args .text .now) (c .before .before .before .before .before .before .before .before .before .before .before .before .before .before .before .before .before .before .before .before .before .before .before .before .before .before .before .before .args .elements .now) (c .before .before .before .before .before .before .before .before .before .before .before .before .before .before .before .before .before .before .before .before .before .before .before .before .before .before .before .before .args .count) (c .before .before .before .before .before .before .before .before .before .before .before .before .before .before .before .before .before .before .loop .stk) (c .before .before .before .before .before .before .before .before .before .before .before .before .before .before .before .before .before .before .loop .sp) (c .before .before .before .before .before .before .before .before .before .before .before .before .before .before .before .before .before .before .loop .inv .0) (c .before .before .before .before .before .before .before .before .before .before .before .before .before .before .before .before .before .before .loop .at) (c .before .before .before .before .before .before .before .before .before .before .before .before .before .before .before .before .before .loop-test .taken) (c .before .before .before .before .before .before .before .before .before .before .before .before .before .before .before .if4 .left)
 
 loop-again-3 : tie.Need-loop-again-3 Inv-loop μ-loop
 loop-again-3 c =
-    let g = turns.at-act (c .before .before .before .before .before .before .before .before .before .before .before .before .before .before .before .before .before .before .before .before .before .before .before .before .args .text .now) (c .before .before .before .before .before .before .before .before .before .before .before .before .before .before .before .before .before .before .before .before .before .before .before .before .args .elements .now) (c .before .before .before .before .before .before .before .before .before .before .before .before .before .before .before .before .before .before .before .before .before .before .before .before .args .count) (c .before .before .before .before .before .before .before .before .before .before .before .before .before .before .before .before .before .before .loop .stk) (c .before .before .before .before .before .before .before .before .before .before .before .before .before .before .before .before .before .before .loop .sp) (c .before .before .before .before .before .before .before .before .before .before .before .before .before .before .before .before .before .before .loop .inv .0) (c .before .before .before .before .before .before .before .before .before .before .before .before .before .before .before .before .before .before .loop .inv .7) (c .before .before .before .before .before .before .before .before .before .before .before .before .before .before .before .before .before .loop-test .taken) (c .before .before .before .before .before .before .before .before .before .before .before .before .before .before .before .if4 .left) in
+    let g = turns.at-act (c .before .before .before .before .before .before .before .before .before .before .before .before .before .before .before .before .before .before .before .before .before .before .before .before .before .before .before .before .args .text .now) (c .before .before .before .before .before .before .before .before .before .before .before .before .before .before .before .before .before .before .before .before .before .before .before .before .before .before .before .before .args .elements .now) (c .before .before .before .before .before .before .before .before .before .before .before .before .before .before .before .before .before .before .before .before .before .before .before .before .before .before .before .before .args .count) (c .before .before .before .before .before .before .before .before .before .before .before .before .before .before .before .before .before .before .loop .stk) (c .before .before .before .before .before .before .before .before .before .before .before .before .before .before .before .before .before .before .loop .sp) (c .before .before .before .before .before .before .before .before .before .before .before .before .before .before .before .before .before .before .loop .inv .0) (c .before .before .before .before .before .before .before .before .before .before .before .before .before .before .before .before .before .before .loop .inv .7) (c .before .before .before .before .before .before .before .before .before .before .before .before .before .before .before .before .before .loop-test .taken) (c .before .before .before .before .before .before .before .before .before .before .before .before .before .before .before .if4 .left) in
     let d = c .before .before .before .before .before .before .before .before .before .before .do-act in (
       c .before .before .before .before .before .before .before .before .before .before .before .before .before .before .before .before .before .before .loop .inv .0,
       omega arith,
@@ -179,7 +180,7 @@ loop-again-3 c =
       d .kept .1 .1 .1 .1 .1 .1 .0 ∙ c .before .before .before .before .before .before .before .before .before .before .before .before .before .before .before .before .before .before .loop .inv .4,
       d .kept .1 .1 .1 .1 .1 .1 .1 .0 ∙ c .before .before .before .before .before .before .before .before .before .before .before .before .before .before .before .before .before .before .loop .inv .5,
       c .before .before .before .before .before .before .before .before .before .before .before .before .before .before .before .before .before .before .loop .inv .6,
-      going.goes-by (c .before .before .before .before .before .before .before .before .before .before .before .before .before .before .before .before .before .before .before .before .before .before .before .before .args .text .now) (c .before .before .before .before .before .before .before .before .before .before .before .before .before .before .before .before .before .before .before .before .before .before .before .before .args .elements .now) (c .before .before .before .before .before .before .before .before .before .before .before .before .before .before .before .before .before .before .before .before .before .before .before .before .args .count) g (d .result) _ (d .last .1 .1 .1 .1 .0) (d .last .1 .1 .1 .1 .1 .0) (d .last .1 .1 .1 .1 .1 .1 .0) (d .last .1 .1 .1 .1 .1 .1 .1 .0) (c .before .r .given .1) (d .ensures (g .state) (g .held) (g .deep)),
+      going.goes-by (c .before .before .before .before .before .before .before .before .before .before .before .before .before .before .before .before .before .before .before .before .before .before .before .before .before .before .before .before .args .text .now) (c .before .before .before .before .before .before .before .before .before .before .before .before .before .before .before .before .before .before .before .before .before .before .before .before .before .before .before .before .args .elements .now) (c .before .before .before .before .before .before .before .before .before .before .before .before .before .before .before .before .before .before .before .before .before .before .before .before .before .before .before .before .args .count) g (d .result) _ (d .last .1 .1 .1 .1 .0) (d .last .1 .1 .1 .1 .1 .0) (d .last .1 .1 .1 .1 .1 .1 .0) (d .last .1 .1 .1 .1 .1 .1 .1 .0) (c .before .r .given .1) (d .ensures (g .state) (g .held) (g .deep)),
     )
 
 enum-told : tie.Need-enum-told Inv-loop μ-loop
@@ -199,9 +200,9 @@ same-length-12 c = search needs
 
 returns-4 : tie.Need-returns-4 Inv-loop μ-loop
 returns-4 c =
-    let g = turns.at-act (c .before .before .before .before .before .before .before .before .before .before .before .before .before .before .before .before .before .before .before .before .before .before .before .before .args .text .now) (c .before .before .before .before .before .before .before .before .before .before .before .before .before .before .before .before .before .before .before .before .before .before .before .before .args .elements .now) (c .before .before .before .before .before .before .before .before .before .before .before .before .before .before .before .before .before .before .before .before .before .before .before .before .args .count) (c .before .before .before .before .before .before .before .before .before .before .before .before .before .before .before .before .before .before .loop .stk) (c .before .before .before .before .before .before .before .before .before .before .before .before .before .before .before .before .before .before .loop .sp) (c .before .before .before .before .before .before .before .before .before .before .before .before .before .before .before .before .before .before .loop .inv .0) (c .before .before .before .before .before .before .before .before .before .before .before .before .before .before .before .before .before .before .loop .inv .7) (c .before .before .before .before .before .before .before .before .before .before .before .before .before .before .before .before .before .loop-test .taken) (c .before .before .before .before .before .before .before .before .before .before .before .before .before .before .before .if4 .left) in
+    let g = turns.at-act (c .before .before .before .before .before .before .before .before .before .before .before .before .before .before .before .before .before .before .before .before .before .before .before .before .before .before .before .before .args .text .now) (c .before .before .before .before .before .before .before .before .before .before .before .before .before .before .before .before .before .before .before .before .before .before .before .before .before .before .before .before .args .elements .now) (c .before .before .before .before .before .before .before .before .before .before .before .before .before .before .before .before .before .before .before .before .before .before .before .before .before .before .before .before .args .count) (c .before .before .before .before .before .before .before .before .before .before .before .before .before .before .before .before .before .before .loop .stk) (c .before .before .before .before .before .before .before .before .before .before .before .before .before .before .before .before .before .before .loop .sp) (c .before .before .before .before .before .before .before .before .before .before .before .before .before .before .before .before .before .before .loop .inv .0) (c .before .before .before .before .before .before .before .before .before .before .before .before .before .before .before .before .before .before .loop .inv .7) (c .before .before .before .before .before .before .before .before .before .before .before .before .before .before .before .before .before .loop-test .taken) (c .before .before .before .before .before .before .before .before .before .before .before .before .before .before .before .if4 .left) in
     let d = c .before .before .before .before .before .before .before .before .before .before .do-act in
-    going.name-differs-here (c .before .before .before .before .before .before .before .before .before .before .before .before .before .before .before .before .before .before .before .before .before .before .before .before .args .text .now) (c .before .before .before .before .before .before .before .before .before .before .before .before .before .before .before .before .before .before .before .before .before .before .before .before .args .elements .now) (c .before .before .before .before .before .before .before .before .before .before .before .before .before .before .before .before .before .before .before .before .before .before .before .before .args .count) g (d .result) (d .last .1 .1 .1 .1 .0) (d .last .1 .1 .1 .1 .1 .0) (d .last .1 .1 .1 .1 .1 .1 .0) (d .last .1 .1 .1 .1 .1 .1 .1 .0) _ _ _ (c .minus .result) (c .before .enum-told .given .1) (c .minus .ensures) (d .ensures (g .state) (g .held) (g .deep))
+    going.name-differs-here (c .before .before .before .before .before .before .before .before .before .before .before .before .before .before .before .before .before .before .before .before .before .before .before .before .before .before .before .before .args .text .now) (c .before .before .before .before .before .before .before .before .before .before .before .before .before .before .before .before .before .before .before .before .before .before .before .before .before .before .before .before .args .elements .now) (c .before .before .before .before .before .before .before .before .before .before .before .before .before .before .before .before .before .before .before .before .before .before .before .before .before .before .before .before .args .count) g (d .result) (d .last .1 .1 .1 .1 .0) (d .last .1 .1 .1 .1 .1 .0) (d .last .1 .1 .1 .1 .1 .1 .0) (d .last .1 .1 .1 .1 .1 .1 .1 .0) _ _ _ (c .minus .result) (c .before .enum-told .given .1) (c .minus .ensures) (d .ensures (g .state) (g .held) (g .deep))
 
 enum-told-2 : tie.Need-enum-told-2 Inv-loop μ-loop
 enum-told-2 c = search needs
@@ -220,9 +221,9 @@ same-length-15 c = search needs
 
 returns-5 : tie.Need-returns-5 Inv-loop μ-loop
 returns-5 c =
-    let g = turns.at-act (c .before .before .before .before .before .before .before .before .before .before .before .before .before .before .before .before .before .before .before .before .before .before .before .before .args .text .now) (c .before .before .before .before .before .before .before .before .before .before .before .before .before .before .before .before .before .before .before .before .before .before .before .before .args .elements .now) (c .before .before .before .before .before .before .before .before .before .before .before .before .before .before .before .before .before .before .before .before .before .before .before .before .args .count) (c .before .before .before .before .before .before .before .before .before .before .before .before .before .before .before .before .before .before .loop .stk) (c .before .before .before .before .before .before .before .before .before .before .before .before .before .before .before .before .before .before .loop .sp) (c .before .before .before .before .before .before .before .before .before .before .before .before .before .before .before .before .before .before .loop .inv .0) (c .before .before .before .before .before .before .before .before .before .before .before .before .before .before .before .before .before .before .loop .inv .7) (c .before .before .before .before .before .before .before .before .before .before .before .before .before .before .before .before .before .loop-test .taken) (c .before .before .before .before .before .before .before .before .before .before .before .before .before .before .before .if4 .left) in
+    let g = turns.at-act (c .before .before .before .before .before .before .before .before .before .before .before .before .before .before .before .before .before .before .before .before .before .before .before .before .before .before .before .before .args .text .now) (c .before .before .before .before .before .before .before .before .before .before .before .before .before .before .before .before .before .before .before .before .before .before .before .before .before .before .before .before .args .elements .now) (c .before .before .before .before .before .before .before .before .before .before .before .before .before .before .before .before .before .before .before .before .before .before .before .before .before .before .before .before .args .count) (c .before .before .before .before .before .before .before .before .before .before .before .before .before .before .before .before .before .before .loop .stk) (c .before .before .before .before .before .before .before .before .before .before .before .before .before .before .before .before .before .before .loop .sp) (c .before .before .before .before .before .before .before .before .before .before .before .before .before .before .before .before .before .before .loop .inv .0) (c .before .before .before .before .before .before .before .before .before .before .before .before .before .before .before .before .before .before .loop .inv .7) (c .before .before .before .before .before .before .before .before .before .before .before .before .before .before .before .before .before .loop-test .taken) (c .before .before .before .before .before .before .before .before .before .before .before .before .before .before .before .if4 .left) in
     let d = c .before .before .before .before .before .before .before .before .before .before .do-act in
-    going.too-deep-here (c .before .before .before .before .before .before .before .before .before .before .before .before .before .before .before .before .before .before .before .before .before .before .before .before .args .text .now) (c .before .before .before .before .before .before .before .before .before .before .before .before .before .before .before .before .before .before .before .before .before .before .before .before .args .elements .now) (c .before .before .before .before .before .before .before .before .before .before .before .before .before .before .before .before .before .before .before .before .before .before .before .before .args .count) g (d .result) (d .last .1 .1 .1 .1 .0) (d .last .1 .1 .1 .1 .1 .0) (d .last .1 .1 .1 .1 .1 .1 .0) (d .last .1 .1 .1 .1 .1 .1 .1 .0) _ _ _ (c .minus2 .result) (c .before .enum-told2 .given .1) (c .minus2 .ensures) (d .ensures (g .state) (g .held) (g .deep))
+    going.too-deep-here (c .before .before .before .before .before .before .before .before .before .before .before .before .before .before .before .before .before .before .before .before .before .before .before .before .before .before .before .before .args .text .now) (c .before .before .before .before .before .before .before .before .before .before .before .before .before .before .before .before .before .before .before .before .before .before .before .before .before .before .before .before .args .elements .now) (c .before .before .before .before .before .before .before .before .before .before .before .before .before .before .before .before .before .before .before .before .before .before .before .before .before .before .before .before .args .count) g (d .result) (d .last .1 .1 .1 .1 .0) (d .last .1 .1 .1 .1 .1 .0) (d .last .1 .1 .1 .1 .1 .1 .0) (d .last .1 .1 .1 .1 .1 .1 .1 .0) _ _ _ (c .minus2 .result) (c .before .enum-told2 .given .1) (c .minus2 .ensures) (d .ensures (g .state) (g .held) (g .deep))
 
 same-length-16 : tie.Need-same-length-16 Inv-loop μ-loop
 same-length-16 c = search needs
@@ -234,7 +235,7 @@ same-length-18 : tie.Need-same-length-18 Inv-loop μ-loop
 same-length-18 c = search needs
 
 returns-6 : tie.Need-returns-6 Inv-loop μ-loop
-returns-6 c = going.too-much (c .before .before .before .before .before .before .before .before .args .text .now) (c .before .before .before .before .before .before .before .before .args .elements .now) (c .before .before .before .before .before .before .before .before .args .count) (turns.at-end (c .before .before .before .before .before .before .before .before .args .text .now) (c .before .before .before .before .before .before .before .before .args .elements .now) (c .before .before .before .before .before .before .before .before .args .count) (c .before .before .loop .stk) (c .before .before .loop .sp) (c .before .before .loop .inv .0) (c .before .before .loop .inv .7) (c .before .loop-test .left)) (c .if6 .taken)
+returns-6 c = going.too-much (c .before .before .before .before .before .before .before .before .before .before .before .before .args .text .now) (c .before .before .before .before .before .before .before .before .before .before .before .before .args .elements .now) (c .before .before .before .before .before .before .before .before .before .before .before .before .args .count) (turns.at-end (c .before .before .before .before .before .before .before .before .before .before .before .before .args .text .now) (c .before .before .before .before .before .before .before .before .before .before .before .before .args .elements .now) (c .before .before .before .before .before .before .before .before .before .before .before .before .args .count) (c .before .before .loop .stk) (c .before .before .loop .sp) (c .before .before .loop .inv .0) (c .before .before .loop .inv .7) (c .before .loop-test .left)) (c .if6 .taken)
 
 same-length-19 : tie.Need-same-length-19 Inv-loop μ-loop
 same-length-19 c = search needs
@@ -246,7 +247,7 @@ same-length-21 : tie.Need-same-length-21 Inv-loop μ-loop
 same-length-21 c = search needs
 
 returns-7 : tie.Need-returns-7 Inv-loop μ-loop
-returns-7 c = going.ends (c .before .before .before .before .before .before .before .before .args .text .now) (c .before .before .before .before .before .before .before .before .args .elements .now) (c .before .before .before .before .before .before .before .before .args .count) (turns.at-end (c .before .before .before .before .before .before .before .before .args .text .now) (c .before .before .before .before .before .before .before .before .args .elements .now) (c .before .before .before .before .before .before .before .before .args .count) (c .before .before .loop .stk) (c .before .before .loop .sp) (c .before .before .loop .inv .0) (c .before .before .loop .inv .7) (c .before .loop-test .left)) (c .if6 .left) (c .before .before .loop .inv .6) (c .before .before .before .before .before .before .before .before .pre .1)
+returns-7 c = going.ends (c .before .before .before .before .before .before .before .before .before .before .before .before .args .text .now) (c .before .before .before .before .before .before .before .before .before .before .before .before .args .elements .now) (c .before .before .before .before .before .before .before .before .before .before .before .before .args .count) (turns.at-end (c .before .before .before .before .before .before .before .before .before .before .before .before .args .text .now) (c .before .before .before .before .before .before .before .before .before .before .before .before .args .elements .now) (c .before .before .before .before .before .before .before .before .before .before .before .before .args .count) (c .before .before .loop .stk) (c .before .before .loop .sp) (c .before .before .loop .inv .0) (c .before .before .loop .inv .7) (c .before .loop-test .left)) (c .if6 .left) (c .before .before .loop .inv .6) (c .before .before .before .before .before .before .before .before .before .before .before .before .pre .1)
 
 pub scan-spec : {M : Type 1} → statement M
 scan-spec =

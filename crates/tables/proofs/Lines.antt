@@ -12,18 +12,11 @@ use Rattle.ll.proofs.Theory.{and-left, and-right}
 use Rattle.ll.proofs.Check.{below, below-at}
 use Rattle.forms.specs.Rules.{body, rules}
 use Rattle.tables.specs.Symbols.{symOf}
-use Rattle.tables.proofs.Tables.{flatten, flat-at}
-
-abbrev Rule : Type 0
-Rule = ℕ × List Sym
+use Rattle.tables.specs.Bytes.{Rule, flatten, sized, encode, padded, lined, sizeBytes, bodyBytes}
+use Rattle.tables.proofs.Tables.{flat-at}
 
 abbrev none : Rule
 none = (0, [])
-
-abbrev encode : Sym → ℕ
-encode (tok a) = a
-encode (nt n) = 68 + n
-encode (act a) = 148 + a
 
 -- a symbol that the code can have
 abbrev fits : Sym → Bool
@@ -45,27 +38,18 @@ abbrev allFit : List Sym → Bool
 allFit [] = true
 allFit (s ∷ l) = fits s && allFit l
 
--- a rule's symbols and zeros, sixteen in all
-abbrev pub sized : List Rule → List ℕ
-sized [] = []
-sized (r ∷ rs) = length (r .1) ∷ sized rs
-
-abbrev padded : ℕ → List Sym → List ℕ
-padded zero l = []
-padded (suc n) [] = 0 ∷ padded n []
-padded (suc n) (s ∷ l) = encode s ∷ padded n l
-
-abbrev pub lined : List Rule → List (List ℕ)
-lined [] = []
-lined (r ∷ rs) = padded 16 (r .1) ∷ lined rs
-
 size-at : (rs : List Rule) (p : ℕ) → getD (sized rs) p 0 ≡ length (getD rs p none .1)
 size-at [] p = refl
 size-at (r ∷ rs) zero = refl
 size-at (r ∷ rs) (suc p) = size-at rs p
 
-pub sizes-at : (p : ℕ) → getD (sized rules) p 0 ≡ length (body p)
-sizes-at p = size-at rules p
+pub sizes-size : {l : List ℕ} → l ≡ sizeBytes → length l ≡ 165
+unfolding sizeBytes
+sizes-size e = ap length e
+
+pub size-is : {l : List ℕ} → l ≡ sizeBytes → (p : ℕ) → getD l p 0 ≡ length (body p)
+unfolding sizeBytes
+size-is e p = ap (λ (l : List ℕ). getD l p 0) e ∙ size-at rules p
 
 padded-at : (n : ℕ) (l : List Sym) → T (allFit l) → (i : ℕ) → i < n → symOf (getD (padded n l) i 0) ≡ getD l i (tok 0)
 padded-at zero l h i m = absurd (omega arith)
@@ -83,8 +67,9 @@ lined-at [] h p i l m = absurd (omega arith)
 lined-at (r ∷ rs) h zero i l m = padded-at 16 (r .1) (and-left (allFit (r .1)) (allFits rs) h) i m
 lined-at (r ∷ rs) h (suc p) i l m = lined-at rs (and-right (allFit (r .1)) (allFits rs) h) p i (omega arith) m
 
-pub bodies-at : (p i : ℕ) → p < 165 → i < 16 → symOf (getD (flatten (lined rules)) (p * 16 + i) 0) ≡ getD (body p) i (tok 0)
-bodies-at p i l m = ap symOf (flat-at 16 (lined rules) tt p i l m) ∙ lined-at rules tt p i l m
+pub bodies-size : {l : List ℕ} → l ≡ bodyBytes → length l ≡ 2640
+unfolding bodyBytes
+bodies-size e = ap length e
 
 -- no rule is longer
 short : (p : ℕ) → p < 165 → length (body p) ≤ 16
@@ -95,19 +80,23 @@ none-past [] p h = refl
 none-past (r ∷ rs) zero h = absurd (omega arith)
 none-past (r ∷ rs) (suc p) h = none-past rs p (omega arith)
 
-pub body-past : (p : ℕ) → 165 ≤ p → body p ≡ []
-body-past p h = ap (λ (r : Rule). r .1) (none-past rules p h)
+-- a rule that has a symbol is one of the 165
+pub ruled : (p i : ℕ) → i < length (body p) → (p < 165) × (i < 16)
+ruled p i h = by (ltb p 165) refl
+  where
+    by : (b : Bool) → ltb p 165 ≡ b → (p < 165) × (i < 16)
+    by true e =
+        let l : p < 165 = ltb-true p 165 e in
+        (l, omega (arith, short p l))
+    by false e =
+        let z : length (body p) ≡ 0 = ap (λ (r : Rule). length (r .1)) (none-past rules p (ltb-false p 165 e)) in
+        absurd (omega arith)
 
-past-end : (l : List Sym) (i : ℕ) → length l ≤ i → getD l i (tok 0) ≡ tok 0
-past-end [] i h = refl
-past-end (s ∷ l) zero h = absurd (omega arith)
-past-end (s ∷ l) (suc i) h = past-end l i (omega arith)
+pub body-place : (p i : ℕ) → i < length (body p) → p * 16 + i < 2640
+body-place p i h = let r = ruled p i h in omega (arith, r .0, r .1)
 
-pub body-end : (p i : ℕ) → length (body p) ≤ i → tok 0 ≡ getD (body p) i (tok 0)
-body-end p i h = flip (past-end (body p) i h)
-
-pub body-none : (p i : ℕ) → 165 ≤ p → tok 0 ≡ getD (body p) i (tok 0)
-body-none p i h = flip (ap (λ (l : List Sym). getD l i (tok 0)) (body-past p h))
-
-pub body-over : (p i : ℕ) → p < 165 → 16 ≤ i → tok 0 ≡ getD (body p) i (tok 0)
-body-over p i l h = body-end p i (omega (arith, short p l))
+pub body-is : {l : List ℕ} → l ≡ bodyBytes → (p i : ℕ) → i < length (body p) → symOf (getD l (p * 16 + i) 0) ≡ getD (body p) i (tok 0)
+unfolding bodyBytes
+body-is e p i h =
+    let r = ruled p i h in
+    ap (λ (l : List ℕ). symOf (getD l (p * 16 + i) 0)) e ∙ ap symOf (flat-at 16 (lined rules) tt p i (r .0) (r .1)) ∙ lined-at rules tt p i (r .0) (r .1)

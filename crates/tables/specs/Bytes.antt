@@ -1,0 +1,57 @@
+-- The tables of the forms as the code has them, bytes in a row: lists of numbers that follow from the kinds, the table of rules and the
+-- rules. Assumes nothing: these are definitions.
+use Prim.Native.Nat.{ℕ, zero, suc, _+_}
+use mathlib.Core.List.{List, [], _∷_, _++_}
+use lib.ListN.{length}
+use Rattle.ll.specs.Grammar.{Sym, tok, nt, act}
+use Rattle.forms.specs.Kinds.{kinds, numberOf}
+use Rattle.forms.specs.Rules.{rules}
+use Rattle.forms.specs.Picks.{picks}
+
+abbrev pub Rule : Type 0
+Rule = ℕ × List Sym
+
+-- the kinds' numbers
+abbrev pub numbers : List Sym → List ℕ
+numbers [] = []
+numbers (s ∷ l) = numberOf s ∷ numbers l
+
+-- lines one after the other
+abbrev pub flatten : List (List ℕ) → List ℕ
+flatten [] = []
+flatten (r ∷ rs) = r ++ flatten rs
+
+-- the rules' sizes
+abbrev pub sized : List Rule → List ℕ
+sized [] = []
+sized (r ∷ rs) = length (r .1) ∷ sized rs
+
+-- a symbol: a kind is its number, a name has 68 added, an action 148
+abbrev pub encode : Sym → ℕ
+encode (tok a) = a
+encode (nt n) = 68 + n
+encode (act a) = 148 + a
+
+-- symbols and zeros, n in all
+abbrev pub padded : ℕ → List Sym → List ℕ
+padded zero l = []
+padded (suc n) [] = 0 ∷ padded n []
+padded (suc n) (s ∷ l) = encode s ∷ padded n l
+
+-- a line of sixteen to each rule
+abbrev pub lined : List Rule → List (List ℕ)
+lined [] = []
+lined (r ∷ rs) = padded 16 (r .1) ∷ lined rs
+
+-- the four tables
+unfoldable pub kindBytes : List ℕ
+kindBytes = numbers kinds
+
+unfoldable pub pickBytes : List ℕ
+pickBytes = flatten picks
+
+unfoldable pub sizeBytes : List ℕ
+sizeBytes = sized rules
+
+unfoldable pub bodyBytes : List ℕ
+bodyBytes = flatten (lined rules)
