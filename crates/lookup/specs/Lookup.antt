@@ -1,0 +1,38 @@
+-- "a lookup by name gives the first item that claims it, or none, a record pointing outside the tables claiming nothing". Assumes nothing.
+use Prim.Native.Nat.{ℕ, zero, suc, _/_}
+use mathlib.Core.Bool.{Bool, true, false, cond, _&&_}
+use mathlib.Core.List.{List, [], _∷_}
+use lib.Dec.{eqb}
+use lib.ListN.{length, take, drop}
+use Rattle.alike.specs.Alike.{counts, cellAt, within, byKind}
+use Rattle.records.specs.Records.{wordAt, isClaim}
+use Rattle.lookup.specs.declared.Found.{Found}
+use Rattle.lookup.specs.declared.Found.the-variants.{At, Nothing}
+
+-- two stretches of bytes count the same in a name, basic or not
+unfoldable pub spelt : Bool → List ℕ → List ℕ → Bool
+spelt basic [] [] = true
+spelt basic [] (y ∷ ys) = false
+spelt basic (x ∷ xs) [] = false
+spelt basic (x ∷ xs) (y ∷ ys) = eqb (counts basic x) (counts basic y) && spelt basic xs ys
+
+-- element e stands in the text and is spelled as the name
+unfoldable pub spelledAs : Bool → List ℕ → List ℕ → ℕ → List ℕ → Bool
+spelledAs basic text elements e name =
+    cond (within text (cellAt elements e 1) (cellAt elements e 2)) (spelt basic (take (cellAt elements e 2) (drop (cellAt elements e 1) text)) name) false
+
+-- element e is that name: an identifier, case aside, or an extended one
+unfoldable pub isNamed : List ℕ → List ℕ → ℕ → List ℕ → Bool
+isNamed text elements e name = byKind (cellAt elements e 0) (spelledAs true text elements e name) (spelledAs false text elements e name)
+
+-- record i claims the name
+unfoldable pub claimsName : List ℕ → List ℕ → List ℕ → List ℕ → ℕ → Bool
+claimsName text elements name items i = isClaim (wordAt items i 0) && isNamed text elements (wordAt items i 3) name
+
+-- the first of m records from the i-th on that passes
+unfoldable pub firstFrom : (ℕ → Bool) → ℕ → ℕ → Found
+firstFrom p i zero = Nothing
+firstFrom p i (suc m) = elim (p i) [ true ↦ At i | false ↦ firstFrom p (suc i) m ]
+
+unfoldable pub foundOf : List ℕ → List ℕ → List ℕ → List ℕ → Found
+foundOf text elements name items = firstFrom (claimsName text elements name items) 0 (length items / 8)
