@@ -191,6 +191,40 @@ class Grammar:
                 self.through(last, set(before[lhs]), body, seen)
         return before
 
+    def marking(self):
+        """For each name: the operators' kinds that the innermost frame may have when it begins (0: none), those that it may leave there if it
+        marks that frame, and the kinds just read when it ends (0: none told)."""
+        enter, leave, read = [[set() for _ in range(self.names)] for _ in range(3)]
+        enter[0].add(0)
+
+        def add(to, kinds):
+            more = not kinds <= to
+            to |= kinds
+            return more
+
+        def walk(lhs, body):
+            change, just, kinds, around = False, {0}, set(enter[lhs]), []
+            for k, x in body:
+                if k == TOK:
+                    just = {x}
+                elif k == NT:
+                    change |= add(enter[x], kinds)
+                    kinds, just = leave[x] or kinds, read[x]
+                elif x == 0:
+                    around, kinds, just = around + [kinds], {0}, {0}
+                elif x == 1:
+                    kinds = around.pop()
+                elif x == 2:
+                    kinds = just
+            if kinds != enter[lhs] or leave[lhs]:
+                change |= add(leave[lhs], kinds)
+            return add(read[lhs], just) or change
+
+        def turn():
+            return any([walk(lhs, body) for lhs, body in self.rules])
+        self.until_still(turn)
+        return enter, leave, read
+
     def spares(self):
         v = [0] * self.names
 
@@ -246,6 +280,7 @@ use Rattle.ll.specs.Grammar.{predictBy}
 predict = predictBy picks
 ''')
     lead = g.leads()
+    enters, leaves, reads = g.marking()
     write('crates/forms/proofs/Hints.antt', '''-- Hints for the computed tests, written by tools/tables.py from the rules. Nothing here is believed: a wrong entry fails a test.
 use Prim.Native.Nat.{ℕ}
 use mathlib.Core.List.{List, [], _∷_}
@@ -255,6 +290,9 @@ use mathlib.Core.Bool.{Bool, true, false}
           + nest('follows', 'the kinds that may come after each name', map(sorted, g.follow))
           + nest('lasts', 'the kinds that each name may end with', map(sorted, g.lasts()))
           + nest('befores', 'the kinds that may come before each name, 0 for none', map(sorted, g.befores(g.lasts())))
+          + nest('enters', "the operator's kind that the frame may have when each name begins, 0 for none", map(sorted, enters))
+          + nest('leaves', "the operator's kind that each name leaves in that frame, nothing where it does not mark it", map(sorted, leaves))
+          + nest('reads', 'the kind just read when each name ends, 0 where none is told', map(sorted, reads))
           + nest('words', 'a shortest word of each name', g.words())
           + flat('nulls', 'the names that may read nothing', 'Bool', ['true' if x else 'false' for x in g.null])
           + flat('leads', 'the names that pay for the element they must read', 'ℕ', lead)

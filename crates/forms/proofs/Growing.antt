@@ -6,12 +6,12 @@ use mathlib.Core.List.{List, [], _∷_, _++_, append-assoc, append-nil}
 use native.Mathlib.Omega.{arith}
 use lib.Dec.{ltb}
 use lib.ListN.{length}
-use Rattle.ll.specs.Grammar.{Sym}
+use Rattle.ll.specs.Grammar.{Sym, nt}
 use Rattle.ll.specs.Actions.{go, stop, Reads, done, eat, acts, grow}
 use Rattle.forms.specs.Rules.{forms}
-use Rattle.forms.specs.Tree.{Row, Frame, State, Refusal, name-differs, too-deep, fresh, top, onTop, joined, marked, named, rowOf, rowed, pickStep, does, isNamed, rowsOf, Reading}
+use Rattle.forms.specs.Tree.{Row, Frame, State, Refusal, name-differs, too-deep, fresh, top, onTop, joined, marked, named, rowOf, rowed, pickStep, does, start, isNamed, rowsOf, Reading}
 use Rattle.forms.specs.Forest.{Forest, bare, tree}
-use Rattle.forms.proofs.Nesting.{Nested, nested-eat, nested-act, nested-grow, nested-start, one-frame}
+use Rattle.forms.proofs.Nesting.{Nested, nested-eat, nested-act, nested-grow, nested-from, frame-left}
 
 clash : {A : Type 0} → _≡_ {A = ℕ} 0 1 → A
 clash z = absurd (omega arith)
@@ -95,13 +95,17 @@ stands alike (eat {a = a} {k = k} {α = α} {w = w} {s = s} {s′ = t} r) n h =
 stands alike (acts {a = a} {k = k} {α = α} {s = s} {t = u} e r) n h = stands alike r (nested-act alike k a α s u e n) (kept alike k s u a e h)
 stands alike (grow {n = m} {α = α} {s = s} p l e r) n h = stands alike r (nested-grow p l m α s n) h
 
--- the rows of a reading are a forest within its elements
-pub rows-forest : (alike : ℕ → ℕ → Bool) (w : List ℕ) (s : State) → Reading alike w s → Forest 0 (length w) (rowsOf s)
-rows-forest alike w s r =
+-- the rows of a reading, from any name, are a forest within its elements
+pub forest-from : (m : ℕ) (alike : ℕ → ℕ → Bool) (w : List ℕ) (s : State) → Reads State Refusal forms (does alike) (nt m ∷ []) 0 start w s → Forest 0 (length w) (rowsOf s)
+forest-from m alike w s r =
     let z : 0 + length w ≡ length w = omega arith in
-    only (s .frames) (one-frame alike w s r) (subst (λ (x : ℕ). Standing x (s .frames)) z (stands alike r nested-start (bare {lo = 0} {hi = 0} (omega arith), refl)))
+    only (s .frames) (frame-left m alike w s r) (subst (λ (x : ℕ). Standing x (s .frames)) z (stands alike r (nested-from m) (bare {lo = 0} {hi = 0} (omega arith), refl)))
   where
     only : (fs : List Frame) → length fs ≡ 1 → Standing (length w) fs → Forest 0 (length w) (top fs .rows)
     only [] e h = absurd (omega arith)
     only (f ∷ []) e h = subst (λ (x : ℕ). Forest x (length w) (f .rows)) (h .1) (h .0)
     only (f ∷ g ∷ fs) e h = absurd (omega arith)
+
+-- and so are those of a file
+pub rows-forest : (alike : ℕ → ℕ → Bool) (w : List ℕ) (s : State) → Reading alike w s → Forest 0 (length w) (rowsOf s)
+rows-forest = forest-from 0

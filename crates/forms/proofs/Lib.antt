@@ -7,3 +7,10 @@ pub mod Examples
 pub mod Tiling
 pub mod Leaves
 pub mod Opening
+pub mod Items
+pub mod Positive
+pub mod Shapes
+pub mod Operators
+mod Telling
+mod Comparing
+pub mod Closing

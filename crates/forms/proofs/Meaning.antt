@@ -15,11 +15,12 @@ use Rattle.ll.specs.Actions.{End, bad, stopped, spent}
 use Rattle.ll.proofs.Theory as theory
 use Rattle.ll.proofs.Budget as budget
 use Rattle.ll.proofs.Acting as acting
+use Rattle.ll.proofs.Trail.{Trail, trail}
 use Rattle.forms.specs.Names.{file}
 use Rattle.forms.specs.Rules.{forms, body}
 use Rattle.forms.specs.Picks.{predict}
 use Rattle.forms.specs.Tree.{State, Refusal, does, start, IsFile}
-use Rattle.forms.specs.Reading.{steps, readingOf, Begins, ReadsFiles, OneReading, FirstWrong, StillBegins, AlwaysAnswers}
+use Rattle.forms.specs.Reading.{steps, readingFrom, readingOf, Begins, ReadsFiles, OneReading, FirstWrong, StillBegins, AlwaysAnswers}
 use Rattle.forms.proofs.Tests.{tables, forms-ll, weight, leads, steps-paid}
 
 clash : {A : Type 0} → _≡_ {A = ℕ} 0 1 → A
@@ -37,7 +38,7 @@ abbrev alone : List ℕ → Out
 alone w = run body predict (steps (length w)) (file ∷ []) w 0
 
 agrees : (alike : ℕ → ℕ → Bool) (w : List ℕ) (o : End State Refusal) → readingOf alike w ≡ o → acting.Agree forms predict (does alike) o (alone w)
-unfolding readingOf
+unfolding readingFrom
 agrees alike w o e =
     subst (λ (x : End State Refusal). acting.Agree forms predict (does alike) x (alone w)) e
     (acting.agree forms predict (does alike) (steps (length w)) (file ∷ []) w 0 start)
@@ -48,11 +49,16 @@ never w = budget.stops body predict weight leads steps-paid (steps (length w)) (
 pub always-answers : AlwaysAnswers
 always-answers alike w e = never w (agrees alike w spent e)
 
+-- what the machine did on its way to its answer
+pub trailed : (alike : ℕ → ℕ → Bool) (w : List ℕ) → Trail State Refusal forms (does alike) (file ∷ []) 0 start w (readingOf alike w)
+unfolding readingFrom
+trailed alike w = trail forms predict (does alike) (forms-ll .table) (steps (length w)) (file ∷ []) w 0 start (always-answers alike w)
+
 pub one-reading : OneReading
 one-reading alike w s t p q = acting.one forms predict (does alike) tables forms-ll begun p q
 
 pub reads-files : ReadsFiles
-unfolding readingOf
+unfolding readingFrom
 reads-files alike w s = (
   acting.is-read forms predict (does alike) tables forms-ll (steps (length w)) (file ∷ []) w 0 start s,
   λ r. ⊎-elim (λ e. e) (λ e. absurd (always-answers alike w e)) (acting.found forms predict (does alike) tables forms-ll (steps (length w)) r begun),

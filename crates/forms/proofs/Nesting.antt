@@ -149,8 +149,11 @@ nested-eat a α s h = record { inner = h .inner; inner-is = h .inner-is; frame-n
 pub nested-act : (alike : ℕ → ℕ → Bool) (k a : ℕ) (α : List Sym) (s t : State) → does alike a k s ≡ go t → Nested s (act a ∷ α) → Nested t α
 nested-act alike k a α s t e h = moved alike k s t α (h .inner) (h .inner-is) (h .most) a e (h .frame-nest) (h .open-nest)
 
+pub nested-from : (m : ℕ) → Nested start (nt m ∷ [])
+nested-from m = record { inner = 0; inner-is = refl; frame-nest = refl; open-nest = refl; most = omega arith }
+
 pub nested-start : Nested start (file ∷ [])
-nested-start = record { inner = 0; inner-is = refl; frame-nest = refl; open-nest = refl; most = omega arith }
+nested-start = nested-from 0
 
 nested-reads : (alike : ℕ → ℕ → Bool) {α : List Sym} {k : ℕ} {s t : State} {w : List ℕ} → Reads State Refusal forms (does alike) α k s w t → Nested s α → Nested t []
 nested-reads alike done h = h
@@ -158,5 +161,8 @@ nested-reads alike (eat {a = a} {α = α} {s = s} r) h = nested-reads alike r (n
 nested-reads alike (acts {a = a} {k = k} {α = α} {s = s} {t = t} e r) h = nested-reads alike r (nested-act alike k a α s t e h)
 nested-reads alike (grow {n = n} {α = α} {s = s} p l e r) h = nested-reads alike r (nested-grow p l n α s h)
 
+pub frame-left : (m : ℕ) (alike : ℕ → ℕ → Bool) (w : List ℕ) (s : State) → Reads State Refusal forms (does alike) (nt m ∷ []) 0 start w s → length (s .frames) ≡ 1
+frame-left m alike w s r = let n = nested-reads alike r (nested-from m) in n .inner-is ∙ ap suc (n .frame-nest)
+
 pub one-frame : (alike : ℕ → ℕ → Bool) (w : List ℕ) (s : State) → Reading alike w s → length (s .frames) ≡ 1
-one-frame alike w s r = let n = nested-reads alike r nested-start in n .inner-is ∙ ap suc (n .frame-nest)
+one-frame = frame-left 0

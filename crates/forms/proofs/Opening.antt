@@ -7,20 +7,21 @@ use mathlib.Core.Bool.{Bool, true, false, _&&_}
 use mathlib.Core.List.{List, [], _∷_, _++_}
 use native.Mathlib.Omega.{arith}
 use lib.Dec.{T, eqb, ltb, eqb→eq}
-use lib.ListN.{length, getD}
-use borrow.Author.Tests.{eq-eqb, eqb-true, ne-eqb, ltb-true, ltb-false}
-use Rattle.ll.specs.Grammar.{Sym, tok, nt, act, look}
-use Rattle.ll.specs.Actions.{Step, go, stop, Reads, done, eat, acts, grow, End, bad, stopped, pickEnd, chooseEnd, goOn, runs}
+use lib.ListN.{getD}
+use borrow.Author.Tests.{eq-eqb, ne-eqb, ltb-true, ltb-false}
+use Rattle.ll.specs.Grammar.{Sym, tok, nt, act}
+use Rattle.ll.specs.Actions.{go, stop, End, read, bad, stopped, spent}
 use Rattle.ll.proofs.Theory.{mem, keep, nullb, and-left, and-right, and-both, or-left, or-cases, mem-append, mem-left, mem-right, mem-keep, keep-mem}
 use Rattle.ll.proofs.Check.{below-at, every, every-at}
+use Rattle.ll.proofs.Trail.{Trail, whole, more, other, none, refuses, eats, acts, grows}
 use Rattle.forms.specs.Names.{file}
 use Rattle.forms.specs.Rules.{forms, body}
-use Rattle.forms.specs.Picks.{predict}
-use Rattle.forms.specs.Tree.{State, Refusal, name-differs, too-deep, fresh, top, onTop, joined, marked, named, rowed, pickStep, isNamed, does, start, Reading}
-use Rattle.forms.specs.Reading.{readingOf, steps}
+use Rattle.forms.specs.Tree.{State, Refusal, name-differs, too-deep, fresh, top, onTop, joined, marked, named, rowed, pickStep, isNamed, does, Reading}
+use Rattle.forms.specs.Reading.{readingOf}
 use Rattle.forms.specs.Open.{Role, opening, closing, neither, pickRole, role, after, openFrom, openAfter}
 use Rattle.forms.proofs.Hints as hints
 use Rattle.forms.proofs.Tests as tests
+use Rattle.forms.proofs.Meaning.{trailed, reads-files}
 
 clash : {A : Type 0} → _≡_ {A = ℕ} 0 1 → A
 clash z = absurd (omega arith)
@@ -238,114 +239,119 @@ full : (s : State) (c : Bool) → ltb (s .depth) 32 ≡ c → pickStep c (go (re
 full s true q e = let z : _≡_ {A = ℕ} 0 1 = cc in clash z
 full s false q e = ltb-false (s .depth) 32 q
 
-refuses : (alike : ℕ → ℕ → Bool) (k : ℕ) (s : State) (a : ℕ) → does alike a k s ≡ stop too-deep → (a ≡ 5) × (32 ≤ s .depth)
+pub deepens : (alike : ℕ → ℕ → Bool) (k : ℕ) (s : State) (a : ℕ) → does alike a k s ≡ stop too-deep → (a ≡ 5) × (32 ≤ s .depth)
 unfolding does
-refuses alike k s zero e = let z : _≡_ {A = ℕ} 0 1 = cc in clash z
-refuses alike k s (suc zero) e = let z : _≡_ {A = ℕ} 0 1 = cc in clash z
-refuses alike k s (suc (suc zero)) e = let z : _≡_ {A = ℕ} 0 1 = cc in clash z
-refuses alike k s (suc (suc (suc zero))) e = let z : _≡_ {A = ℕ} 0 1 = cc in clash z
-refuses alike k s (suc (suc (suc (suc zero)))) e = absurd (named-not-deep s (isNamed alike (top (s .frames) .name) (k - 1)) e)
-refuses alike k s (suc (suc (suc (suc (suc zero))))) e = (refl, full s (ltb (s .depth) 32) refl e)
-refuses alike k s (suc (suc (suc (suc (suc (suc zero)))))) e = let z : _≡_ {A = ℕ} 0 1 = cc in clash z
-refuses alike k s (suc (suc (suc (suc (suc (suc (suc f))))))) e = let z : _≡_ {A = ℕ} 0 1 = cc in clash z
+deepens alike k s zero e = let z : _≡_ {A = ℕ} 0 1 = cc in clash z
+deepens alike k s (suc zero) e = let z : _≡_ {A = ℕ} 0 1 = cc in clash z
+deepens alike k s (suc (suc zero)) e = let z : _≡_ {A = ℕ} 0 1 = cc in clash z
+deepens alike k s (suc (suc (suc zero))) e = let z : _≡_ {A = ℕ} 0 1 = cc in clash z
+deepens alike k s (suc (suc (suc (suc zero)))) e = absurd (named-not-deep s (isNamed alike (top (s .frames) .name) (k - 1)) e)
+deepens alike k s (suc (suc (suc (suc (suc zero))))) e = (refl, full s (ltb (s .depth) 32) refl e)
+deepens alike k s (suc (suc (suc (suc (suc (suc zero)))))) e = let z : _≡_ {A = ℕ} 0 1 = cc in clash z
+deepens alike k s (suc (suc (suc (suc (suc (suc (suc f))))))) e = let z : _≡_ {A = ℕ} 0 1 = cc in clash z
 
--- With d open behind an element of kind p, a refusal for depth at j: the first elements up to it leave 33 open, and no fewer do.
-pub record Deep (p d : ℕ) (w : List ℕ) (k j : ℕ) : Type 0 where
-  pub more : ℕ
-  pub place : j ≡ k + more
-  pub over : openFrom p d w more ≡ 33
-  pub low : (i : ℕ) → i < more → openFrom p d w i ≤ 32
+-- an action refuses for a name only at the comparing action
+deep-not-named : (s : State) (c : Bool) → pickStep c (go (record { frames = s .frames; depth = s .depth + 1 })) (stop too-deep) ≡ stop name-differs → ⊥
+deep-not-named s true e = let z : _≡_ {A = ℕ} 0 1 = cc in clash z
+deep-not-named s false e = let z : _≡_ {A = ℕ} 0 1 = cc in clash z
+
+pub compares : (alike : ℕ → ℕ → Bool) (k : ℕ) (s : State) (a : ℕ) → does alike a k s ≡ stop name-differs → a ≡ 4
+unfolding does
+compares alike k s zero e = let z : _≡_ {A = ℕ} 0 1 = cc in clash z
+compares alike k s (suc zero) e = let z : _≡_ {A = ℕ} 0 1 = cc in clash z
+compares alike k s (suc (suc zero)) e = let z : _≡_ {A = ℕ} 0 1 = cc in clash z
+compares alike k s (suc (suc (suc zero))) e = let z : _≡_ {A = ℕ} 0 1 = cc in clash z
+compares alike k s (suc (suc (suc (suc zero)))) e = refl
+compares alike k s (suc (suc (suc (suc (suc zero))))) e = absurd (deep-not-named s (ltb (s .depth) 32) e)
+compares alike k s (suc (suc (suc (suc (suc (suc zero)))))) e = let z : _≡_ {A = ℕ} 0 1 = cc in clash z
+compares alike k s (suc (suc (suc (suc (suc (suc (suc f))))))) e = let z : _≡_ {A = ℕ} 0 1 = cc in clash z
+
+grown-role : (q : ℕ) → q < 165 → (α : List Sym) → T (plain α) → headRole (body q ++ α) ≡ neither
+grown-role q l α h = head-append (body q) α h ∙ same-role (headRole (body q)) neither (rule-plain q l)
+
+-- a reading that ends so found no more than 32 open behind its first m elements
+abbrev pub Within : End State Refusal → ℕ → Type 0
+Within (read s) m = Unit {0}
+Within (bad j) m = m ≤ j
+Within (stopped j name-differs) m = m ≤ j
+Within (stopped j too-deep) m = m < j
+Within spent m = ⊥
 
 module _ (alike : ℕ → ℕ → Bool) where
-  deep-tok : (a t k j p : ℕ) (α : List Sym) (w : List ℕ) (s : State) (o : End State Refusal) → Fine (one p) (tok a ∷ α) → s .depth ≤ 32
-      → (Fine (one a) α → o ≡ stopped j too-deep → Deep a (after (headRole α) (s .depth)) w (suc k) j) → (b : Bool) → eqb a t ≡ b → pickEnd b o (bad k) ≡ stopped j too-deep
-      → Deep p (s .depth) (t ∷ w) k j
+  abbrev Way : List Sym → ℕ → State → List ℕ → End State Refusal → Type 0
+  Way = Trail State Refusal forms (does alike)
+
+  -- with d open behind an element of kind p, what stands open further on
+  low : {α : List Sym} {k : ℕ} {s : State} {w : List ℕ} {o : End State Refusal} (p d : ℕ) → Way α k s w o → Fine (one p) α → after (headRole α) (s .depth) ≡ d → s .depth ≤ 32
+      → (i : ℕ) → Within o (k + i) → openFrom p d w i ≤ 32
   unfolding openFrom
-  deep-tok a t k j p α w s o f l ih true q e =
-      let r = ih (f .1) e in
-      let z : a ≡ t = eqb-true a t q in
-      let y : openFrom a (after (headRole α) (s .depth)) w ≡ openFrom t (after (role p t) (s .depth)) w =
-      ap (λ (x : Role). openFrom a (after x (s .depth)) w) (sym (f .0 p (is-one p))) ∙ ap (λ (x : ℕ). openFrom x (after (role p x) (s .depth)) w) z in
-      let pl = r .place in
-      record {
-        more = suc (r .more);
-        place = omega arith;
-        over = ap (λ (g : ℕ → ℕ). g (r .more)) (sym y) ∙ r .over;
-        low = λ i m. upto (r .more) (λ i m. subst (λ (g : ℕ → ℕ). g i ≤ 32) y (r .low i m)) i m;
-      }
-    where
-      upto : (n : ℕ) → ((i : ℕ) → i < n → openFrom t (after (role p t) (s .depth)) w i ≤ 32) → (i : ℕ) → i < suc n → openFrom p (s .depth) (t ∷ w) i ≤ 32
-      upto n h zero m = l
-      upto n h (suc i) m = h i (omega arith)
-  deep-tok a t k j p α w s o f l ih false q e = let z : _≡_ {A = ℕ} 0 1 = cc in clash z
-
-  deep-act : (a k j p d : ℕ) (α : List Sym) (w : List ℕ) (s : State) (g : State → End State Refusal) → Fine (one p) (act a ∷ α) → s .depth ≤ 32 → after (headRole (act a ∷ α)) (s .depth) ≡ d
-      → ((t : State) → after (headRole α) (t .depth) ≡ d → t .depth ≤ 32 → g t ≡ stopped j too-deep → Deep p d w k j)
-      → (x : Step State Refusal) → does alike a k s ≡ x → goOn x k g ≡ stopped j too-deep → Deep p d w k j
-  unfolding openFrom
-  deep-act a k j p d α w s g f l c ih (go t) q e =
-      ih t (ap (λ (r : Role). after r (t .depth)) (same-role (headRole α) neither (f .0)) ∙ sym (counted alike k s t α a q) ∙ c) (low-kept alike k s t α a q l) e
-  deep-act a k j p d α w s g f l c ih (stop name-differs) q e = let z : _≡_ {A = ℕ} 0 1 = cc in clash z
-  deep-act a k j p d α w s g f l c ih (stop too-deep) q e =
-      let r = refuses alike k s a q in
-      let z : k ≡ j = cc in
-      let u : after opening (s .depth) ≡ d = ap (λ (x : ℕ). after (headRole (act x ∷ α)) (s .depth)) (sym (r .0)) ∙ c in
-      let m = r .1 in
-      record { more = 0; place = omega arith; over = omega arith; low = λ i m. absurd (omega arith) }
-
-  deep-nt : (c k j p d : ℕ) (w : List ℕ) (g : ℕ → End State Refusal) → ((q : ℕ) → c ≡ suc q → g q ≡ stopped j too-deep → Deep p d w k j) → chooseEnd c k g ≡ stopped j too-deep → Deep p d w k j
-  deep-nt zero k j p d w g ih e = let z : _≡_ {A = ℕ} 0 1 = cc in clash z
-  deep-nt (suc q) k j p d w g ih e = ih q refl e
-
-  grown-role : (q : ℕ) → q < 165 → (α : List Sym) → T (plain α) → headRole (body q ++ α) ≡ neither
-  grown-role q l α h = head-append (body q) α h ∙ same-role (headRole (body q)) neither (rule-plain q l)
-
-  pub deep : (f : ℕ) (α : List Sym) (w : List ℕ) (k : ℕ) (s : State) (p d j : ℕ) → Fine (one p) α → after (headRole α) (s .depth) ≡ d → s .depth ≤ 32
-      → runs body predict (does alike) f α w k s ≡ stopped j too-deep → Deep p d w k j
-  unfolding runs
-  deep zero α w k s p d j fi c l e = let z : _≡_ {A = ℕ} 0 1 = cc in clash z
-  deep (suc f) [] [] k s p d j fi c l e = let z : _≡_ {A = ℕ} 0 1 = cc in clash z
-  deep (suc f) [] (t ∷ w) k s p d j fi c l e = let z : _≡_ {A = ℕ} 0 1 = cc in clash z
-  deep (suc f) (tok a ∷ α) [] k s p d j fi c l e = let z : _≡_ {A = ℕ} 0 1 = cc in clash z
-  deep (suc f) (tok a ∷ α) (t ∷ w) k s p d j fi c l e =
-      subst (λ (x : ℕ). Deep p x (t ∷ w) k j) c
-      (deep-tok a t k j p α w s (runs body predict (does alike) f α w (suc k) s) fi l (λ g. deep f α w (suc k) s a (after (headRole α) (s .depth)) j g refl l) (eqb a t) refl e)
-  deep (suc f) (act a ∷ α) w k s p d j fi c l e =
-      deep-act a k j p d α w s (λ t. runs body predict (does alike) f α w k t) fi l c (λ t g m. deep f α w k t p d j (fi .1) g m) (does alike a k s) refl e
-  deep (suc f) (nt n ∷ α) w k s p d j fi c l e =
-      deep-nt (predict n (look w)) k j p d w (λ q. runs body predict (does alike) f (body q ++ α) w k s)
-      (λ q u.
-      let h = tests.forms-ll .table n (look w) q u in
-      deep f (body q ++ α) w k s p d j (fine-grow q (h .0) n (h .1) p α fi) (ap (λ (r : Role). after r (s .depth)) (grown-role q (h .0) α (fi .0)) ∙ c) l)
-      e
-
-  -- a file never has more than 32 open
-  pub shallow : {α : List Sym} {w : List ℕ} {k : ℕ} {s t : State} (p d : ℕ) → Reads State Refusal forms (does alike) α k s w t → Fine (one p) α → after (headRole α) (s .depth) ≡ d → s .depth ≤ 32
-      → (i : ℕ) → openFrom p d w i ≤ 32
-  unfolding openFrom
-  shallow p d done fi c l zero = omega arith
-  shallow p d done fi c l (suc i) = omega arith
-  shallow p d (eat r) fi c l zero = omega arith
-  shallow p d (eat {a = a} {α = α} {w = w} {s = s} r) fi c l (suc i) =
+  low p d whole fi c l zero m = omega arith
+  low p d whole fi c l (suc i) m = omega arith
+  low p d more fi c l zero m = omega arith
+  low p d more fi c l (suc i) m = absurd (omega arith)
+  low p d other fi c l zero m = omega arith
+  low p d other fi c l (suc i) m = absurd (omega arith)
+  low p d none fi c l zero m = omega arith
+  low p d none fi c l (suc i) m = absurd (omega arith)
+  low p d (refuses {a = a} {k = k} {α = α} {s = s} {r = name-differs} q) fi c l zero m =
+      let z : after neither (s .depth) ≡ d = ap (λ (x : ℕ). after (headRole (act x ∷ α)) (s .depth)) (sym (compares alike k s a q)) ∙ c in
+      omega arith
+  low p d (refuses {r = name-differs} q) fi c l (suc i) m = absurd (omega arith)
+  low p d (refuses {r = too-deep} q) fi c l i m = absurd (omega arith)
+  low p d (eats r) fi c l zero m = omega arith
+  low p d (eats {a = a} {k = k} {α = α} {w = w} {s = s} {o = o} r) fi c l (suc i) m =
+      let z : k + suc i ≡ suc k + i = omega arith in
       subst (λ (x : ℕ). openFrom a x w i ≤ 32) (ap (λ (x : Role). after x (s .depth)) (sym (fi .0 p (is-one p))) ∙ ap (after (role p a)) c)
-      (shallow a (after (headRole α) (s .depth)) r (fi .1) refl l i)
-  shallow p d (acts {a = a} {k = k} {α = α} {s = s} {t = t} q r) fi c l i =
-      shallow p d r (fi .1) (ap (λ (x : Role). after x (t .depth)) (same-role (headRole α) neither (fi .0)) ∙ sym (counted alike k s t α a q) ∙ c) (low-kept alike k s t α a q l) i
-  shallow p d (grow {n = n} {α = α} {s = s} q m e r) fi c l i =
-      shallow p d r (fine-grow q m n e p α fi) (ap (λ (x : Role). after x (s .depth)) (grown-role q m α (fi .0)) ∙ c) l i
+      (low a (after (headRole α) (s .depth)) r (fi .1) refl l i (subst (Within o) z m))
+  low p d (acts {a = a} {k = k} {α = α} {s = s} {t = t} q r) fi c l i m =
+      low p d r (fi .1) (ap (λ (x : Role). after x (t .depth)) (same-role (headRole α) neither (fi .0)) ∙ sym (counted alike k s t α a q) ∙ c) (low-kept alike k s t α a q l) i m
+  low p d (grows {n = n} {α = α} {s = s} q b e r) fi c l i m =
+      low p d r (fine-grow q b n e p α fi) (ap (λ (x : Role). after x (s .depth)) (grown-role q b α (fi .0)) ∙ c) l i m
+
+  -- a refusal for depth at j
+  deep : {α : List Sym} {k : ℕ} {s : State} {w : List ℕ} {o : End State Refusal} (p d j : ℕ) → Way α k s w o → o ≡ stopped j too-deep → Fine (one p) α → after (headRole α) (s .depth) ≡ d → s .depth ≤ 32
+      → (i : ℕ) × ((j ≡ k + i) × (openFrom p d w i ≡ 33))
+  unfolding openFrom
+  deep p d j whole u fi c l = let z : _≡_ {A = ℕ} 0 1 = cc in clash z
+  deep p d j more u fi c l = let z : _≡_ {A = ℕ} 0 1 = cc in clash z
+  deep p d j other u fi c l = let z : _≡_ {A = ℕ} 0 1 = cc in clash z
+  deep p d j none u fi c l = let z : _≡_ {A = ℕ} 0 1 = cc in clash z
+  deep p d j (refuses {r = name-differs} q) u fi c l = let z : _≡_ {A = ℕ} 0 1 = cc in clash z
+  deep p d j (refuses {a = a} {k = k} {α = α} {s = s} {r = too-deep} q) u fi c l =
+      let r = deepens alike k s a q in
+      let z : k ≡ j = cc in
+      let y : after opening (s .depth) ≡ d = ap (λ (x : ℕ). after (headRole (act x ∷ α)) (s .depth)) (sym (r .0)) ∙ c in
+      let m = r .1 in
+      (0, (omega arith, omega arith))
+  deep p d j (eats {a = a} {k = k} {α = α} {w = w} {s = s} r) u fi c l =
+      let h = deep a (after (headRole α) (s .depth)) j r u (fi .1) refl l in
+      let i = h .0 in
+      let z = h .1 .0 in (
+        suc i,
+        (omega arith, ap (λ (x : ℕ). openFrom a x w i) (ap (after (role p a)) (sym c) ∙ ap (λ (x : Role). after x (s .depth)) (fi .0 p (is-one p))) ∙ h .1 .1),
+      )
+  deep p d j (acts {a = a} {k = k} {α = α} {s = s} {t = t} q r) u fi c l =
+      deep p d j r u (fi .1) (ap (λ (x : Role). after x (t .depth)) (same-role (headRole α) neither (fi .0)) ∙ sym (counted alike k s t α a q) ∙ c) (low-kept alike k s t α a q l)
+  deep p d j (grows {n = n} {α = α} {s = s} q b e r) u fi c l =
+      deep p d j r u (fine-grow q b n e p α fi) (ap (λ (x : Role). after x (s .depth)) (grown-role q b α (fi .0)) ∙ c) l
 
 -- before the first element: no kind
 begun : Fine (one 0) (file ∷ [])
 begun = (tt, (λ t m. ⊎-elim (λ e. subst (λ (x : ℕ). T (mem x (before 0))) (sym (eqb→eq t 0 e)) tt) (λ z. absurd z) (or-cases (eqb t 0) false m)), tt)
 
+-- behind every element that the reading got past, no more than 32 stand open
+pub within : (alike : ℕ → ℕ → Bool) (w : List ℕ) (o : End State Refusal) → readingOf alike w ≡ o → (i : ℕ) → Within o i → openAfter w i ≤ 32
+within alike w o e i m =
+    let z : i ≡ 0 + i = omega arith in
+    low alike 0 0 (trailed alike w) begun refl (omega arith) i (subst (λ (x : End State Refusal). Within x (0 + i)) (sym e) (subst (Within o) z m))
+
 -- refusal 7, when j elements were read: they leave 33 open, and none before them did
 pub too-deep-at : (alike : ℕ → ℕ → Bool) (w : List ℕ) (j : ℕ) → readingOf alike w ≡ stopped j too-deep → (openAfter w j ≡ 33) × ((i : ℕ) → i < j → openAfter w i ≤ 32)
-unfolding readingOf
 too-deep-at alike w j e =
-    let r = deep alike (steps (length w)) (file ∷ []) w 0 start 0 0 j begun refl (omega arith) e in
-    let pl = r .place in
-    let z : r .more ≡ j = omega arith in
-    (subst (λ (x : ℕ). openAfter w x ≡ 33) z (r .over), λ i m. r .low i (omega arith))
+    let r = deep alike 0 0 j (trailed alike w) e begun refl (omega arith) in
+    let l = r .1 .0 in
+    let z : r .0 ≡ j = omega arith in
+    (subst (λ (x : ℕ). openAfter w x ≡ 33) z (r .1 .1), within alike w (stopped j too-deep) e)
 
 pub never-deep : (alike : ℕ → ℕ → Bool) (w : List ℕ) (s : State) → Reading alike w s → (i : ℕ) → openAfter w i ≤ 32
-never-deep alike w s r i = shallow alike 0 0 r begun refl (omega arith) i
+never-deep alike w s r i = within alike w (read s) (reads-files alike w s .1 r) i tt

@@ -4,5 +4,8 @@ pub mod Rules
 pub mod Picks
 pub mod Tree
 pub mod Reading
+pub mod Items
 pub mod Forest
 pub mod Open
+pub mod Operators
+pub mod Closing

@@ -6,6 +6,7 @@ use mathlib.Core.Logic.{_↔_}
 use mathlib.Core.List.{List, [], _∷_, _++_}
 use mathlib.Core.Bool.{Bool}
 use lib.ListN.{length, take}
+use Rattle.ll.specs.Grammar.{Sym}
 use Rattle.ll.specs.Actions.{End, read, bad, stopped, spent, runs}
 use Rattle.forms.specs.Names.{file}
 use Rattle.forms.specs.Rules.{body}
@@ -16,9 +17,13 @@ use Rattle.forms.specs.Tree.{State, Refusal, does, start, IsFile, Readin
 abbrev pub steps : ℕ → ℕ
 steps n = 128 * n + 128
 
--- reading elements of the kinds w
-unfoldable pub readingOf : (ℕ → ℕ → Bool) → List ℕ → End State Refusal
-readingOf alike w = runs body predict (does alike) (steps (length w)) (file ∷ []) w 0 start
+-- reading elements of the kinds w as what a name of the rules names
+unfoldable pub readingFrom : Sym → (ℕ → ℕ → Bool) → List ℕ → End State Refusal
+readingFrom from alike w = runs body predict (does alike) (steps (length w)) (from ∷ []) w 0 start
+
+-- reading them as a file
+abbrev pub readingOf : (ℕ → ℕ → Bool) → List ℕ → End State Refusal
+readingOf = readingFrom file
 
 -- the first j elements begin some file
 abbrev pub Begins : List ℕ → ℕ → Type 0

@@ -4,3 +4,4 @@ pub mod Budget
 pub mod Acting
 pub mod Room
 pub mod Spare
+pub mod Trail

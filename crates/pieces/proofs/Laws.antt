@@ -2,7 +2,7 @@
 use mathlib.Core.Path.{_≡_, refl, sym, ap, _∙_}
 use mathlib.Core.Bool.{Bool, true, false, _||_}
 use mathlib.Core.List.{List, [], _∷_}
-use Prim.Native.Nat.{ℕ, zero, suc, _+_, _-_, _*_, _≤_, _<_}
+use Prim.Native.Nat.{ℕ, zero, suc, _+_, _-_, _*_, _/_, _≤_, _<_, min}
 use native.Mathlib.Nat.{not-suc-le-zero, le-of-suc-le-suc}
 use native.Mathlib.Numerals.{add-one}
 use native.Mathlib.Omega.{arith}
@@ -38,7 +38,7 @@ next from m = omega arith
 pub past : (n : ℕ) (t : List ℕ) (i : ℕ) → n ≤ i → drop i (kindsOf n t) ≡ []
 past n t i h = drop-of-length-le (kindsOf n t) {i = i} (rw (kinds-length n t) h)
 
--- the turns of `piece_size`
+-- the turns of `size_at`
 module _ (n : ℕ) (t : List ℕ) (from : ℕ) where
   abbrev Ks : List ℕ
   Ks = kindsOf n t
@@ -103,3 +103,12 @@ module _ (n : ℕ) (t : List ℕ) (from : ℕ) where
 pub count-end : (n : ℕ) (t : List ℕ) (at c total : ℕ) → c + length (piecesOf (drop at (kindsOf n t))) ≡ total → n ≤ at → c ≡ total
 unfolding cut
 count-end n t at c total h l = omega (arith, rw (past n t at l) at h)
+
+-- the answers of `piece_size`
+module _ (t : List ℕ) (count n from : ℕ) (e : n ≡ min count (length t / 3)) where
+  pub size-none : n ≤ from → _≡_ {A = ℕ} 0 (pieceSize closesPiece opensPiece (drop from (kindsOf (min count (length t / 3)) t)))
+  unfolding pieceSize
+  size-none h = rw (← e, past n t from h)
+
+  pub size-known : (r : ℕ) → r ≡ pieceSize closesPiece opensPiece (drop from (kindsOf n t)) → r ≡ pieceSize closesPiece opensPiece (drop from (kindsOf (min count (length t / 3)) t))
+  size-known r h = rw (← e) h

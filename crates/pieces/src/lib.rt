@@ -41,8 +41,8 @@ fn kind_at(elements: &[u64], n: usize, i: usize) -> u64
     if i < n { elements[3 * i] } else { 0 }
 }
 
-// How many elements the piece has that begins at an element.
-fn piece_size(elements: &[u64], n: usize, from: usize) -> usize
+// How many elements the piece has that begins at an element that there is.
+fn size_at(elements: &[u64], n: usize, from: usize) -> usize
     requires { ⌜ (3 * n ≤ length (now elements)) × (from < n) ⌝ }
     ensures { λ r. ⌜ r ≡ pieceSize closesPiece opensPiece (drop from (kindsOf n (now (elements .entry)))) ⌝ }
 {
@@ -59,6 +59,17 @@ fn piece_size(elements: &[u64], n: usize, from: usize) -> usize
     m
 }
 
+// How many elements the piece has that begins at an element, 0 past the last.
+pub fn piece_size(elements: &[u64], count: usize, from: usize) -> usize
+    ensures { λ r. ⌜ r ≡ pieceSize closesPiece opensPiece (drop from (kindsOf (min count (length (now (elements .entry)) / 3)) (now (elements .entry)))) ⌝ }
+{
+    let n = least(count, elements.len() / 3);
+    if n <= from {
+        return 0;
+    }
+    size_at(elements, n, from)
+}
+
 fn count_pieces(elements: &[u64], n: usize) -> usize
     requires { ⌜ 3 * n ≤ length (now elements) ⌝ }
     ensures { λ r. ⌜ r ≡ length (piecesOf (kindsOf n (now (elements .entry)))) ⌝ }
@@ -66,7 +77,7 @@ fn count_pieces(elements: &[u64], n: usize) -> usize
     let mut at: usize = 0;
     let mut c: usize = 0;
     while at < n {
-        at += piece_size(elements, n, at);
+        at += size_at(elements, n, at);
         c += 1;
     }
     c
@@ -193,7 +204,7 @@ fn write_records(elements: &[u64], n: usize, items: &mut [u64])
     let mut at: usize = 0;
     let mut w: usize = 0;
     while at < n {
-        let count = piece_size(elements, n, at);
+        let count = size_at(elements, n, at);
         let m = mark_piece(elements, n, at, count);
         write_record(items, w, at, count, m);
         at += count;

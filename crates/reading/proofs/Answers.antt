@@ -101,3 +101,21 @@ table-length s w = table-by-length (readingOf s w) s w refl
 
 pub read-room : (s : List ℕ) (w : ℕ) (r : Reading) (n : ElementNumber) (t : List ℕ) → r ≡ readingOf s w → t ≡ tableOf s w → r ≡ Read n → 3 * n .0 ≤ length t
 read-room s w r n t e q m = omega (arith, rw (sym e ∙ m) at (reading-room s w), ap length q ∙ table-length s w)
+
+-- what was read: how many, and that they are few enough
+abbrev Counted : List ℕ → Reading → Type 0
+Counted s (Read n) = (n .0 ≡ length (rowsOf s)) × (length (rowsOf s) ≤ 8192)
+Counted s (Refused r) = Unit {0}
+
+counted : (s : List ℕ) (w : ℕ) → Counted s (readingOf s w)
+unfolding readingOf
+counted s w =
+    by-test (Counted s) (ltb 65536 (length s)) (λ _. tt)
+    (λ _. by-test (Counted s) (ltb 8192 (length (rowsOf s))) (λ _. tt)
+    (λ h. by-test (Counted s) (ltb (w / 3) (length (rowsOf s))) (λ _. tt) (λ _. (refl, ltb-false 8192 (length (rowsOf s)) h))))
+
+pub read-count : (s : List ℕ) (w : ℕ) (n : ElementNumber) → readingOf s w ≡ Read n → n .0 ≡ length (rowsOf s)
+read-count s w n e = let c : Counted s (Read n) = rw e at (counted s w) in c .0
+
+pub read-few : (s : List ℕ) (w : ℕ) (n : ElementNumber) → readingOf s w ≡ Read n → length (rowsOf s) ≤ 8192
+read-few s w n e = let c : Counted s (Read n) = rw e at (counted s w) in c .1

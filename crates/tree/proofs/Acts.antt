@@ -2,14 +2,13 @@
 use Prim.Native.Nat.{ℕ, zero, suc, _+_, _*_, _-_, _≤_, _<_}
 use mathlib.Core.Path.{_≡_, refl, sym, _∙_, ap, ap₂, subst}
 use mathlib.Core.Bool.{Bool, true, false}
-use mathlib.Core.List.{List, [], _∷_, _++_}
+use mathlib.Core.List.{List, [], _∷_}
 use native.Mathlib.Omega.{arith}
-use lib.Dec.{ltb, leb}
 use lib.ListN.{length, getD, drop, set, length-set, length-drop}
-use lib.Seq.{drop-drop, drop-set-add, getD-drop, getD-set-same, getD-set-other, sets, length-sets}
+use lib.Seq.{drop-drop, drop-set-add, getD-drop, getD-set-same, getD-set-other, sets}
 use borrow.Author.Tests.{lt-ltb, le-ltb, le-leb}
 use Rattle.ll.specs.Actions.{Step, go, stop}
-use Rattle.forms.specs.Tree.{Row, Frame, State, Refusal, name-differs, too-deep, fresh, top, onTop, joined, marked, named, rowed, isNamed, pickStep, doAction, actionOf, does}
+use Rattle.forms.specs.Tree.{State, Refusal, name-differs, fresh, top, onTop, joined, marked, named, rowed, isNamed, pickStep, does}
 use Rattle.forms.proofs.Nesting.{top-size, joined-less, joined-few}
 use Rattle.tree.specs.declared.Did.{Did}
 use Rattle.tree.specs.declared.Did.the-variants.{Went, Differs, Deep}
@@ -193,8 +192,8 @@ module _ (frames cells next heads : List ℕ) (fp used depth k : ℕ) (alike : �
 
   pub act-row : (a i o b n m : ℕ) (c′ n′ h′ : List ℕ) → (a ≡ 0 → ⊥) → (a ≡ 1 → ⊥) → (a ≡ 2 → ⊥) → (a ≡ 3 → ⊥) → (a ≡ 4 → ⊥) → (a ≡ 5 → ⊥) → (a ≡ 6 → ⊥)
       → i ≡ getD frames fp 0 → o ≡ getD frames (fp + 1) 0 → b ≡ getD frames (fp + 2) 0 → n ≡ k - i → m ≡ used - b + 1 → b ≤ used
-      → fp + 4 ≤ length frames → 5 * used + 5 ≤ length cells → used < length next → used < length heads
-      → c′ ≡ sets cells (5 * used) ((a - 7) ∷ i ∷ n ∷ m ∷ o ∷ []) → n′ ≡ set next used (getD heads b 0) → h′ ≡ set heads b (used + 1)
+      → fp + 4 ≤ length frames → 5 * used + 5 ≤ length cells → used < length next → used + 1 < length heads
+      → c′ ≡ sets cells (5 * used) ((a - 7) ∷ i ∷ n ∷ m ∷ o ∷ []) → n′ ≡ set next used (getD heads b 0) → h′ ≡ set (set heads b (used + 1)) (used + 1) 0
       → After (Went (record { fp = fp; depth = depth; used = used + 1 })) frames c′ n′ h′ a
   unfolding does
   act-row a i o b n m c′ n′ h′ d0 d1 d2 d3 d4 d5 d6 ei eo eb en em lb lf lc ln lh qc qn qh =
@@ -208,10 +207,10 @@ module _ (frames cells next heads : List ℕ) (fp used depth k : ℕ) (alike : �
       let r : rowAt C used ≡ record { form = f; first = getD (drop fp frames) 0 0; count = k - getD (drop fp frames) 0 0; rows = used - getD (drop fp frames) 2 0 + 1; operator = getD (drop fp frames) 1 0 } =
       row-stored cells used f i n m o lc
       ∙ (λ j. record { form = f; first = sym w0 j; count = (en ∙ ap (λ (x : ℕ). k - x) (sym w0)) j; rows = (em ∙ ap (λ (x : ℕ). used - x + 1) (sym w2)) j; operator = sym w1 j }) in
-      let fr : Frames C (set next used (getD heads b 0)) (set heads b (used + 1)) (used + 1) (drop fp frames) (onTop (rowed f k) (s .frames)) =
+      let fr : Frames C (set next used (getD heads b 0)) (set (set heads b (used + 1)) (used + 1) 0) (used + 1) (drop fp frames) (onTop (rowed f k) (s .frames)) =
       holding.framed-row cells C next heads used b (λ j l. sets-below (f ∷ i ∷ n ∷ m ∷ o ∷ []) cells (5 * used) j l) ln lh lb (held .within) (held .bare) f k refl (sym w2) (held .framed)
       (simp length-drop (omega arith)) r in
-      let H : Held frames C (set next used (getD heads b 0)) (set heads b (used + 1)) fp (used + 1) (onTop (rowed f k) (s .frames)) =
+      let H : Held frames C (set next used (getD heads b 0)) (set (set heads b (used + 1)) (used + 1) 0) fp (used + 1) (onTop (rowed f k) (s .frames)) =
       record {
         framed = fr;
         room = omega (arith, top-size (rowed f k) (s .frames));
@@ -222,7 +221,7 @@ module _ (frames cells next heads : List ℕ) (fp used depth k : ℕ) (alike : �
       subst (λ x. P x n′ h′) (sym qc)
       (subst (λ y. P C y h′) (sym qn)
       (subst (λ v. P C (set next used (getD heads b 0)) v) (sym qh)
-      (subst (After (Went (record { fp = fp; depth = depth; used = used + 1 })) frames C (set next used (getD heads b 0)) (set heads b (used + 1))) (sym z) (H, deep, grown (a - 7)))))
+      (subst (After (Went (record { fp = fp; depth = depth; used = used + 1 })) frames C (set next used (getD heads b 0)) (set (set heads b (used + 1)) (used + 1) 0)) (sym z) (H, deep, grown (a - 7)))))
     where
       plain : (x : ℕ) → x + 0 ≡ x
       plain x = omega arith

@@ -1,10 +1,10 @@
 -- From what the scan found to what is answered, and what the tree table then holds. Assumes nothing.
-use Prim.Native.Nat.{ℕ, zero, suc, _+_, _-_, _*_, _/_, _≤_, _<_, min}
-use mathlib.Core.Path.{_≡_, refl, sym, _∙_, ap, ap₂, subst}
-use mathlib.Core.Bool.{Bool, true, false}
+use Prim.Native.Nat.{ℕ, _+_, _-_, _*_, _/_, _≤_, _<_}
+use mathlib.Core.Path.{_≡_, refl, sym, _∙_, ap, subst}
+use mathlib.Core.Bool.{Bool}
 use mathlib.Core.List.{List, [], _∷_, _++_}
 use native.Mathlib.Omega.{arith}
-use lib.ListN.{length, drop, getD, replicate, length-replicate}
+use lib.ListN.{length, drop, getD, length-replicate}
 use lib.Seq.{sets, sets-eq}
 use borrow.Author.Tests.{le-leb, lt-leb}
 use Rattle.ll.specs.Actions.{End, read, bad, stopped, spent}
@@ -37,10 +37,10 @@ module _ (cells next heads : List ℕ) (r : Found) (o : End State Refusal) (tell
 
   -- what the rows' writing asks
   pub whole-asks : (used : ℕ) → r ≡ Whole used
-      → ((rows : List Row) × (Spans cells next heads used 0 rows × (length rows ≡ used))) × (used ≤ 8192) × ((i : ℕ) → getD heads i 0 ≤ used)
+      → ((rows : List Row) × (Spans cells next heads used 0 rows × (length rows ≡ used))) × (used ≤ 8192) × ((i : ℕ) → i ≤ used → getD heads i 0 ≤ used)
   whole-asks used e = go o (whole used e)
     where
-      go : (o : End State Refusal) → Tells (Whole used) cells next heads o → ((rows : List Row) × (Spans cells next heads used 0 rows × (length rows ≡ used))) × (used ≤ 8192) × ((i : ℕ) → getD heads i 0 ≤ used)
+      go : (o : End State Refusal) → Tells (Whole used) cells next heads o → ((rows : List Row) × (Spans cells next heads used 0 rows × (length rows ≡ used))) × (used ≤ 8192) × ((i : ℕ) → i ≤ used → getD heads i 0 ≤ used)
       go (read s) t = ((rowsOf s, (t .0, t .1)), t .2, t .3)
       go (bad j) t = absurd t
       go (stopped j x) t = absurd t

@@ -1,39 +1,37 @@
 -- What the scan keeps true, turn by turn: the arrays hold a state from which the machine ends as it does from the start, and what is left
 -- to read is within its bounds of steps, stack, frames and rows. Assumes nothing.
-use Prim.Native.Nat.{ℕ, zero, suc, _+_, _*_, _-_, _≤_, _<_}
+use Prim.Native.Nat.{ℕ, suc, _+_, _*_, _-_, _≤_, _<_}
 use mathlib.Core.Path.{_≡_, refl, sym as flip, _∙_, ap, ap₂, subst}
 use mathlib.Core.Bool.{Bool, true, false}
 use mathlib.Core.List.{List, [], _∷_, _++_}
 use native.Mathlib.Omega.{arith}
 use native.Mathlib.Numerals.{add-one}
 use lib.Dec.{T, leb}
-use lib.ListN.{length, getD, drop, set, replicate, length-drop, drop-of-length-le}
+use lib.ListN.{length, getD, drop, length-drop, drop-of-length-le}
 use lib.Seq.{drop-cons, getD-drop}
 use borrow.Author.Tests.{eq-eqb, ne-eqb}
 use Rattle.ll.specs.Grammar.{Sym, tok, nt, act, look}
-use Rattle.ll.specs.Actions.{Step, go, stop, runs}
+use Rattle.ll.specs.Actions.{Step, go, stop, End, runs}
 use Rattle.ll.proofs.Room as room
 use Rattle.ll.proofs.Spare as spare
 use Rattle.ll.proofs.Budget as budget
 use Rattle.alike.specs.Alike.{sameName}
-use Rattle.forms.specs.Names.{file}
 use Rattle.forms.specs.Rules.{body}
 use Rattle.forms.specs.Picks.{predict}
 use Rattle.forms.specs.Tree.{State, Refusal, name-differs, too-deep, does, start}
-use Rattle.forms.specs.Reading.{readingOf, steps}
+use Rattle.forms.specs.Reading.{readingFrom, steps}
 use Rattle.forms.proofs.Tests as tests
-use Rattle.forms.proofs.Nesting.{Nested, nested-grow, nested-eat, nested-act, nested-start}
+use Rattle.forms.proofs.Nesting.{Nested, nested-grow, nested-eat, nested-act}
 use Rattle.tree.specs.declared.Did.{Did}
 use Rattle.tree.specs.declared.Moved.{Moved}
 use Rattle.tree.specs.declared.Did.the-variants.{Went, Differs, Deep}
-use Rattle.tree.specs.declared.Found.{Found}
 use Rattle.tree.specs.declared.Found.the-variants.{Whole, Wrong, Other, Over}
-use Rattle.tree.specs.Answers.{terminalsOf, readingIn}
+use Rattle.tree.specs.Answers.{terminalsOf}
 use Rattle.tree.specs.Held.{Frames, Held, Done, Tells, usedAfter, pickUsed}
 use Rattle.tree.proofs.Lists.{terminals-size, look-at}
 use Rattle.tree.proofs.Holding as holding
 
-module _ (text elements : List ℕ) (n : ℕ) where
+module _ (text elements : List ℕ) (n : ℕ) (goal : End State Refusal) where
   abbrev alike : ℕ → ℕ → Bool
   alike = sameName text elements
 
@@ -45,7 +43,7 @@ module _ (text elements : List ℕ) (n : ℕ) where
   pub record Going (α : List Sym) (frames cells next heads : List ℕ) (fp depth used at : ℕ) : Type 0 where
     pub state : State
     pub left : ℕ
-    pub same : readingIn text elements n ≡ runs body predict (does alike) left α (drop at kinds) at state
+    pub same : goal ≡ runs body predict (does alike) left α (drop at kinds) at state
     pub paid : budget.due tests.weight tests.leads α (n - at) < left
     pub held : Held frames cells next heads fp used (state .frames)
     pub deep : state .depth ≡ depth
@@ -92,7 +90,7 @@ module _ (text elements : List ℕ) (n : ℕ) where
     depth-bound = subst (λ (x : ℕ). x ≤ 32) (g .deep) (g .nested .most)
 
     -- a turn is left
-    turns : (w : List ℕ) → drop at kinds ≡ w → readingIn text elements n ≡ runs body predict (does alike) (suc (g .left - 1)) α w at (g .state)
+    turns : (w : List ℕ) → drop at kinds ≡ w → goal ≡ runs body predict (does alike) (suc (g .left - 1)) α w at (g .state)
     turns w e =
         let p = g .paid in
         let z : g .left ≡ suc (g .left - 1) = omega arith in
@@ -109,24 +107,24 @@ module _ (text elements : List ℕ) (n : ℕ) where
 
   module _ {frames cells next heads : List ℕ} {fp depth used at : ℕ} where
     -- all read, or too much
-    pub ends : (g : Going [] frames cells next heads fp depth used at) → n ≤ at → at ≤ n → n ≤ 8192 → Tells (Whole used) cells next heads (readingIn text elements n)
+    pub ends : (g : Going [] frames cells next heads fp depth used at) → n ≤ at → at ≤ n → n ≤ 8192 → Tells (Whole used) cells next heads goal
     unfolding runs
     ends g l m b =
         let f = holding.framed-end (g .held .framed) (g .nested .inner-is ∙ ap suc (g .nested .frame-nest)) in
         let r = rows-bound g in
         subst (Tells (Whole used) cells next heads) (flip (turns g [] (none-left g l))) (f .0, f .1, omega arith, g .held .within)
 
-    pub too-much : (g : Going [] frames cells next heads fp depth used at) → at < n → Tells (Wrong at) cells next heads (readingIn text elements n)
+    pub too-much : (g : Going [] frames cells next heads fp depth used at) → at < n → Tells (Wrong at) cells next heads goal
     unfolding runs
     too-much g l = subst (Tells (Wrong at) cells next heads) (flip (turns g _ (more-left g l))) refl
 
     -- an element wanted
     module _ {a : ℕ} {α : List Sym} (g : Going (tok a ∷ α) frames cells next heads fp depth used at) where
-      pub ends-early : n ≤ at → Tells (Wrong at) cells next heads (readingIn text elements n)
+      pub ends-early : n ≤ at → Tells (Wrong at) cells next heads goal
       unfolding runs
       ends-early l = subst (Tells (Wrong at) cells next heads) (flip (turns g [] (none-left g l))) refl
 
-      pub wrong-kind : (t : ℕ) → at < n → t ≡ look (drop at kinds) → (a ≡ t → ⊥) → Tells (Wrong at) cells next heads (readingIn text elements n)
+      pub wrong-kind : (t : ℕ) → at < n → t ≡ look (drop at kinds) → (a ≡ t → ⊥) → Tells (Wrong at) cells next heads goal
       unfolding runs
       wrong-kind t l e d =
           let q : t ≡ getD kinds at 0 = e ∙ look-at kinds at (omega (arith, terminals-size n elements)) in
@@ -156,7 +154,7 @@ module _ (text elements : List ℕ) (n : ℕ) where
 
     -- a name to read
     module _ {m : ℕ} {α : List Sym} (g : Going (nt m ∷ α) frames cells next heads fp depth used at) where
-      pub no-rule : predict m (look (drop at kinds)) ≡ 0 → Tells (Wrong at) cells next heads (readingIn text elements n)
+      pub no-rule : predict m (look (drop at kinds)) ≡ 0 → Tells (Wrong at) cells next heads goal
       unfolding runs
       no-rule e = subst (Tells (Wrong at) cells next heads) (flip (turns g (drop at kinds) refl)) (rw e refl)
 
@@ -227,51 +225,52 @@ module _ (text elements : List ℕ) (n : ℕ) where
           goes-on (m .fp) (m .depth) (m .used) frames′ cells′ next′ heads′ (subst (λ (x : Did). Done x frames′ cells′ next′ heads′ (usedAfter a used) (does alike a at (g .state))) e d)
 
       differs : (f c k h : List ℕ) (c′ k′ h′ : List ℕ) (x : Step State Refusal) → does alike a at (g .state) ≡ x → Done Differs f c k h (usedAfter a used) x
-          → Tells (Other (at - 1)) c′ k′ h′ (readingIn text elements n)
+          → Tells (Other (at - 1)) c′ k′ h′ goal
       unfolding runs
       differs f c k h c′ k′ h′ (stop name-differs) e d = subst (Tells (Other (at - 1)) c′ k′ h′) (flip (turns g (drop at kinds) refl)) (rw e refl)
       differs f c k h c′ k′ h′ (stop too-deep) e d = absurd d
       differs f c k h c′ k′ h′ (go t) e d = absurd d
 
       pub name-differs-here : (r : Did) (f c k h c′ k′ h′ : List ℕ) (i : ℕ) → r ≡ Differs → i ≡ at - 1 → Done r f c k h (usedAfter a used) (does alike a at (g .state))
-          → Tells (Other i) c′ k′ h′ (readingIn text elements n)
+          → Tells (Other i) c′ k′ h′ goal
       name-differs-here r f c k h c′ k′ h′ i e q d =
-          subst (λ (x : ℕ). Tells (Other x) c′ k′ h′ (readingIn text elements n)) (flip q)
+          subst (λ (x : ℕ). Tells (Other x) c′ k′ h′ goal) (flip q)
           (differs f c k h c′ k′ h′ (does alike a at (g .state)) refl (subst (λ (x : Did). Done x f c k h (usedAfter a used) (does alike a at (g .state))) e d))
 
       over : (f c k h : List ℕ) (c′ k′ h′ : List ℕ) (x : Step State Refusal) → does alike a at (g .state) ≡ x → Done Deep f c k h (usedAfter a used) x
-          → Tells (Over (at - 1)) c′ k′ h′ (readingIn text elements n)
+          → Tells (Over (at - 1)) c′ k′ h′ goal
       unfolding runs
       over f c k h c′ k′ h′ (stop too-deep) e d = subst (Tells (Over (at - 1)) c′ k′ h′) (flip (turns g (drop at kinds) refl)) (rw e refl)
       over f c k h c′ k′ h′ (stop name-differs) e d = absurd d
       over f c k h c′ k′ h′ (go t) e d = absurd d
 
       pub too-deep-here : (r : Did) (f c k h c′ k′ h′ : List ℕ) (i : ℕ) → r ≡ Deep → i ≡ at - 1 → Done r f c k h (usedAfter a used) (does alike a at (g .state))
-          → Tells (Over i) c′ k′ h′ (readingIn text elements n)
+          → Tells (Over i) c′ k′ h′ goal
       too-deep-here r f c k h c′ k′ h′ i e q d =
-          subst (λ (x : ℕ). Tells (Over x) c′ k′ h′ (readingIn text elements n)) (flip q)
+          subst (λ (x : ℕ). Tells (Over x) c′ k′ h′ goal) (flip q)
           (over f c k h c′ k′ h′ (does alike a at (g .state)) refl (subst (λ (x : Did). Done x f c k h (usedAfter a used) (does alike a at (g .state))) e d))
 
-  -- at the start
-  pub begins : (frames cells next heads : List ℕ) → length frames ≡ 8708 → drop 8704 frames ≡ 0 ∷ 0 ∷ 0 ∷ 0 ∷ [] → ((i : ℕ) → getD heads i 0 ≡ 0)
-      → Going (file ∷ []) frames cells next heads 8704 0 0 0
-  unfolding readingOf
-  begins frames cells next heads l e z =
+  -- at the start, from a name that lies low enough, has no row to spare and costs less than an element pays for
+  pub begins : (m : ℕ) → tests.height m ≤ 63 → tests.spare m ≡ 0 → tests.weight m < 128 → goal ≡ readingFrom (nt m) alike kinds
+      → (frames cells next heads : List ℕ) → length frames ≡ 8708 → drop 8704 frames ≡ 0 ∷ 0 ∷ 0 ∷ 0 ∷ [] → getD heads 0 0 ≡ 0
+      → Going (nt m ∷ []) frames cells next heads 8704 0 0 0
+  unfolding readingFrom
+  begins m low none light is frames cells next heads l e z =
       record {
         state = start;
         left = steps (length kinds);
-        same = refl;
+        same = is;
         paid = omega (arith, terminals-size n elements);
         held =
             record {
               framed = subst (λ (x : List ℕ). Frames cells next heads 0 x (start .frames)) (flip e) (holding.framed-opens 0 holding.framed-none);
               room = omega arith;
-              within = λ i. omega (arith, z i);
-              bare = λ i _. z i;
+              within = λ i u. let y : i ≡ 0 = omega arith in omega (arith, ap (λ (x : ℕ). getD heads x 0) y);
+              bare = z;
             };
         deep = refl;
         lies = record { now-low = omega arith; then-low = tt };
         near = refl;
-        nested = nested-start;
+        nested = record { inner = 0; inner-is = refl; frame-nest = refl; open-nest = refl; most = omega arith };
         fewer = omega arith;
       }

@@ -1,8 +1,8 @@
 -- What the arrays hold, kept by each action: a row put at the innermost frame's base heads that frame's rows and moves no other.
 -- Assumes nothing.
-use Prim.Native.Nat.{ℕ, zero, suc, _+_, _-_, _*_, _≤_, _<_}
+use Prim.Native.Nat.{ℕ, suc, _+_, _-_, _*_, _≤_, _<_}
 use mathlib.Core.Path.{_≡_, refl, sym, _∙_, ap, ap₂, subst}
-use mathlib.Core.List.{List, [], _∷_, _++_, append-assoc, append-nil}
+use mathlib.Core.List.{List, [], _∷_, _++_, append-assoc}
 use mathlib.Core.Bool.{Bool, true, false}
 use native.Mathlib.Omega.{arith}
 use lib.Dec.{eqb}
@@ -10,8 +10,8 @@ use borrow.Author.Tests.{eqb-true, eqb-false}
 use native.Mathlib.Numerals.{add-one}
 use lib.ListN.{length, getD, drop, set, length-set, length-append}
 use lib.Seq.{getD-set-same, getD-set-other}
-use Rattle.forms.specs.Tree.{Row, Frame, fresh, top, onTop, joined, marked, named, rowOf, rowed}
-use Rattle.tree.specs.Held.{rowAt, Linked, none, more, Spans, empty, join, Frames, outermost, inside, Held}
+use Rattle.forms.specs.Tree.{Row, Frame, fresh, top, onTop, joined, marked, named, rowed}
+use Rattle.tree.specs.Held.{rowAt, Linked, none, more, Spans, empty, join, Frames, outermost, inside}
 
 -- the lists of the bases are what they are
 linked-one : {cells next : List ℕ} {h : ℕ} {l m : List Row} → Linked cells next h l → Linked cells next h m → l ≡ m
@@ -81,13 +81,26 @@ module _ {cells next heads : List ℕ} where
   framed-end (inside s e (inside s′ e′ f)) l = absurd (omega arith)
 
 -- a row is put at base b: the cells below stay, and b's list has it in front
-module _ (c c′ n h : List ℕ) (used b : ℕ) (keeps : (i : ℕ) → i < 5 * used → getD c′ i 0 ≡ getD c i 0) (in-next : used < length n) (in-heads : used < length h) (low : b ≤ used)
-    (within : (i : ℕ) → getD h i 0 ≤ used) (bare : (i : ℕ) → used ≤ i → getD h i 0 ≡ 0) where
+module _ (c c′ n h : List ℕ) (used b : ℕ) (keeps : (i : ℕ) → i < 5 * used → getD c′ i 0 ≡ getD c i 0) (in-next : used < length n) (in-heads : used + 1 < length h) (low : b ≤ used)
+    (within : (i : ℕ) → i ≤ used → getD h i 0 ≤ used) (bare : getD h used 0 ≡ 0) where
   n′ : List ℕ
   n′ = set n used (getD h b 0)
 
   h′ : List ℕ
-  h′ = set h b (used + 1)
+  h′ = set (set h b (used + 1)) (used + 1) 0
+
+  -- the head of another base, and of this one
+  head-other : (i : ℕ) → i ≤ used → (i ≡ b → ⊥) → getD h′ i 0 ≡ getD h i 0
+  unfolding h′
+  head-other i l d = getD-set-other (set h b (used + 1)) (used + 1) i 0 0 (λ z. absurd (omega arith)) ∙ getD-set-other h b i (used + 1) 0 d
+
+  head-here : getD h′ b 0 ≡ suc used
+  unfolding h′
+  head-here = getD-set-other (set h b (used + 1)) (used + 1) b 0 0 (λ z. absurd (omega arith)) ∙ getD-set-same h b (used + 1) 0 (omega arith) ∙ add-one used
+
+  head-next : getD h′ (used + 1) 0 ≡ 0
+  unfolding h′
+  head-next = getD-set-same (set h b (used + 1)) (used + 1) 0 0 (simp length-set in-heads)
 
   row-keeps : (r : ℕ) → r < used → rowAt c′ r ≡ rowAt c r
   row-keeps r l = λ i. record {
@@ -106,10 +119,10 @@ module _ (c c′ n h : List ℕ) (used b : ℕ) (keeps : (i : ℕ) → i < 5 * u
       (more (getD-set-other n used r (getD h b 0) 0 (λ z. absurd (omega arith)) ∙ e) o (linked-keeps k (omega arith)))
 
   spans-keeps : {hi lo : ℕ} {l : List Row} → Spans c n h hi lo l → hi ≤ b → Spans c′ n′ h′ hi lo l
-  unfolding h′
   spans-keeps (empty e) g = empty e
   spans-keeps (join {lo = lo} e k r a) g =
-      join (getD-set-other h b lo (used + 1) 0 (λ z. absurd (omega (arith, spans-le r))) ∙ e) (linked-keeps k (subst (λ (x : ℕ). x ≤ used) e (within lo))) (spans-keeps r g) a
+      let w : lo ≤ used = omega (arith, spans-le r) in
+      join (head-other lo w (λ z. absurd (omega (arith, spans-le r))) ∙ e) (linked-keeps k (subst (λ (x : ℕ). x ≤ used) e (within lo w))) (spans-keeps r g) a
 
   frames-keep : {t : ℕ} {ws : List ℕ} {fs : List Frame} → Frames c n h t ws fs → t ≤ b → Frames c′ n′ h′ t ws fs
   frames-keep outermost g = outermost
@@ -117,25 +130,25 @@ module _ (c c′ n h : List ℕ) (used b : ℕ) (keeps : (i : ℕ) → i < 5 * u
 
   -- one base more, with no rows yet
   spans-more : {lo : ℕ} {l : List Row} → Spans c n h used lo l → b < lo → Spans c′ n′ h′ (used + 1) lo l
-  unfolding h′
   spans-more (empty {lo = lo} e) g =
-      join (getD-set-other h b lo (used + 1) 0 (λ z. absurd (omega arith)) ∙ bare lo (omega arith)) none (empty {lo = suc lo} (omega arith)) refl
+      join (head-other lo (omega arith) (λ z. absurd (omega arith)) ∙ ap (λ (i : ℕ). getD h i 0) e ∙ bare) none (empty {lo = suc lo} (omega arith)) refl
   spans-more (join {lo = lo} e k r a) g =
-      join (getD-set-other h b lo (used + 1) 0 (λ z. absurd (omega arith)) ∙ e) (linked-keeps k (subst (λ (x : ℕ). x ≤ used) e (within lo))) (spans-more r (omega arith)) a
+      let w : lo ≤ used = omega (arith, spans-le r) in
+      join (head-other lo w (λ z. absurd (omega arith)) ∙ e) (linked-keeps k (subst (λ (x : ℕ). x ≤ used) e (within lo w))) (spans-more r (omega arith)) a
 
   spans-put : {l : List Row} → Spans c n h used b l → Spans c′ n′ h′ (used + 1) b (rowAt c′ used ∷ l)
-  unfolding n′ h′
+  unfolding n′
   spans-put (empty e) =
-      join (getD-set-same h b (used + 1) 0 (omega arith) ∙ add-one used)
-      (more (getD-set-same n used (getD h b 0) 0 in-next ∙ bare b (omega arith)) (omega arith) none) (empty {lo = suc b} (omega arith)) refl
+      join head-here
+      (more (getD-set-same n used (getD h b 0) 0 in-next ∙ ap (λ (i : ℕ). getD h i 0) e ∙ bare) (omega arith) none) (empty {lo = suc b} (omega arith)) refl
   spans-put (join {h = a} {l = x} {m = y} e k r q) =
-      let z : a ≤ used = subst (λ (x : ℕ). x ≤ used) e (within b) in
-      join (getD-set-same h b (used + 1) 0 (omega arith) ∙ add-one used)
+      let z : a ≤ used = subst (λ (x : ℕ). x ≤ used) e (within b low) in
+      join head-here
       (more (getD-set-same n used (getD h b 0) 0 in-next ∙ e) z (linked-keeps k z)) (spans-more r (omega arith)) (ap (λ (l : List Row). rowAt c′ used ∷ l) q)
 
   pub framed-row : {t : ℕ} {ws : List ℕ} {fs : List Frame} (f k : ℕ) → t ≡ used → b ≡ getD ws 2 0 → Frames c n h t ws fs → 0 < length ws
       → rowAt c′ used ≡ record { form = f; first = getD ws 0 0; count = k - getD ws 0 0; rows = used - getD ws 2 0 + 1; operator = getD ws 1 0 }
-      → Frames c′ (set n used (getD h b 0)) (set h b (used + 1)) (used + 1) ws (onTop (rowed f k) fs)
+      → Frames c′ (set n used (getD h b 0)) (set (set h b (used + 1)) (used + 1) 0) (used + 1) ws (onTop (rowed f k) fs)
   unfolding n′ h′
   framed-row f k d e outermost g q = absurd (omega arith)
   framed-row f k d e (inside {first = i} {operator = o} {base = base} {top = t} {rows = l} s z fr) g q =
@@ -144,18 +157,29 @@ module _ (c c′ n h : List ℕ) (used b : ℕ) (keeps : (i : ℕ) → i < 5 * u
       q ∙ ap (λ (x : ℕ). record { form = f; first = i; count = k - i; rows = x; operator = o }) w in
       let s′ : Spans c n h used b l = subst (λ (x : ℕ). Spans c n h x b l) d (subst (λ (x : ℕ). Spans c n h t x l) (sym e) s) in
       let m : List Row = record { form = f; first = i; count = k - i; rows = length l + 1; operator = o } ∷ l in
-      let p : Spans c′ (set n used (getD h b 0)) (set h b (used + 1)) (used + 1) b m =
-      subst (λ (x : Row). Spans c′ (set n used (getD h b 0)) (set h b (used + 1)) (used + 1) b (x ∷ l)) r (spans-put s′) in
-      inside (subst (λ (x : ℕ). Spans c′ (set n used (getD h b 0)) (set h b (used + 1)) (used + 1) x m) e p) (omega arith) (frames-keep fr (omega arith))
+      let p : Spans c′ (set n used (getD h b 0)) (set (set h b (used + 1)) (used + 1) 0) (used + 1) b m =
+      subst (λ (x : Row). Spans c′ (set n used (getD h b 0)) (set (set h b (used + 1)) (used + 1) 0) (used + 1) b (x ∷ l)) r (spans-put s′) in
+      inside (subst (λ (x : ℕ). Spans c′ (set n used (getD h b 0)) (set (set h b (used + 1)) (used + 1) 0) (used + 1) x m) e p) (omega arith) (frames-keep fr (omega arith))
 
-  pub within-put : (i : ℕ) → getD (set h b (used + 1)) i 0 ≤ used + 1
-  within-put i = go (eqb i b) refl
+  pub within-put : (i : ℕ) → i ≤ used + 1 → getD (set (set h b (used + 1)) (used + 1) 0) i 0 ≤ used + 1
+  unfolding h′
+  within-put i l = go (eqb i b) refl (eqb i (used + 1)) refl
     where
-      go : (t : Bool) → eqb i b ≡ t → getD (set h b (used + 1)) i 0 ≤ used + 1
-      go true e =
-          let z : getD (set h b (used + 1)) i 0 ≡ used + 1 = ap (λ (j : ℕ). getD (set h b (used + 1)) j 0) (eqb-true i b e) ∙ getD-set-same h b (used + 1) 0 (omega arith) in
+      go : (t : Bool) → eqb i b ≡ t → (u : Bool) → eqb i (used + 1) ≡ u → getD (set (set h b (used + 1)) (used + 1) 0) i 0 ≤ used + 1
+      go t e true f =
+          let z : getD (set (set h b (used + 1)) (used + 1) 0) i 0 ≡ 0 = ap (λ (j : ℕ). getD (set (set h b (used + 1)) (used + 1) 0) j 0) (eqb-true i (used + 1) f) ∙ head-next in
           omega arith
-      go false e = omega (arith, getD-set-other h b i (used + 1) 0 (eqb-false i b e), within i)
+      go true e false f =
+          let z : getD (set (set h b (used + 1)) (used + 1) 0) i 0 ≡ suc used = ap (λ (j : ℕ). getD (set (set h b (used + 1)) (used + 1) 0) j 0) (eqb-true i b e) ∙ head-here in
+          omega arith
+      go false e false f =
+          let d = eqb-false i (used + 1) f in
+          let w : i ≤ used = less i used d l in
+          omega (arith, head-other i w (eqb-false i b e), within i w)
+        where
+          less : (x u : ℕ) → (x ≡ u + 1 → ⊥) → x ≤ u + 1 → x ≤ u
+          less x u d l = omega arith
 
-  pub bare-put : (i : ℕ) → used + 1 ≤ i → getD (set h b (used + 1)) i 0 ≡ 0
-  bare-put i l = getD-set-other h b i (used + 1) 0 (λ z. absurd (omega arith)) ∙ bare i (omega arith)
+  pub bare-put : getD (set (set h b (used + 1)) (used + 1) 0) (used + 1) 0 ≡ 0
+  unfolding h′
+  bare-put = head-next

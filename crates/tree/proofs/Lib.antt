@@ -6,3 +6,6 @@ mod Going
 mod Turns
 mod Writing
 mod Final
+pub mod Pieces
+pub mod Items
+mod Written

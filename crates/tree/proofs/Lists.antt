@@ -3,10 +3,9 @@ use Prim.Native.Nat.{ℕ, zero, suc, _+_, _*_, _-_, _≤_, _<_}
 use mathlib.Core.Path.{_≡_, refl, sym as flip, _∙_, ap, ap₂, subst}
 use mathlib.Core.List.{List, [], _∷_, _++_, append-assoc}
 use native.Mathlib.Omega.{arith}
-use native.Mathlib.Numerals.{add-one}
-use lib.ListN.{length, getD, take, drop, set, length-set, length-drop, drop-of-length-le}
-use lib.Seq.{drop-cons, drop-length, drop-drop, getD-drop, getD-set-same, drop-set-lt, sets, sets-eq, drop-at, length-take-le}
-use Rattle.ll.specs.Grammar.{Sym, tok, nt, act, look}
+use lib.ListN.{length, getD, take, drop, set, length-set, drop-of-length-le}
+use lib.Seq.{drop-cons, drop-length, getD-drop, getD-set-same, drop-set-lt, sets, sets-eq, drop-at, length-take-le}
+use Rattle.ll.specs.Grammar.{Sym, tok, look}
 use Rattle.forms.specs.Kinds.{terminalOf}
 use Rattle.tables.specs.Symbols.{symOf, syms}
 use Rattle.tables.proofs.Tables.{terminal-small}

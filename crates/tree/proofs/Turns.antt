@@ -1,33 +1,35 @@
 -- The scan's turns in the code's own terms: what stands on top of the stack, and what each turn makes of it. Assumes nothing.
-use Prim.Native.Nat.{ℕ, zero, suc, _+_, _*_, _-_, _≤_, _<_}
-use mathlib.Core.Path.{_≡_, refl, sym as flip, _∙_, ap, ap₂, subst}
+use Prim.Native.Nat.{ℕ, suc, _+_, _-_, _≤_, _<_}
+use mathlib.Core.Path.{_≡_, refl, sym as flip, _∙_, ap, subst}
+use mathlib.Core.Logic.{inl, inr}
 use mathlib.Core.List.{List, [], _∷_, _++_}
 use native.Mathlib.Omega.{arith}
 use native.Mathlib.Numerals.{add-one}
-use lib.ListN.{length, getD, drop, set, replicate, length-append, length-drop, drop-of-length-le, length-set}
-use lib.Seq.{drop-cons, drop-set-lt}
+use lib.ListN.{length, getD, drop, set, length-append, length-drop, drop-of-length-le}
+use lib.Seq.{drop-cons}
 use borrow.Author.Tests.{lt-ltb, le-ltb}
 use Rattle.ll.specs.Grammar.{Sym, tok, nt, act, look}
-use Rattle.ll.proofs.Budget.{due, due-grow, due-eat, due-act}
-use Rattle.forms.specs.Names.{file}
+use Rattle.ll.specs.Actions.{End}
+use Rattle.ll.proofs.Budget.{due, due-grow}
 use Rattle.forms.specs.Rules.{body}
 use Rattle.forms.specs.Picks.{predict}
+use Rattle.forms.specs.Tree.{State, Refusal}
+use Rattle.forms.specs.Reading.{readingFrom}
 use Rattle.forms.proofs.Tests as tests
+use Rattle.alike.specs.Alike.{sameName}
 use Rattle.tables.specs.Symbols.{symOf, syms}
-use Rattle.tree.specs.declared.Found.{Found}
-use Rattle.tree.specs.declared.Found.the-variants.{Whole, Wrong, Other, Over}
-use Rattle.tree.specs.Answers.{terminalsOf, readingIn}
-use Rattle.tree.specs.Held.{Tells}
-use Rattle.tree.proofs.Lists.{length-syms, terminals-size, drop-set-here}
-use Rattle.tree.proofs.Zeros.{zeros, drop-zeros}
+use Rattle.tree.specs.Answers.{terminalsOf}
+use Rattle.tree.specs.Held.{Starts}
+use Rattle.tree.proofs.Lists.{length-syms, terminals-size, drop-set-here, four-pushed}
 use Rattle.tree.proofs.Going as going
 use Rattle.tree.proofs.Going.{Going}
 
-pub outer-frame : drop 8704 (zeros 8708) ≡ 0 ∷ 0 ∷ 0 ∷ 0 ∷ []
-outer-frame = drop-zeros 8704 4
+pub outer-frame : (frames : List ℕ) → length frames ≡ 8708 → drop 8704 (set (set (set (set frames 8704 0) 8705 0) 8706 0) 8707 0) ≡ 0 ∷ 0 ∷ 0 ∷ 0 ∷ []
+outer-frame frames e =
+    four-pushed frames 8704 8708 0 0 0 0 refl (omega arith) ∙ ap (λ (l : List ℕ). 0 ∷ 0 ∷ 0 ∷ 0 ∷ l) (drop-of-length-le frames {i = 8708} (omega arith))
 
-pub first-stack : (stk : List ℕ) → length stk ≡ 2176 → syms (drop 2175 (set stk 2175 68)) ≡ file ∷ []
-first-stack stk e = ap syms (drop-set-here stk 2175 68 (omega arith) ∙ ap (λ (l : List ℕ). 68 ∷ l) (drop-of-length-le stk {i = 2176} (omega arith)))
+pub first-stack : (stk : List ℕ) (from : ℕ) → length stk ≡ 2176 → syms (drop 2175 (set stk 2175 from)) ≡ symOf from ∷ []
+first-stack stk from e = ap syms (drop-set-here stk 2175 from (omega arith) ∙ ap (λ (l : List ℕ). from ∷ l) (drop-of-length-le stk {i = 2176} (omega arith)))
 
 -- the measure
 abbrev pub to-do : ℕ → List ℕ → ℕ → ℕ → ℕ
@@ -61,25 +63,25 @@ module _ (text elements : List ℕ) (n : ℕ) (stk : List ℕ) (sp : ℕ) (size 
   left-size : sp ≤ 2176 → length left ≡ 2176 - sp
   left-size l = length-syms (drop sp stk) ∙ length-drop sp stk ∙ ap (λ (x : ℕ). x - sp) size
 
-  module _ {frames cells next heads : List ℕ} {fp depth used at : ℕ} (g : Going text elements n left frames cells next heads fp depth used at) where
-    pub at-end : 2176 ≤ sp → Going text elements n [] frames cells next heads fp depth used at
-    at-end l = subst (λ (α : List Sym). Going text elements n α frames cells next heads fp depth used at) (ap syms (drop-of-length-le stk {i = sp} (omega arith))) g
+  module _ {goal : End State Refusal} {frames cells next heads : List ℕ} {fp depth used at : ℕ} (g : Going text elements n goal left frames cells next heads fp depth used at) where
+    pub at-end : 2176 ≤ sp → Going text elements n goal [] frames cells next heads fp depth used at
+    at-end l = subst (λ (α : List Sym). Going text elements n goal α frames cells next heads fp depth used at) (ap syms (drop-of-length-le stk {i = sp} (omega arith))) g
 
-    pub at-tok : sp < 2176 → getD stk sp 0 < 68 → Going text elements n (tok (getD stk sp 0) ∷ rest) frames cells next heads fp depth used at
-    at-tok l h = subst (λ (α : List Sym). Going text elements n α frames cells next heads fp depth used at) (on-tok l h) g
+    pub at-tok : sp < 2176 → getD stk sp 0 < 68 → Going text elements n goal (tok (getD stk sp 0) ∷ rest) frames cells next heads fp depth used at
+    at-tok l h = subst (λ (α : List Sym). Going text elements n goal α frames cells next heads fp depth used at) (on-tok l h) g
 
-    pub at-nt : sp < 2176 → 68 ≤ getD stk sp 0 → getD stk sp 0 < 148 → Going text elements n (nt (getD stk sp 0 - 68) ∷ rest) frames cells next heads fp depth used at
-    at-nt l h m = subst (λ (α : List Sym). Going text elements n α frames cells next heads fp depth used at) (on-nt l h m) g
+    pub at-nt : sp < 2176 → 68 ≤ getD stk sp 0 → getD stk sp 0 < 148 → Going text elements n goal (nt (getD stk sp 0 - 68) ∷ rest) frames cells next heads fp depth used at
+    at-nt l h m = subst (λ (α : List Sym). Going text elements n goal α frames cells next heads fp depth used at) (on-nt l h m) g
 
-    pub at-act : sp < 2176 → 148 ≤ getD stk sp 0 → Going text elements n (act (getD stk sp 0 - 148) ∷ rest) frames cells next heads fp depth used at
-    at-act l h = subst (λ (α : List Sym). Going text elements n α frames cells next heads fp depth used at) (on-act l h) g
+    pub at-act : sp < 2176 → 148 ≤ getD stk sp 0 → Going text elements n goal (act (getD stk sp 0 - 148) ∷ rest) frames cells next heads fp depth used at
+    at-act l h = subst (λ (α : List Sym). Going text elements n goal α frames cells next heads fp depth used at) (on-act l h) g
 
     -- what the action needs
     pub room-frames : sp < 2176 → length frames ≡ 8708 → 148 ≤ getD stk sp 0 → 4 ≤ fp
-    room-frames l e h = omega (arith, going.frames-room text elements n g, going.stack-bound text elements n g)
+    room-frames l e h = omega (arith, going.frames-room text elements n goal g, going.stack-bound text elements n goal g)
 
     pub room-rows : sp < 2176 → at ≤ 8192 → used < 10367
-    room-rows l h = omega (arith, going.rows-bound text elements n g, going.stack-bound text elements n g)
+    room-rows l h = omega (arith, going.rows-bound text elements n goal g, going.stack-bound text elements n goal g)
 
   pub less-eat : (at : ℕ) → sp < 2176 → getD stk sp 0 < 68 → at < n → due tests.weight tests.leads rest (n - (at + 1)) < to-do n stk sp at
   less-eat at l h m =
@@ -101,16 +103,16 @@ module _ (text elements : List ℕ) (n : ℕ) (stk : List ℕ) (sp : ℕ) (size 
     pub rule-in : q - 1 < 165
     rule-in = tests.forms-ll .table (getD stk sp 0 - 68) (look (drop at (terminalsOf n elements))) (q - 1) rule-is .0
 
-    module _ {frames cells next heads : List ℕ} {fp depth used : ℕ} (g : Going text elements n left frames cells next heads fp depth used at) where
-      grown : Going text elements n (body (q - 1) ++ rest) frames cells next heads fp depth used at
-      grown = going.by-rule text elements n (at-nt g l h m) (q - 1) rule-is
+    module _ {goal : End State Refusal} {frames cells next heads : List ℕ} {fp depth used : ℕ} (g : Going text elements n goal left frames cells next heads fp depth used at) where
+      grown : Going text elements n goal (body (q - 1) ++ rest) frames cells next heads fp depth used at
+      grown = going.by-rule text elements n goal (at-nt g l h m) (q - 1) rule-is
 
       pub rule-room : (k : ℕ) → k ≡ length (body (q - 1)) → k ≤ sp + 1
-      rule-room k e = omega (arith, going.stack-bound text elements n grown, length-append (body (q - 1)) rest, rest-size l)
+      rule-room k e = omega (arith, going.stack-bound text elements n goal grown, length-append (body (q - 1)) rest, rest-size l)
 
       pub rule-on : (k : ℕ) (stk′ : List ℕ) → k ≡ length (body (q - 1)) → syms (drop (sp + 1 - k) stk′) ≡ body (q - 1) ++ rest
-          → Going text elements n (syms (drop (sp + 1 - k) stk′)) frames cells next heads fp depth used at
-      rule-on k stk′ e p = subst (λ (α : List Sym). Going text elements n α frames cells next heads fp depth used at) (flip p) grown
+          → Going text elements n goal (syms (drop (sp + 1 - k) stk′)) frames cells next heads fp depth used at
+      rule-on k stk′ e p = subst (λ (α : List Sym). Going text elements n goal α frames cells next heads fp depth used at) (flip p) grown
 
     pub rule-less : (α : List Sym) → α ≡ body (q - 1) ++ rest → due tests.weight tests.leads α (n - at) < to-do n stk sp at
     rule-less α p =
@@ -121,8 +123,18 @@ module _ (text elements : List ℕ) (n : ℕ) (stk : List ℕ) (sp : ℕ) (size 
         (due-grow body predict tests.weight tests.leads tests.steps-paid (getD stk sp 0 - 68) (q - 1) rest (drop at (terminalsOf n elements)) rule-is)))
 
 -- the first turn
-pub first-turn : (text elements : List ℕ) (n : ℕ) (cells next heads : List ℕ) → ((i : ℕ) → getD heads i 0 ≡ 0)
-    → Going text elements n (syms (drop 2175 (set (zeros 2176) 2175 68))) (zeros 8708) cells next heads 8704 0 0 0
-first-turn text elements n cells next heads z =
-    subst (λ (α : List Sym). Going text elements n α (zeros 8708) cells next heads 8704 0 0 0) (flip (first-stack (zeros 2176) refl))
-    (going.begins text elements n (zeros 8708) cells next heads refl outer-frame z)
+module _ (text elements : List ℕ) (n from : ℕ) (stk frames cells next heads : List ℕ) (stack : syms (drop 2175 stk) ≡ symOf from ∷ []) (size : length frames ≡ 8708)
+    (outer : drop 8704 frames ≡ 0 ∷ 0 ∷ 0 ∷ 0 ∷ []) (empty : getD heads 0 0 ≡ 0) where
+  abbrev Goal : End State Refusal
+  Goal = readingFrom (symOf from) (sameName text elements) (terminalsOf n elements)
+
+  first-at : (m : ℕ) → symOf from ≡ nt m → tests.height m ≤ 63 → tests.spare m ≡ 0 → tests.weight m < 128
+      → Going text elements n Goal (syms (drop 2175 stk)) frames cells next heads 8704 0 0 0
+  first-at m e low none light =
+      subst (λ (α : List Sym). Going text elements n Goal α frames cells next heads 8704 0 0 0) (flip (stack ∙ ap (λ (x : Sym). x ∷ []) e))
+      (going.begins text elements n Goal m low none light (ap (λ (x : Sym). readingFrom x (sameName text elements) (terminalsOf n elements)) e) frames cells next heads size outer empty)
+
+  pub first-turn : Starts from → Going text elements n Goal (syms (drop 2175 stk)) frames cells next heads 8704 0 0 0
+  first-turn (inl e) = first-at 0 (ap symOf e) (omega arith) refl (omega arith)
+  first-turn (inr (inl e)) = first-at 14 (ap symOf e) (omega arith) refl (omega arith)
+  first-turn (inr (inr e)) = first-at 15 (ap symOf e) (omega arith) refl (omega arith)

@@ -1,10 +1,10 @@
 -- Writing the rows out in order: what is stored so far, with what is left, is the whole. Assumes nothing.
-use Prim.Native.Nat.{ℕ, zero, suc, _+_, _*_, _-_, _≤_, _<_}
-use mathlib.Core.Path.{_≡_, refl, sym, _∙_, ap, ap₂, subst}
+use Prim.Native.Nat.{ℕ, suc, _+_, _*_, _-_, _≤_, _<_}
+use mathlib.Core.Path.{_≡_, refl, sym, _∙_, ap, subst}
 use mathlib.Core.List.{List, [], _∷_, _++_}
 use native.Mathlib.Omega.{arith}
 use native.Mathlib.Numerals.{add-one}
-use lib.ListN.{length, getD, set, length-append}
+use lib.ListN.{length, getD, set}
 use lib.Seq.{sets}
 use Rattle.forms.specs.Tree.{Row}
 use Rattle.tree.specs.Answers.{wordsOf}
@@ -66,11 +66,11 @@ module _ {cells next heads tab₀ tab : List ℕ} {used : ℕ} where
     bare : link ≡ 0 → g .here ++ g .there ≡ g .there
     bare z = ap (λ (l : List Row). l ++ g .there) (no-rows (g .linked) z)
 
-    pub next-base : link ≡ 0 → out < used → getD heads base 0 ≤ used → (base < used) × Left cells next heads tab₀ tab used (base + 1) (getD heads base 0) out
+    pub next-base : link ≡ 0 → out < used → ((i : ℕ) → i ≤ used → getD heads i 0 ≤ used) → (base < used) × Left cells next heads tab₀ tab used (base + 1) (getD heads base 0) out
     next-base z o w =
         let c = g .counted in
         opened (g .there) (g .spans) (omega (arith, ap length (bare z))) o
-        (λ rows t. ap (λ (l : List Row). sets tab (5 * out) (wordsOf l)) (sym (bare z)) ∙ g .stored rows t) w
+        (λ rows t. ap (λ (l : List Row). sets tab (5 * out) (wordsOf l)) (sym (bare z)) ∙ g .stored rows t) (w base (spans-le (g .spans)))
 
     taken : (h : ℕ) (l m : List Row) (r : ℕ) → h ≡ suc r → Linked cells next h l → out + length (l ++ m) ≡ used → h ≤ used → Spans cells next heads used base m
         → ((rows : List Row) → Spans cells next heads used 0 rows → sets tab (5 * out) (wordsOf (l ++ m)) ≡ sets tab₀ 0 (wordsOf rows))

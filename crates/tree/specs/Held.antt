@@ -1,8 +1,10 @@
 -- What the code's arrays hold. A row is appended when it is complete, and put in front of the list of its base, which is how many rows
 -- there were when its frame began: `heads` has each base's list, `next` the links, 0 ending one, a row's number and one more else. The
--- rows of a frame are the lists of the bases from its own to that of the frame inside it. Assumes nothing: these are definitions.
-use Prim.Native.Nat.{ℕ, zero, suc, _+_, _-_, _*_, _≤_}
+-- rows of a frame are the lists of the bases from its own to that of the frame inside it. What stands behind the base of the next row is
+-- of no account: the arrays are lent, and hold any words at the start. Assumes nothing: these are definitions.
+use Prim.Native.Nat.{ℕ, suc, _+_, _-_, _*_, _≤_}
 use mathlib.Core.Path.{_≡_}
+use mathlib.Core.Logic.{_⊎_}
 use mathlib.Core.Bool.{Bool, true, false}
 use mathlib.Core.List.{List, [], _∷_, _++_}
 use lib.Dec.{leb}
@@ -46,8 +48,12 @@ pub data Frames (cells next heads : List ℕ) : ℕ → List ℕ → List Frame 
 pub record Held (frames cells next heads : List ℕ) (fp used : ℕ) (fs : List Frame) : Type 0 where
   pub framed : Frames cells next heads used (drop fp frames) fs
   pub room : fp + 4 * length fs ≡ length frames
-  pub within : (i : ℕ) → getD heads i 0 ≤ used
-  pub bare : (i : ℕ) → used ≤ i → getD heads i 0 ≡ 0
+  pub within : (i : ℕ) → i ≤ used → getD heads i 0 ≤ used
+  pub bare : getD heads used 0 ≡ 0
+
+-- the code of a symbol at which the scan may start: file, constant, subtype
+abbrev pub Starts : ℕ → Type 0
+Starts from = (from ≡ 68) ⊎ ((from ≡ 82) ⊎ (from ≡ 83))
 
 -- how many rows there are after an action
 abbrev pub pickUsed : Bool → ℕ → ℕ
@@ -71,7 +77,7 @@ Done Deep frames cells next heads used (stop name-differs) = ⊥
 -- what the scan found is how the reading ends
 abbrev pub Tells : Found → List ℕ → List ℕ → List ℕ → End State Refusal → Type 0
 Tells (Whole used) cells next heads (read s) =
-    Spans cells next heads used 0 (rowsOf s) × (length (rowsOf s) ≡ used) × (used ≤ 8192) × ((i : ℕ) → getD heads i 0 ≤ used)
+    Spans cells next heads used 0 (rowsOf s) × (length (rowsOf s) ≡ used) × (used ≤ 8192) × ((i : ℕ) → i ≤ used → getD heads i 0 ≤ used)
 Tells (Wrong i) cells next heads (bad j) = i ≡ j
 Tells (Other i) cells next heads (stopped j name-differs) = i ≡ j - 1
 Tells (Over i) cells next heads (stopped j too-deep) = i ≡ j - 1

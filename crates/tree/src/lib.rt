@@ -1,6 +1,7 @@
 // Elements to a tree: the machine over the tables of the forms, with its rows. Rows are complete innermost first and stand parent first:
 // they are kept in the order of completion, in a list to each base, and written out at the end, so that a text costs by its elements. The
-// tables are made once, in `read_tree`, and lent: made anew at each use, they would cost more than all else.
+// tables and the arrays are made once, in `read_tree` and `read_items`, and lent: made anew at each use, or for each piece of a package,
+// they would cost more than all else.
 ghost use mathlib.Core.Path.{_≡_};
 ghost use mathlib.Core.List.{List, [], _∷_, _++_};
 ghost use Prim.Native.Nat.{ℕ, _+_, _-_, _*_, _/_, _≤_, _<_, min};
@@ -10,11 +11,14 @@ ghost use Rattle.ll.specs.Grammar.{look};
 ghost use Rattle.forms.specs.Rules.{body};
 ghost use Rattle.forms.specs.Picks.{predict};
 ghost use Rattle.forms.specs.Tree.{State, Row, does};
+ghost use Rattle.forms.specs.Reading.{readingFrom};
 ghost use Rattle.alike.specs.Alike.{sameName};
-ghost use Rattle.tables.specs.Symbols.{syms};
+ghost use Rattle.tables.specs.Symbols.{symOf, syms};
 ghost use Rattle.tables.specs.Bytes.{kindBytes, pickBytes, sizeBytes, bodyBytes};
 ghost use Rattle.tree.specs.Answers.{elementsIn, terminalsOf, readingIn, wordsOf, answerOf, tableOf};
-ghost use Rattle.tree.specs.Held.{Held, Spans, Done, Tells, usedAfter};
+ghost use Rattle.pieces.specs.Kinds.{kindsOf, piecesOf};
+ghost use Rattle.tree.specs.Items.{startOf, rowsOfPiece, itemWords, itemsIn, itemRows};
+ghost use Rattle.tree.specs.Held.{Held, Spans, Done, Tells, Starts, usedAfter};
 
 // A tree and its rows; or 01's refusals 5, 6, 7 with their element, and 8 with the rows that the table has.
 pub enum Answer {
@@ -103,7 +107,7 @@ fn push(bodies: &[u8], stk: &mut [u64], sp: usize, p: usize, m: usize)
     }
 }
 
-// A row more: appended to the cells, and put in front of the list of its base.
+// A row more: appended to the cells, and put in front of the list of its base. The list of the next base is empty.
 fn put_row(
     cells: &mut [u64],
     next: &mut [u64],
@@ -116,8 +120,8 @@ fn put_row(
     rows: u64,
     operator: u64,
 )
-    requires { ⌜ (5 * used + 5 ≤ length (now cells)) × (used < length (now next)) × (used < length (now heads)) × (base ≤ used) ⌝ }
-    ensures { λ _. ⌜ (now (cells .exit) ≡ sets (now (cells .entry)) (5 * used) (form ∷ first ∷ count ∷ rows ∷ operator ∷ [])) × (now (next .exit) ≡ set (now (next .entry)) used (getD (now (heads .entry)) base 0)) × (now (heads .exit) ≡ set (now (heads .entry)) base (used + 1)) ⌝ }
+    requires { ⌜ (5 * used + 5 ≤ length (now cells)) × (used < length (now next)) × (used + 1 < length (now heads)) × (base ≤ used) ⌝ }
+    ensures { λ _. ⌜ (now (cells .exit) ≡ sets (now (cells .entry)) (5 * used) (form ∷ first ∷ count ∷ rows ∷ operator ∷ [])) × (now (next .exit) ≡ set (now (next .entry)) used (getD (now (heads .entry)) base 0)) × (now (heads .exit) ≡ set (set (now (heads .entry)) base (used + 1)) (used + 1) 0) ⌝ }
 {
     let at = 5 * used;
     cells[at] = form;
@@ -127,6 +131,7 @@ fn put_row(
     cells[at + 4] = operator;
     next[used] = heads[base];
     heads[base] = (used + 1) as u64;
+    heads[used + 1] = 0;
 }
 
 // An action when k elements were read.
@@ -143,7 +148,7 @@ fn do_act(
     depth: usize,
     used: usize,
 ) -> Did
-    requires { ⌜ (4 ≤ fp) × (fp + 4 ≤ length (now frames)) × (5 * used + 5 ≤ length (now cells)) × (used < length (now next)) × (used < length (now heads)) × (used < 1000000) × (depth ≤ 32) × (getD (now frames) (fp + 2) 0 ≤ used) ⌝ }
+    requires { ⌜ (4 ≤ fp) × (fp + 4 ≤ length (now frames)) × (5 * used + 5 ≤ length (now cells)) × (used < length (now next)) × (used + 1 < length (now heads)) × (used < 1000000) × (depth ≤ 32) × (getD (now frames) (fp + 2) 0 ≤ used) ⌝ }
     ensures { λ r. ⌜ ((s : State) → Held (now (frames .entry)) (now (cells .entry)) (now (next .entry)) (now (heads .entry)) fp used (s .frames) → s .depth ≡ depth → Done r (now (frames .exit)) (now (cells .exit)) (now (next .exit)) (now (heads .exit)) (usedAfter a used) (does (sameName (now (text .entry)) (now (elements .entry))) a k s)) ⌝ }
 {
     if a == 0 {
@@ -212,11 +217,27 @@ fn do_act(
     })
 }
 
-// The machine's turns over the first count elements. The stack grows downwards, and so do the frames, four words to each.
+// The machine before its first turn: the symbol at which it starts, the outermost frame, no rows.
+fn begin(from: u64, stk: &mut [u64], frames: &mut [u64], heads: &mut [u64])
+    requires { ⌜ (length (now stk) ≡ 2176) × (length (now frames) ≡ 8708) × (length (now heads) ≡ 10368) ⌝ }
+    ensures { λ _. ⌜ (syms (drop 2175 (now (stk .exit))) ≡ symOf from ∷ []) × (drop 8704 (now (frames .exit)) ≡ 0 ∷ 0 ∷ 0 ∷ 0 ∷ []) × (getD (now (heads .exit)) 0 0 ≡ 0) ⌝ }
+{
+    stk[2175] = from;
+    frames[8704] = 0;
+    frames[8705] = 0;
+    frames[8706] = 0;
+    frames[8707] = 0;
+    heads[0] = 0;
+}
+
+// The machine's turns over the first count elements, from a symbol on. The stack grows downwards, and so do the frames, four words to each.
 fn scan(
+    from: u64,
     text: &[u8],
     elements: &[u64],
     count: usize,
+    stk: &mut [u64],
+    frames: &mut [u64],
     cells: &mut [u64],
     next: &mut [u64],
     heads: &mut [u64],
@@ -225,13 +246,11 @@ fn scan(
     sizes: &[u8],
     bodies: &[u8],
 ) -> Found
-    requires { ⌜ (3 * count ≤ length (now elements)) × (count ≤ 8192) × (length (now cells) ≡ 51840) × (length (now next) ≡ 10368) × (length (now heads) ≡ 10368) × ((i : ℕ) → getD (now heads) i 0 ≡ 0) × (now kinds ≡ kindBytes) × (now picks ≡ pickBytes) × (now sizes ≡ sizeBytes) × (now bodies ≡ bodyBytes) ⌝ }
-    ensures { λ r. ⌜ Tells r (now (cells .exit)) (now (next .exit)) (now (heads .exit)) (readingIn (now (text .entry)) (now (elements .entry)) count) ⌝ }
+    requires { ⌜ (3 * count ≤ length (now elements)) × (count ≤ 8192) × Starts from × (length (now stk) ≡ 2176) × (length (now frames) ≡ 8708) × (length (now cells) ≡ 51840) × (length (now next) ≡ 10368) × (length (now heads) ≡ 10368) × (now kinds ≡ kindBytes) × (now picks ≡ pickBytes) × (now sizes ≡ sizeBytes) × (now bodies ≡ bodyBytes) ⌝ }
+    ensures { λ r. ⌜ Tells r (now (cells .exit)) (now (next .exit)) (now (heads .exit)) (readingFrom (symOf from) (sameName (now (text .entry)) (now (elements .entry))) (terminalsOf count (now (elements .entry)))) ⌝ }
 {
-    let mut stk = [0u64; 2176];
-    stk[2175] = 68;
+    begin(from, stk, frames, heads);
     let mut sp: usize = 2175;
-    let mut frames = [0u64; 8708];
     let mut fp: usize = 8704;
     let mut depth: usize = 0;
     let mut used: usize = 0;
@@ -256,7 +275,7 @@ fn scan(
             }
             let p = (q - 1) as usize;
             let m = body_len(sizes, p);
-            push(bodies, &mut stk, sp + 1, p, m);
+            push(bodies, stk, sp + 1, p, m);
             sp = sp + 1 - m;
         } else {
             let r = do_act(
@@ -264,7 +283,7 @@ fn scan(
                 at as u64,
                 text,
                 elements,
-                &mut frames,
+                frames,
                 cells,
                 next,
                 heads,
@@ -296,7 +315,7 @@ fn scan(
 
 // The rows in order: the list of each base, from the first base on.
 fn write_out(cells: &[u64], next: &[u64], heads: &[u64], used: usize, tab: &mut [u64])
-    requires { ⌜ ((rows : List Row) × (Spans (now cells) (now next) (now heads) used 0 rows × (length rows ≡ used))) × (5 * used ≤ length (now tab)) × (5 * used ≤ length (now cells)) × (used ≤ length (now next)) × (used ≤ length (now heads)) × (used ≤ 8192) × ((i : ℕ) → getD (now heads) i 0 ≤ used) ⌝ }
+    requires { ⌜ ((rows : List Row) × (Spans (now cells) (now next) (now heads) used 0 rows × (length rows ≡ used))) × (5 * used ≤ length (now tab)) × (5 * used ≤ length (now cells)) × (used ≤ length (now next)) × (used ≤ length (now heads)) × (used ≤ 8192) × ((i : ℕ) → i ≤ used → getD (now heads) i 0 ≤ used) ⌝ }
     ensures { λ _. ⌜ ((rows : List Row) → Spans (now (cells .entry)) (now (next .entry)) (now (heads .entry)) used 0 rows → now (tab .exit) ≡ sets (now (tab .entry)) 0 (wordsOf rows)) ⌝ }
 {
     let mut base: usize = 0;
@@ -344,6 +363,8 @@ pub fn read_tree(text: &[u8], elements: &[u64], count: usize, tree: &mut [u64]) 
 {
     lent::clear(tree);
     let n = least(count, elements.len() / 3, 8192);
+    let mut stk = [0u64; 2176];
+    let mut frames = [0u64; 8708];
     let mut cells = [0u64; 51840];
     let mut next = [0u64; 10368];
     let mut heads = [0u64; 10368];
@@ -352,9 +373,12 @@ pub fn read_tree(text: &[u8], elements: &[u64], count: usize, tree: &mut [u64]) 
     let sizes = tables::sizes();
     let bodies = tables::bodies();
     let found = scan(
+        68,
         text,
         elements,
         n,
+        &mut stk,
+        &mut frames,
         &mut cells,
         &mut next,
         &mut heads,
@@ -376,4 +400,137 @@ pub fn read_tree(text: &[u8], elements: &[u64], count: usize, tree: &mut [u64]) 
         Found::Other(k) => Answer::NameDiffers(k),
         Found::Over(k) => Answer::TooDeep(k),
     }
+}
+
+// The symbol from which a piece is read that begins with this kind, 0 where it is not read.
+fn start_of(kind: u64) -> u64
+    ensures { λ r. ⌜ r ≡ startOf kind ⌝ }
+{
+    if kind == 53 {
+        return 82;
+    }
+    if kind == 129 {
+        return 83;
+    }
+    0
+}
+
+// The rows of the piece that the elements begin with, at the front of `rows`. No name is compared, so any bytes do for the text.
+fn read_piece(
+    elements: &[u64],
+    size: usize,
+    stk: &mut [u64],
+    frames: &mut [u64],
+    cells: &mut [u64],
+    next: &mut [u64],
+    heads: &mut [u64],
+    kinds: &[u8],
+    picks: &[u8],
+    sizes: &[u8],
+    bodies: &[u8],
+    rows: &mut [u64],
+)
+    requires { ⌜ (1 ≤ size) × (3 * size ≤ length (now elements)) × (size ≤ 8192) × (5 * size ≤ length (now rows)) × (length (now stk) ≡ 2176) × (length (now frames) ≡ 8708) × (length (now cells) ≡ 51840) × (length (now next) ≡ 10368) × (length (now heads) ≡ 10368) × (now kinds ≡ kindBytes) × (now picks ≡ pickBytes) × (now sizes ≡ sizeBytes) × (now bodies ≡ bodyBytes) ⌝ }
+    ensures { λ _. ⌜ now (rows .exit) ≡ sets (now (rows .entry)) 0 (wordsOf (rowsOfPiece (kindsOf size (now (elements .entry))))) ⌝ }
+{
+    let from = start_of(elements[0]);
+    if from == 0 {
+        return;
+    }
+    let found = scan(
+        from,
+        kinds,
+        elements,
+        size,
+        stk,
+        frames,
+        cells,
+        next,
+        heads,
+        kinds,
+        picks,
+        sizes,
+        bodies,
+    );
+    match found {
+        Found::Whole(used) => {
+            write_out(cells, next, heads, used, rows);
+        }
+        Found::Wrong(_k) => {}
+        Found::Other(_k) => {}
+        Found::Over(_k) => {}
+    }
+}
+
+// The rows of each piece of the first n elements, those of a piece from its first element's row on.
+fn read_pieces(
+    elements: &[u64],
+    n: usize,
+    stk: &mut [u64],
+    frames: &mut [u64],
+    cells: &mut [u64],
+    next: &mut [u64],
+    heads: &mut [u64],
+    kinds: &[u8],
+    picks: &[u8],
+    sizes: &[u8],
+    bodies: &[u8],
+    rows: &mut [u64],
+)
+    requires { ⌜ (3 * n ≤ length (now elements)) × (n ≤ 8192) × (5 * n ≤ length (now rows)) × (now rows ≡ replicate (length (now rows)) 0) × (length (now stk) ≡ 2176) × (length (now frames) ≡ 8708) × (length (now cells) ≡ 51840) × (length (now next) ≡ 10368) × (length (now heads) ≡ 10368) × (now kinds ≡ kindBytes) × (now picks ≡ pickBytes) × (now sizes ≡ sizeBytes) × (now bodies ≡ bodyBytes) ⌝ }
+    ensures { λ _. ⌜ now (rows .exit) ≡ itemWords (piecesOf (kindsOf n (now (elements .entry)))) ++ replicate (length (now (rows .entry)) - 5 * n) 0 ⌝ }
+{
+    let mut at: usize = 0;
+    while at < n {
+        let size = pieces::piece_size(elements, n, at);
+        let first = 3 * at;
+        let row = 5 * at;
+        read_piece(
+            &elements[first..],
+            size,
+            stk,
+            frames,
+            cells,
+            next,
+            heads,
+            kinds,
+            picks,
+            sizes,
+            bodies,
+            &mut rows[row..],
+        );
+        at += size;
+    }
+}
+
+// The rows of each constant and subtype of a package, by the forms: those of a piece from its first element's row on, and zeros behind
+// them; zeros for any other piece and for one that no form fits.
+pub fn read_items(elements: &[u64], count: usize, rows: &mut [u64])
+    ensures { λ _. ⌜ now (rows .exit) ≡ itemRows (now (elements .entry)) count (length (now (rows .entry))) ⌝ }
+{
+    lent::clear(rows);
+    let n = least(count, elements.len() / 3, least(rows.len() / 5, 8192, 8192));
+    let mut stk = [0u64; 2176];
+    let mut frames = [0u64; 8708];
+    let mut cells = [0u64; 51840];
+    let mut next = [0u64; 10368];
+    let mut heads = [0u64; 10368];
+    let kinds = tables::kinds();
+    let picks = tables::picks();
+    let sizes = tables::sizes();
+    let bodies = tables::bodies();
+    read_pieces(
+        elements,
+        n,
+        &mut stk,
+        &mut frames,
+        &mut cells,
+        &mut next,
+        &mut heads,
+        &kinds,
+        &picks,
+        &sizes,
+        &bodies,
+        rows,
+    );
 }

@@ -10,18 +10,21 @@ use lib.ListN.{length, replicate}
 use borrow.Author.Tests.{le-leb, leb-true, leb-false}
 use Rattle.ll.specs.Actions.{End, read, bad, stopped, spent}
 use Rattle.alike.specs.Alike.{sameName}
-use Rattle.forms.specs.Tree.{State, Refusal, name-differs, too-deep, rowsOf}
+use Rattle.forms.specs.Tree.{State, Refusal, name-differs, too-deep, isNamed, rowsOf}
 use Rattle.forms.specs.Forest.{Forest, Tiled, upFrom}
 use Rattle.forms.proofs.Meaning as meaning
 use Rattle.forms.proofs.Growing.{rows-forest}
 use Rattle.forms.proofs.Opening as opening
+use Rattle.forms.proofs.Operators.{operators-right}
 use Rattle.forms.specs.Open.{openAfter, openFrom}
+use Rattle.forms.specs.Closing.{named, closesAt}
+use Rattle.forms.proofs.Closing as closing
 use Rattle.forms.proofs.Tiling.{rows-tiled}
 use Rattle.forms.proofs.Leaves as order
 use Rattle.tree.specs.Answers.{readingIn, wordsOf, answerOf, tableOf, pickAnswer, pickWords}
 use Rattle.tree.specs.declared.Answer.the-variants.{Tree, NoFile, NameDiffers, TooDeep, TableShort}
 use Rattle.tree.proofs.Lists.{terminals-size}
-use Rattle.tree_promises.specs.Promises.{Elements, Accepts, HasRows, OneTree, FirstWrong, StillBegins, TooManyOpen, NeverTooMany, IsShort, ZerosElse, RowsNest, LeavesInOrder, NoChoice}
+use Rattle.tree_promises.specs.Promises.{Elements, Answered, Accepts, HasRows, OneTree, FirstWrong, StillBegins, TooManyOpen, NeverTooMany, WrongName, NeverWrongName, FirstDecides, IsShort, ZerosElse, RowsNest, LeavesInOrder, OperatorColumn, NoChoice}
 
 clash : {A : Type 0} → _≡_ {A = ℕ} 0 1 → A
 clash z = absurd (omega arith)
@@ -137,6 +140,73 @@ too-many-open text table n room k e =
 pub never-too-many : NeverTooMany
 never-too-many text table n s f i = opening.never-deep (sameName text table) (Elements table n) s f i
 
+name-end : (room k : ℕ) (o : End State Refusal) → answerOf room o ≡ NameDiffers k → (j : ℕ) × ((o ≡ stopped j name-differs) × (k ≡ j - 1))
+name-end room k (read s) e = go (leb (5 * length (rowsOf s)) room) e
+  where
+    go : (b : Bool) → pickAnswer b (Tree (length (rowsOf s))) (TableShort (room / 5)) ≡ NameDiffers k → (j : ℕ) × ((_≡_ {A = End State Refusal} (read s) (stopped j name-differs)) × (k ≡ j - 1))
+    go true e = let z : _≡_ {A = ℕ} 0 1 = cc in clash z
+    go false e = let z : _≡_ {A = ℕ} 0 1 = cc in clash z
+name-end room k (bad j) e = let z : _≡_ {A = ℕ} 0 1 = cc in clash z
+name-end room k (stopped j name-differs) e = let z : k ≡ j - 1 = cc in (j, (refl, z))
+name-end room k (stopped j too-deep) e = let z : _≡_ {A = ℕ} 0 1 = cc in clash z
+name-end room k spent e = let z : _≡_ {A = ℕ} 0 1 = cc in clash z
+
+-- the reading that is answered by refusal 6, and by refusal 7: the element at the place is the last that was read
+name-reading : (text table : List ℕ) (n room k : ℕ) → Answered text table n room ≡ NameDiffers k → readingIn text table n ≡ stopped (suc k) name-differs
+name-reading text table n room k e =
+    let t = name-end room k (readingIn text table n) e in
+    let r = closing.name-differs-at (sameName text table) (Elements table n) (t .0) (t .1 .0) in
+    let y = t .1 .1 in
+    let x = r .1 .0 in
+    let z : t .0 ≡ suc k = omega arith in
+    t .1 .0 ∙ ap (λ (j : ℕ). stopped j name-differs) z
+
+deep-reading : (text table : List ℕ) (n room k : ℕ) → Answered text table n room ≡ TooDeep k → readingIn text table n ≡ stopped (suc k) too-deep
+unfolding openFrom
+deep-reading text table n room k e =
+    let t = deep-end room k (readingIn text table n) e in
+    t .1 .0 ∙ ap (λ (j : ℕ). stopped j too-deep) (by (t .0) (t .1 .1) (opening.too-deep-at (sameName text table) (Elements table n) (t .0) (t .1 .0) .0))
+  where
+    by : (j : ℕ) → k ≡ j - 1 → openAfter (Elements table n) j ≡ 33 → j ≡ suc k
+    by zero q o = absurd (omega arith)
+    by (suc j) q o = omega arith
+
+pub wrong-name : WrongName
+wrong-name text table n room k e =
+    let r = closing.name-differs-at (sameName text table) (Elements table n) (suc k) (name-reading text table n room k e) in
+    let x = r .1 .0 in
+    let z : r .0 ≡ k = omega arith in
+    subst (λ (i : ℕ). (name : ℕ) × ((closesAt (Elements table n) i ≡ named name) × (isNamed (sameName text table) name i ≡ false))) z (r .1 .1)
+
+pub never-wrong-name : NeverWrongName
+never-wrong-name text table n s f k name l q =
+    closing.names-agree (sameName text table) (Elements table n) (read s) (meaning.reads-files (sameName text table) (Elements table n) s .1 f) k name q tt
+
+pub first-decides : FirstDecides
+first-decides text table n room k = (
+  (λ e.
+      let r = wrong-end room k (readingIn text table n) (meaning.always-answers alike w) e in
+      (meaning.first-wrong alike w k r .1, (λ i name l q. closing.names-agree alike w (bad k) r i name q (omega arith)), λ i l. opening.within alike w (bad k) r i l)),
+  (λ e.
+      let r = name-reading text table n room k e in (
+        meaning.still-begins alike w (suc k) name-differs r,
+        (λ i name l q. closing.names-agree alike w (stopped (suc k) name-differs) r i name q (omega arith)),
+        λ i l. opening.within alike w (stopped (suc k) name-differs) r i l,
+      )),
+  λ e.
+      let r = deep-reading text table n room k e in (
+        meaning.still-begins alike w (suc k) too-deep r,
+        (λ i name l q. closing.names-agree alike w (stopped (suc k) too-deep) r i name q (omega arith)),
+        λ i l. opening.within alike w (stopped (suc k) too-deep) r i (omega arith),
+      ),
+)
+  where
+    alike : ℕ → ℕ → Bool
+    alike = sameName text table
+
+    w : List ℕ
+    w = Elements table n
+
 short-end : (room k : ℕ) (o : End State Refusal) → answerOf room o ≡ TableShort k → (k ≡ room / 5) × ((s : State) × ((o ≡ read s) × (room < 5 * length (rowsOf s))))
 short-end room k (read s) e = go (leb (5 * length (rowsOf s)) room) refl e
   where
@@ -176,6 +246,9 @@ leaves-in-order text table n s f =
     let t : Tiled 0 n (rowsOf s) = subst (λ (x : ℕ). Tiled 0 x (rowsOf s)) (terminals-size n table) (rows-tiled (sameName text table) (Elements table n) s f) in
     let z : n - 0 ≡ n = omega arith in
     (t, order.leaves-in-order 0 t ∙ ap (upFrom 0) z)
+
+pub operator-column : OperatorColumn
+operator-column text table n s f = operators-right (sameName text table) (Elements table n) s f
 
 pub no-choice : NoChoice
 no-choice text table n room r r′ tree tree′ p q p′ q′ = (p ∙ sym p′, q ∙ sym q′)

@@ -1,17 +1,19 @@
 -- What the strict reading promises, as statements: proofs/Promises.antt proves them. `table` is an element table, `n` how many of its
 -- elements count, `room` how many words the lent tree table has. Assumes nothing: these are definitions.
-use Prim.Native.Nat.{ℕ, suc, _+_, _*_, _-_, _/_, _≤_, _<_}
+use Prim.Native.Nat.{ℕ, suc, _*_, _-_, _/_, _≤_, _<_}
 use mathlib.Core.Path.{_≡_}
 use mathlib.Core.Logic.{_↔_, _⊎_}
-use mathlib.Core.Bool.{Bool, true, false}
-use mathlib.Core.List.{List, [], _∷_, _++_}
-use lib.ListN.{length, getD, take, replicate}
+use mathlib.Core.Bool.{true, false}
+use mathlib.Core.List.{List, _++_}
+use lib.ListN.{length, replicate}
 use Rattle.alike.specs.Alike.{sameName}
-use Rattle.forms.specs.Tree.{Row, State, rowsOf, IsFile, Reading}
+use Rattle.forms.specs.Tree.{State, isNamed, rowsOf, IsFile, Reading}
 use Rattle.forms.specs.Reading.{Begins}
 use Rattle.forms.specs.Forest.{Forest, Tiled, leaves, elementsOf, upFrom}
 use Rattle.forms.specs.Open.{openAfter}
-use Rattle.tree.specs.Answers.{elementsIn, terminalsOf, readingIn, wordsOf, answerOf, tableOf}
+use Rattle.forms.specs.Closing.{named, closesAt}
+use Rattle.forms.specs.Operators.{OperatorRight, EachRow}
+use Rattle.tree.specs.Answers.{terminalsOf, readingIn, wordsOf, answerOf, tableOf}
 use Rattle.tree.specs.declared.Answer.{Answer}
 use Rattle.tree.specs.declared.Answer.the-variants.{Tree, NoFile, NameDiffers, TooDeep, TableShort}
 
@@ -69,6 +71,35 @@ TooManyOpen =
 abbrev pub NeverTooMany : Type 0
 NeverTooMany = (text table : List ℕ) (n : ℕ) (s : State) → File text table n s → (i : ℕ) → openAfter (Elements table n) i ≤ 32
 
+-- Refusal 6, said of the elements alone: its place is a closing name, and what it closes has no name, or another.
+abbrev pub WrongName : Type 0
+WrongName =
+    (text table : List ℕ) (n room k : ℕ) → Answered text table n room ≡ NameDiffers k
+    → (name : ℕ) × ((closesAt (Elements table n) k ≡ named name) × (isNamed (sameName text table) name k ≡ false))
+
+-- each closing name among the first m elements is the name of what it closes
+abbrev pub NamesRight : List ℕ → List ℕ → ℕ → ℕ → Type 0
+NamesRight text table n m = (k name : ℕ) → k < m → closesAt (Elements table n) k ≡ named name → isNamed (sameName text table) name k ≡ true
+
+-- no more than 32 stand open after any of the first m elements
+abbrev pub FewOpen : List ℕ → ℕ → ℕ → Type 0
+FewOpen table n m = (i : ℕ) → i ≤ m → openAfter (Elements table n) i ≤ 32
+
+-- In a file every closing name is the name of what it closes.
+abbrev pub NeverWrongName : Type 0
+NeverWrongName = (text table : List ℕ) (n : ℕ) (s : State) → File text table n s → NamesRight text table n n
+
+-- Of 5, 6, 7 the first element decides, and at one element 5 comes before 6 before 7. Where 5 is answered at k, no name before k was wrong
+-- and no more than 32 were ever open. Where 6 is, the elements up to k with k itself begin a file, no name before k was wrong and no more
+-- than 32 were ever open. Where 7 is, the elements up to k with k itself begin a file, no name among them was wrong and before k no more
+-- than 32 were ever open.
+abbrev pub FirstDecides : Type 0
+FirstDecides =
+    (text table : List ℕ) (n room k : ℕ)
+    → (Answered text table n room ≡ NoFile k → Begins (Elements table n) k × NamesRight text table n k × FewOpen table n k)
+    × (Answered text table n room ≡ NameDiffers k → Begins (Elements table n) (suc k) × NamesRight text table n k × FewOpen table n (suc k))
+    × (Answered text table n room ≡ TooDeep k → Begins (Elements table n) (suc k) × NamesRight text table n (suc k) × FewOpen table n k)
+
 -- Refusal 8: the elements are a file, the table is short of its rows, and the place is the rows that it has.
 abbrev pub IsShort : Type 0
 IsShort =
@@ -87,6 +118,11 @@ RowsNest = (text table : List ℕ) (n : ℕ) (s : State) → File text table n s
 -- innermost row that spans it.
 abbrev pub LeavesInOrder : Type 0
 LeavesInOrder = (text table : List ℕ) (n : ℕ) (s : State) → File text table n s → (t : Tiled 0 n (rowsOf s)) × (elementsOf (leaves 0 t) ≡ upFrom 0 n)
+
+-- The operator column of every row of a file: in form 28 one of the row's own elements, a sign, abs or not; in form 29 one of its own
+-- elements, a binary operator; in every other form its first element.
+abbrev pub OperatorColumn : Type 0
+OperatorColumn = (text table : List ℕ) (n : ℕ) (s : State) → File text table n s → EachRow (OperatorRight (Elements table n)) (rowsOf s)
 
 -- Any two permitted answers coincide: what the function ensures leaves no choice.
 abbrev pub NoChoice : Type 0

@@ -17,8 +17,8 @@ abbrev μ-loop : tie.MeasureT-loop
 loop-holds : tie.Need-loop-holds Inv-loop μ-loop
 loop-holds c = search needs
 
-piece-size-requires : tie.Need-piece-size-requires Inv-loop μ-loop
-piece-size-requires c κs = search needs
+size-at-requires : tie.Need-size-at-requires Inv-loop μ-loop
+size-at-requires c κs = search needs
 
 add-at : tie.Need-add-at Inv-loop μ-loop
 add-at c = search at-fits
@@ -42,7 +42,7 @@ count-pieces-spec =
     Inv-loop
     μ-loop
     loop-holds
-    piece-size-requires
+    size-at-requires
     add-at
     add-c
     loop-less

@@ -21,8 +21,8 @@ abbrev μ-loop : tie.MeasureT-loop
 loop-holds : tie.Need-loop-holds Inv-loop μ-loop
 loop-holds c = (search needs, omega arith, refl, refl)
 
-piece-size-requires : tie.Need-piece-size-requires Inv-loop μ-loop
-piece-size-requires c κs = search needs
+size-at-requires : tie.Need-size-at-requires Inv-loop μ-loop
+size-at-requires c κs = search needs
 
 mark-piece-requires : tie.Need-mark-piece-requires Inv-loop μ-loop
 mark-piece-requires c κs = (search needs, search size-inside)
@@ -55,7 +55,7 @@ write-records-spec =
     Inv-loop
     μ-loop
     loop-holds
-    piece-size-requires
+    size-at-requires
     mark-piece-requires
     write-record-requires
     add-at

@@ -1,6 +1,6 @@
 -- `tree::put_row` meets its contract. Five words stored, one link set, one head set. Assumes nothing.
 use native.Mathlib.Omega.{arith}
-use mathlib.Core.Path.{_≡_, refl}
+use mathlib.Core.Path.{refl}
 use Prim.Native.Nat.{_*_}
 use lib.ListN.{length-set}
 use Rattle.tree.proofs.Lists.{five-stored}
@@ -74,6 +74,15 @@ mul-heads c = search needs
 slice-write-heads : tie.Need-slice-write-heads
 slice-write-heads c = search needs
 
+add-heads-2 : tie.Need-add-heads-2
+add-heads-2 c = search needs
+
+mul-heads-2 : tie.Need-mul-heads-2
+mul-heads-2 c = search needs
+
+slice-write-heads-2 : tie.Need-slice-write-heads-2
+slice-write-heads-2 c = simp length-set (omega arith)
+
 same-length : tie.Need-same-length
 same-length c = search needs
 
@@ -112,6 +121,9 @@ put-row-spec =
     add-heads
     mul-heads
     slice-write-heads
+    add-heads-2
+    mul-heads-2
+    slice-write-heads-2
     same-length
     same-length-2
     same-length-3

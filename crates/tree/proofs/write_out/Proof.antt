@@ -1,5 +1,5 @@
 -- `tree::write_out` meets its contract. What is stored, with what is left, is the whole; the measure is the rows and bases left. Assumes nothing.
-use Prim.Native.Nat.{_≤_, _-_, _+_}
+use Prim.Native.Nat.{_-_, _+_}
 use mathlib.Core.Path.{_≡_, refl}
 use native.Mathlib.Omega.{arith}
 use lib.ListN.{length, length-set}
@@ -21,16 +21,16 @@ mul-link : tie.Need-mul-link Inv-loop μ-loop
 mul-link c = omega (arith, writing.bases-bound (c .before .before .loop .inv .1))
 
 shared-slice-read-link : tie.Need-shared-slice-read-link Inv-loop μ-loop
-shared-slice-read-link c = let b = writing.next-base (c .before .before .before .loop .inv .1) (c .before .if1 .taken) (c .before .before .loop-test .taken) (c .before .before .before .before .pre .6 (c .before .before .before .loop .base)) .0 in omega arith
+shared-slice-read-link c = let b = writing.next-base (c .before .before .before .loop .inv .1) (c .before .if1 .taken) (c .before .before .loop-test .taken) (c .before .before .before .before .pre .6) .0 in omega arith
 
 add-base : tie.Need-add-base Inv-loop μ-loop
 add-base c = omega (arith, writing.bases-bound (c .before .before .before .loop .inv .1))
 
 loop-less : tie.Need-loop-less Inv-loop μ-loop
-loop-less c = let b = writing.next-base (c .before .before .before .loop .inv .1) (c .before .if1 .taken) (c .before .before .loop-test .taken) (c .before .before .before .before .pre .6 (c .before .before .before .loop .base)) .0 in omega arith
+loop-less c = let b = writing.next-base (c .before .before .before .loop .inv .1) (c .before .if1 .taken) (c .before .before .loop-test .taken) (c .before .before .before .before .pre .6) .0 in omega arith
 
 loop-again : tie.Need-loop-again Inv-loop μ-loop
-loop-again c = (c .before .before .before .loop .inv .0, writing.next-base (c .before .before .before .loop .inv .1) (c .before .if1 .taken) (c .before .before .loop-test .taken) (c .before .before .before .before .pre .6 (c .before .before .before .loop .base)) .1)
+loop-again c = (c .before .before .before .loop .inv .0, writing.next-base (c .before .before .before .loop .inv .1) (c .before .if1 .taken) (c .before .before .loop-test .taken) (c .before .before .before .before .pre .6) .1)
 
 sub-from : tie.Need-sub-from Inv-loop μ-loop
 sub-from c = omega arith

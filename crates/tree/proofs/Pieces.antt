@@ -1,0 +1,178 @@
+-- A piece read by itself, in the code's terms: the symbol from which it is read, what the scan found, and its rows. Assumes nothing.
+use Prim.Native.Nat.{ℕ, zero, suc, _≤_}
+use mathlib.Core.Path.{_≡_, refl, sym, _∙_, ap, subst}
+use mathlib.Core.Logic.{_⊎_, inl, inr, ⊎-elim}
+use mathlib.Core.Bool.{Bool, true, false, cond}
+use mathlib.Core.List.{List, [], _∷_}
+use native.Mathlib.Omega.{arith}
+use borrow.Author.Tests.{eq-eqb, ne-eqb}
+use lib.Dec.{eqb}
+use lib.ListN.{length, getD, drop}
+use lib.Seq.{sets}
+use Rattle.ll.specs.Actions.{End, read, bad, stopped, spent}
+use Rattle.alike.specs.Alike.{sameName}
+use Rattle.forms.specs.Kinds.{terminalOf}
+use Rattle.forms.specs.Names.{constant, subtype}
+use Rattle.forms.specs.Tree.{Row, State, Refusal, name-differs, too-deep, rowsOf}
+use Rattle.forms.specs.Reading.{readingFrom}
+use Rattle.forms.specs.Items.{IsItem}
+use Rattle.forms.proofs.Items.{reads-items, kinds-alone, fewer-rows}
+use Rattle.tables.specs.Symbols.{symOf}
+use Rattle.pieces.specs.Kinds.{kindsOf}
+use Rattle.pieces.proofs.Laws.{kinds-length}
+use Rattle.tree.specs.declared.Found.{Found}
+use Rattle.tree.specs.declared.Found.the-variants.{Whole, Wrong, Other, Over}
+use Rattle.tree.specs.Answers.{terminalsOf, wordsOf}
+use Rattle.tree.specs.Held.{Spans, Starts, Tells}
+use Rattle.tree.specs.Items.{unlike, terminalsIn, readingBy, readingOfPiece, rowsRead, rowsOfPiece, startOf}
+
+clash : {A : Type 0} → _≡_ {A = ℕ} 0 1 → A
+clash z = absurd (omega arith)
+
+-- the answers of `start_of`
+pub start-constant : (k : ℕ) → k ≡ 53 → _≡_ {A = ℕ} 82 (startOf k)
+start-constant k h = rw (eq-eqb k 53 h)
+
+pub start-subtype : (k : ℕ) → (k ≡ 53 → ⊥) → k ≡ 129 → _≡_ {A = ℕ} 83 (startOf k)
+start-subtype k d h = rw (ne-eqb k 53 d, eq-eqb k 129 h)
+
+pub start-none : (k : ℕ) → (k ≡ 53 → ⊥) → (k ≡ 129 → ⊥) → _≡_ {A = ℕ} 0 (startOf k)
+start-none k d e = rw (ne-eqb k 53 d, ne-eqb k 129 e)
+
+-- not read, or read from an item's symbol
+abbrev Known : ℕ → (List ℕ → End State Refusal) → Type 0
+Known from by = ((from ≡ 0) × ((w : List ℕ) → by w ≡ bad 0)) ⊎ (Starts from × IsItem (symOf from) × ((w : List ℕ) → readingFrom (symOf from) unlike w ≡ by w))
+
+known : (k from : ℕ) → from ≡ startOf k → Known from (readingBy k)
+known k from e = go (eqb k 53) (eqb k 129) e
+  where
+    go : (a b : Bool) → from ≡ cond a 82 (cond b 83 0) → Known from (λ w. cond a (readingFrom constant unlike w) (cond b (readingFrom subtype unlike w) (bad 0)))
+    go true b e = inr (inr (inl e), inl (ap symOf e), λ w. ap (λ (x : ℕ). readingFrom (symOf x) unlike w) e)
+    go false true e = inr (inr (inr e), inr (ap symOf e), λ w. ap (λ (x : ℕ). readingFrom (symOf x) unlike w) e)
+    go false false e = inl (e, λ w. refl)
+
+terminals-kinds : (n : ℕ) (t : List ℕ) → terminalsOf n t ≡ terminalsIn (kindsOf n t)
+unfolding terminalsOf kindsOf
+terminals-kinds zero t = refl
+terminals-kinds (suc n) t = ap (λ (l : List ℕ). terminalOf (getD t 0 0) ∷ l) (terminals-kinds n (drop 3 t))
+
+pub terminals-length : (p : List ℕ) → length (terminalsIn p) ≡ length p
+terminals-length [] = refl
+terminals-length (k ∷ p) = ap suc (terminals-length p)
+
+first-kind : (n : ℕ) (t : List ℕ) → 1 ≤ n → getD (kindsOf n t) 0 0 ≡ getD t 0 0
+unfolding kindsOf
+first-kind zero t h = absurd (omega arith)
+first-kind (suc n) t h = refl
+
+-- there are no more rows than elements
+few : (p : List ℕ) (o : End State Refusal) → readingOfPiece p ≡ o → length (rowsRead o) ≤ length p
+unfolding readingOfPiece
+few p (read s) e = ⊎-elim (λ h. let z : _≡_ {A = ℕ} 0 1 = cc (h .1 (terminalsIn p)) in clash z) here (known (getD p 0 0) (startOf (getD p 0 0)) refl)
+  where
+    here : Starts (startOf (getD p 0 0)) × IsItem (symOf (startOf (getD p 0 0))) × ((w : List ℕ) → readingFrom (symOf (startOf (getD p 0 0))) unlike w ≡ readingBy (getD p 0 0) w)
+        → length (rowsOf s) ≤ length p
+    here h =
+        let f : ℕ = startOf (getD p 0 0) in
+        let r = reads-items (symOf f) (h .1) unlike (terminalsIn p) s .0 (h .2 (terminalsIn p) ∙ e) in
+        omega (arith, fewer-rows (symOf f) (h .1) unlike (terminalsIn p) s r, terminals-length p)
+few p (bad k) e = omega arith
+few p (stopped k r) e = omega arith
+few p spent e = omega arith
+
+pub rows-few : (p : List ℕ) → length (rowsOfPiece p) ≤ length p
+unfolding rowsOfPiece
+rows-few p = few p (readingOfPiece p) refl
+
+module _ (size from : ℕ) (t : List ℕ) (some : 1 ≤ size) (e : from ≡ startOf (getD t 0 0)) where
+  told-by : Known from (readingBy (getD t 0 0))
+  told-by = known (getD t 0 0) from e
+
+  is-piece : readingBy (getD t 0 0) (terminalsOf size t) ≡ readingOfPiece (kindsOf size t)
+  unfolding readingOfPiece
+  is-piece = rw (first-kind size t some, terminals-kinds size t)
+
+  pub starts : (from ≡ 0 → ⊥) → Starts from
+  starts d = ⊎-elim (λ h. absurd (d (h .0))) (λ h. h .0) told-by
+
+  -- no rows, none written
+  pub piece-unread : from ≡ 0 → (rows : List ℕ) → rows ≡ sets rows 0 (wordsOf (rowsOfPiece (kindsOf size t)))
+  unfolding rowsOfPiece
+  piece-unread z rows = ap (λ (o : End State Refusal). sets rows 0 (wordsOf (rowsRead o))) (sym (sym is-piece ∙ nothing told-by))
+    where
+      nothing : Known from (readingBy (getD t 0 0)) → readingBy (getD t 0 0) (terminalsOf size t) ≡ bad 0
+      nothing (inl h) = h .1 (terminalsOf size t)
+      nothing (inr h) = absurd (none (h .0))
+        where
+          none : Starts from → ⊥
+          none (inl x) = omega arith
+          none (inr (inl x)) = omega arith
+          none (inr (inr x)) = omega arith
+
+  module _ (r : Found) (cells next heads : List ℕ) (text : List ℕ) (d : from ≡ 0 → ⊥) (tells : Tells r cells next heads (readingFrom (symOf from) (sameName text t) (terminalsOf size t))) where
+    tells-piece : Tells r cells next heads (readingOfPiece (kindsOf size t))
+    tells-piece = subst (Tells r cells next heads) (same told-by) tells
+      where
+        same : Known from (readingBy (getD t 0 0)) → readingFrom (symOf from) (sameName text t) (terminalsOf size t) ≡ readingOfPiece (kindsOf size t)
+        same (inl h) = absurd (d (h .0))
+        same (inr h) = kinds-alone (symOf from) (h .1) (sameName text t) unlike (terminalsOf size t) ∙ h .2 (terminalsOf size t) ∙ is-piece
+
+    -- what the rows' writing asks
+    pub piece-asks : (used : ℕ) → r ≡ Whole used
+        → ((rows : List Row) × (Spans cells next heads used 0 rows × (length rows ≡ used))) × (used ≤ size) × ((i : ℕ) → i ≤ used → getD heads i 0 ≤ used)
+    unfolding rowsOfPiece
+    piece-asks used q = go (readingOfPiece (kindsOf size t)) refl (subst (λ (x : Found). Tells x cells next heads (readingOfPiece (kindsOf size t))) q tells-piece)
+      where
+        go : (o : End State Refusal) → readingOfPiece (kindsOf size t) ≡ o → Tells (Whole used) cells next heads o
+            → ((rows : List Row) × (Spans cells next heads used 0 rows × (length rows ≡ used))) × (used ≤ size) × ((i : ℕ) → i ≤ used → getD heads i 0 ≤ used)
+        go (read s) f h = ((rowsOf s, (h .0, h .1)), omega (arith, h .1, few (kindsOf size t) (read s) f, kinds-length size t), h .3)
+        go (bad j) f h = absurd h
+        go (stopped j x) f h = absurd h
+        go spent f h = absurd h
+
+    pub piece-written : (used : ℕ) (rows rows′ : List ℕ) → r ≡ Whole used → ((l : List Row) → Spans cells next heads used 0 l → rows′ ≡ sets rows 0 (wordsOf l))
+        → rows′ ≡ sets rows 0 (wordsOf (rowsOfPiece (kindsOf size t)))
+    unfolding rowsOfPiece
+    piece-written used rows rows′ q w = go (readingOfPiece (kindsOf size t)) (subst (λ (x : Found). Tells x cells next heads (readingOfPiece (kindsOf size t))) q tells-piece)
+      where
+        go : (o : End State Refusal) → Tells (Whole used) cells next heads o → rows′ ≡ sets rows 0 (wordsOf (rowsRead o))
+        go (read s) h = w (rowsOf s) (h .0)
+        go (bad j) h = absurd h
+        go (stopped j x) h = absurd h
+        go spent h = absurd h
+
+    -- no form fits: no rows
+    refused : (x : Found) → r ≡ x → ((o : End State Refusal) → Tells x cells next heads o → rowsRead o ≡ []) → (rows : List ℕ) → rows ≡ sets rows 0 (wordsOf (rowsOfPiece (kindsOf size t)))
+    unfolding rowsOfPiece
+    refused x q f rows =
+        ap (λ (l : List Row). sets rows 0 (wordsOf l))
+        (sym (f (readingOfPiece (kindsOf size t)) (subst (λ (y : Found). Tells y cells next heads (readingOfPiece (kindsOf size t))) q tells-piece)))
+
+    pub piece-wrong : (k : ℕ) → r ≡ Wrong k → (rows : List ℕ) → rows ≡ sets rows 0 (wordsOf (rowsOfPiece (kindsOf size t)))
+    piece-wrong k q = refused (Wrong k) q go
+      where
+        go : (o : End State Refusal) → Tells (Wrong k) cells next heads o → rowsRead o ≡ []
+        go (read s) h = absurd h
+        go (bad j) h = refl
+        go (stopped j x) h = absurd h
+        go spent h = absurd h
+
+    pub piece-other : (k : ℕ) → r ≡ Other k → (rows : List ℕ) → rows ≡ sets rows 0 (wordsOf (rowsOfPiece (kindsOf size t)))
+    piece-other k q = refused (Other k) q go
+      where
+        go : (o : End State Refusal) → Tells (Other k) cells next heads o → rowsRead o ≡ []
+        go (read s) h = absurd h
+        go (bad j) h = absurd h
+        go (stopped j name-differs) h = refl
+        go (stopped j too-deep) h = absurd h
+        go spent h = absurd h
+
+    pub piece-over : (k : ℕ) → r ≡ Over k → (rows : List ℕ) → rows ≡ sets rows 0 (wordsOf (rowsOfPiece (kindsOf size t)))
+    piece-over k q = refused (Over k) q go
+      where
+        go : (o : End State Refusal) → Tells (Over k) cells next heads o → rowsRead o ≡ []
+        go (read s) h = absurd h
+        go (bad j) h = absurd h
+        go (stopped j name-differs) h = absurd h
+        go (stopped j too-deep) h = refl
+        go spent h = absurd h

@@ -1,0 +1,68 @@
+-- What reading each constant and subtype of a package by itself leaves in the lent row table: the rows of a piece stand from its first
+-- element's row on, counted from the piece's first element (01, "Pieces, items, states"). Assumes nothing: these are definitions.
+use Prim.Native.Nat.{ℕ, _+_, _-_, _*_, _/_, min}
+use mathlib.Core.Bool.{Bool, false, cond}
+use mathlib.Core.List.{List, [], _∷_, _++_}
+use lib.Dec.{eqb}
+use lib.ListN.{length, getD, replicate}
+use Rattle.ll.specs.Actions.{End, read, bad, stopped, spent}
+use Rattle.forms.specs.Kinds.{terminalOf}
+use Rattle.forms.specs.Names.{constant, subtype}
+use Rattle.forms.specs.Tree.{Row, State, Refusal, rowsOf}
+use Rattle.forms.specs.Reading.{readingFrom}
+use Rattle.pieces.specs.Kinds.{kindsOf, piecesOf}
+use Rattle.tree.specs.Answers.{wordsOf}
+
+-- no name is like another: an item's rules compare none
+abbrev pub unlike : ℕ → ℕ → Bool
+unlike i j = false
+
+-- what kinds are to the forms
+abbrev pub terminalsIn : List ℕ → List ℕ
+terminalsIn [] = []
+terminalsIn (k ∷ p) = terminalOf k ∷ terminalsIn p
+
+-- the reading of what begins with an element of kind k: a constant (53), a subtype (129), or nothing that is read
+abbrev pub readingBy : ℕ → List ℕ → End State Refusal
+readingBy k w = cond (eqb k 53) (readingFrom constant unlike w) (cond (eqb k 129) (readingFrom subtype unlike w) (bad 0))
+
+-- the reading of a piece, given by its kinds
+unfoldable pub readingOfPiece : List ℕ → End State Refusal
+readingOfPiece p = readingBy (getD p 0 0) (terminalsIn p)
+
+-- the rows of what was read whole
+abbrev pub rowsRead : End State Refusal → List Row
+rowsRead (read s) = rowsOf s
+rowsRead (bad k) = []
+rowsRead (stopped k r) = []
+rowsRead spent = []
+
+-- the rows of a piece: none where it is no constant or subtype, or no form fits it, or more than 32 stand open
+unfoldable pub rowsOfPiece : List ℕ → List Row
+rowsOfPiece p = rowsRead (readingOfPiece p)
+
+-- five words to each element of a piece: its rows, and zeros behind them
+unfoldable pub pieceWords : List ℕ → List ℕ
+pieceWords p = wordsOf (rowsOfPiece p) ++ replicate (5 * length p - 5 * length (rowsOfPiece p)) 0
+
+-- the pieces' words one after the other
+unfoldable pub itemWords : List (List ℕ) → List ℕ
+itemWords [] = []
+itemWords (p ∷ ps) = pieceWords p ++ itemWords ps
+
+-- how many elements pieces have
+abbrev pub total : List (List ℕ) → ℕ
+total [] = 0
+total (p ∷ ps) = length p + total ps
+
+-- how many elements count: no more than either table has, and no more than 8,192
+abbrev pub itemsIn : List ℕ → ℕ → ℕ → ℕ
+itemsIn table count words = min count (min (length table / 3) (min (words / 5) 8192))
+
+-- the row table of so many words afterwards
+unfoldable pub itemRows : List ℕ → ℕ → ℕ → List ℕ
+itemRows table count words = itemWords (piecesOf (kindsOf (itemsIn table count words) table)) ++ replicate (words - 5 * itemsIn table count words) 0
+
+-- the code of the symbol from which a piece is read that begins with kind k, 0 where it is not read
+abbrev pub startOf : ℕ → ℕ
+startOf k = cond (eqb k 53) 82 (cond (eqb k 129) 83 0)
