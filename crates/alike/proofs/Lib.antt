@@ -1,1 +1,3 @@
-mod Laws
+pub mod Laws
+pub mod Spelling
+pub mod Sameness

@@ -4,8 +4,10 @@ ghost use mathlib.Core.Bool.{_&&_};
 ghost use Prim.Native.Nat.{ℕ, _+_, _-_, _≤_, _<_};
 ghost use lib.ListN.{length, getD};
 ghost use Rattle.alike.specs.Alike.{counts, agree, cellAt, within, spelledSame, sameName};
+ghost use Rattle.alike.specs.Spelling.{spelt, spelledAs};
 
-fn counted(basic: bool, b: u8) -> u8
+// A byte as it counts in a name, basic or not.
+pub fn counted(basic: bool, b: u8) -> u8
     ensures { λ r. ⌜ r ≡ counts basic b ⌝ }
 {
     if basic {
@@ -42,8 +44,29 @@ fn cell(table: &[u64], i: usize, j: usize) -> u64
     0
 }
 
+// The kind of element i, 0 where there is none.
+pub fn kind_of(table: &[u64], i: usize) -> u64
+    ensures { λ r. ⌜ r ≡ cellAt (now (table .entry)) i 0 ⌝ }
+{
+    cell(table, i, 0)
+}
+
+// Where element i begins.
+pub fn first_of(table: &[u64], i: usize) -> u64
+    ensures { λ r. ⌜ r ≡ cellAt (now (table .entry)) i 1 ⌝ }
+{
+    cell(table, i, 1)
+}
+
+// How many bytes element i has.
+pub fn size_of(table: &[u64], i: usize) -> u64
+    ensures { λ r. ⌜ r ≡ cellAt (now (table .entry)) i 2 ⌝ }
+{
+    cell(table, i, 2)
+}
+
 // The n bytes from x stand in the text.
-fn stands(s: &[u8], x: u64, n: u64) -> bool
+pub fn stands(s: &[u8], x: u64, n: u64) -> bool
     ensures { λ r. ⌜ r ≡ within (now (s .entry)) x n ⌝ }
 {
     let size = s.len() as u64;
@@ -85,4 +108,38 @@ pub fn same_name(s: &[u8], table: &[u64], a: usize, b: usize) -> bool
         2 => spelled_same(s, table, a, b, false),
         _ => false,
     }
+}
+
+fn spells(basic: bool, a: &[u8], b: &[u8]) -> bool
+    ensures { λ r. ⌜ r ≡ spelt basic (now (a .entry)) (now (b .entry)) ⌝ }
+{
+    if a.len() != b.len() {
+        return false;
+    }
+    let mut i: usize = 0;
+    while i < a.len() {
+        let x = counted(basic, a[i]);
+        let y = counted(basic, b[i]);
+        if x != y {
+            return false;
+        }
+        i += 1;
+    }
+    true
+}
+
+// Element e stands in the text and is spelled as the name.
+pub fn spelled_as(basic: bool, text: &[u8], elements: &[u64], e: usize, name: &[u8]) -> bool
+    ensures { λ r. ⌜ r ≡ spelledAs basic (now (text .entry)) (now (elements .entry)) e (now (name .entry)) ⌝ }
+{
+    let first = cell(elements, e, 1) as usize;
+    let n = cell(elements, e, 2) as usize;
+    if text.len() < first {
+        return false;
+    }
+    if text.len() - first < n {
+        return false;
+    }
+    let end = first + n;
+    spells(basic, &text[first..end], name)
 }

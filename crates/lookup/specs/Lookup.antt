@@ -1,25 +1,13 @@
 -- "a lookup by name gives the first item that claims it, or none, a record pointing outside the tables claiming nothing". Assumes nothing.
 use Prim.Native.Nat.{ℕ, zero, suc, _/_}
-use mathlib.Core.Bool.{Bool, true, false, cond, _&&_}
-use mathlib.Core.List.{List, [], _∷_}
-use lib.Dec.{eqb}
-use lib.ListN.{length, take, drop}
-use Rattle.alike.specs.Alike.{counts, cellAt, within, byKind}
+use mathlib.Core.Bool.{Bool, true, false, _&&_}
+use mathlib.Core.List.{List}
+use lib.ListN.{length}
+use Rattle.alike.specs.Alike.{cellAt, byKind}
+use Rattle.alike.specs.Spelling.{spelledAs}
 use Rattle.records.specs.Records.{wordAt, isClaim}
 use Rattle.lookup.specs.declared.Found.{Found}
 use Rattle.lookup.specs.declared.Found.the-variants.{At, Nothing}
-
--- two stretches of bytes count the same in a name, basic or not
-unfoldable pub spelt : Bool → List ℕ → List ℕ → Bool
-spelt basic [] [] = true
-spelt basic [] (y ∷ ys) = false
-spelt basic (x ∷ xs) [] = false
-spelt basic (x ∷ xs) (y ∷ ys) = eqb (counts basic x) (counts basic y) && spelt basic xs ys
-
--- element e stands in the text and is spelled as the name
-unfoldable pub spelledAs : Bool → List ℕ → List ℕ → ℕ → List ℕ → Bool
-spelledAs basic text elements e name =
-    cond (within text (cellAt elements e 1) (cellAt elements e 2)) (spelt basic (take (cellAt elements e 2) (drop (cellAt elements e 1) text)) name) false
 
 -- element e is that name: an identifier, case aside, or an extended one
 unfoldable pub isNamed : List ℕ → List ℕ → ℕ → List ℕ → Bool

@@ -1,76 +1,37 @@
-// Lookup by name over the text, the element table and the item rows, all of any content.
+// Lookup by name over the text, the element table and the item rows, all of any content; and the same over a lent slice of item structs.
 ghost use mathlib.Core.Path.{_≡_};
 ghost use Prim.Native.Nat.{_<_};
-ghost use Rattle.alike.specs.Alike.{counts, cellAt, within};
-ghost use Rattle.lookup.specs.Lookup.{spelt, spelledAs, isNamed, claimsName, foundOf};
+ghost use lib.ListN.{length, getD};
+ghost use Rattle.lookup.specs.Lookup.{isNamed, claimsName, foundOf};
+ghost use Rattle.lookup.specs.Structs.{noItem, claimsBy, wordsOf};
+
+// One record of the item table.
+#[repr(C)]
+pub struct Item {
+    pub class: u64,
+    pub first: u64,
+    pub count: u64,
+    pub name: u64,
+    pub state: u64,
+    pub kind: u64,
+    pub low: u64,
+    pub high: u64,
+}
 
 pub enum Found {
     At(usize),
     Nothing,
 }
 
-fn counted(basic: bool, b: u8) -> u8
-    ensures { λ r. ⌜ r ≡ counts basic b ⌝ }
-{
-    if basic {
-        return classes::lower_case(b);
-    }
-    b
-}
-
-fn same(basic: bool, a: &[u8], b: &[u8]) -> bool
-    ensures { λ r. ⌜ r ≡ spelt basic (now (a .entry)) (now (b .entry)) ⌝ }
-{
-    if a.len() != b.len() {
-        return false;
-    }
-    let mut i: usize = 0;
-    while i < a.len() {
-        let x = counted(basic, a[i]);
-        let y = counted(basic, b[i]);
-        if x != y {
-            return false;
-        }
-        i += 1;
-    }
-    true
-}
-
-// Word j of element e's row, 0 where there is no such row.
-fn cell(elements: &[u64], e: usize, j: usize) -> u64
-    requires { ⌜ j < 3 ⌝ }
-    ensures { λ r. ⌜ r ≡ cellAt (now (elements .entry)) e j ⌝ }
-{
-    if e < elements.len() / 3 {
-        return elements[3 * e + j];
-    }
-    0
-}
-
-fn spelled(basic: bool, text: &[u8], elements: &[u64], e: usize, name: &[u8]) -> bool
-    ensures { λ r. ⌜ r ≡ spelledAs basic (now (text .entry)) (now (elements .entry)) e (now (name .entry)) ⌝ }
-{
-    let first = cell(elements, e, 1) as usize;
-    let n = cell(elements, e, 2) as usize;
-    if text.len() < first {
-        return false;
-    }
-    if text.len() - first < n {
-        return false;
-    }
-    let end = first + n;
-    same(basic, &text[first..end], name)
-}
-
 fn named(text: &[u8], elements: &[u64], e: usize, name: &[u8]) -> bool
     ensures { λ r. ⌜ r ≡ isNamed (now (text .entry)) (now (elements .entry)) e (now (name .entry)) ⌝ }
 {
-    let k = cell(elements, e, 0);
+    let k = alike::kind_of(elements, e);
     if k == 1 {
-        return spelled(true, text, elements, e, name);
+        return alike::spelled_as(true, text, elements, e, name);
     }
     if k == 2 {
-        return spelled(false, text, elements, e, name);
+        return alike::spelled_as(false, text, elements, e, name);
     }
     false
 }
@@ -95,6 +56,43 @@ pub fn lookup(text: &[u8], elements: &[u64], name: &[u8], items: &[u64]) -> Foun
             return Found::At(i);
         }
         i += 1;
+    }
+    Found::Nothing
+}
+
+// The record at i: the one function that reads a lent struct.
+fn item_at(items: &[Item], i: usize) -> Item
+    requires { ⌜ i < length (now items) ⌝ }
+    ensures { λ r. ⌜ r ≡ getD (now (items .entry)) i noItem ⌝ }
+{
+    items[i]
+}
+
+fn claims_by<'a>(text: &'a [u8], elements: &'a [u64], name: &'a [u8], item: Item) -> bool
+    ensures { λ r. ⌜ r ≡ claimsBy (now (text .entry)) (now (elements .entry)) (now (name .entry)) item ⌝ }
+{
+    if records::is_claim(item.class) {
+        return named(text, elements, item.name as usize, name);
+    }
+    false
+}
+
+// The same over item structs: the answer is the one on their words.
+pub fn lookup_items<'a>(
+    text: &'a [u8],
+    elements: &'a [u64],
+    name: &'a [u8],
+    items: &'a [Item],
+) -> Found
+    ensures { λ r. ⌜ r ≡ foundOf (now (text .entry)) (now (elements .entry)) (now (name .entry)) (wordsOf (now (items .entry))) ⌝ }
+{
+    let mut k: usize = 0;
+    while k < items.len() {
+        let item = item_at(items, k);
+        if claims_by(text, elements, name, item) {
+            return Found::At(k);
+        }
+        k += 1;
     }
     Found::Nothing
 }

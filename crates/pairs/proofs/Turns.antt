@@ -1,24 +1,15 @@
--- The first pair, a turn of each loop at a time: records i to n - 1 are left to the outer loop, j to n - 1 to the inner one. Assumes nothing.
+-- The first pair, a turn of each loop at a time: pieces i to n - 1 are left to the outer loop, j to n - 1 to the inner one. Assumes nothing.
 use mathlib.Core.Path.{_≡_, sym, ap}
-use mathlib.Core.Bool.{Bool, true, false, _&&_}
+use mathlib.Core.Bool.{Bool, true, false, not, _&&_}
 use mathlib.Core.List.{List}
-use Prim.Native.Nat.{ℕ, suc, _+_, _-_, _≤_, _<_}
+use Prim.Native.Nat.{ℕ, suc, _+_, _-_, _≤_, _<_, min}
 use native.Mathlib.Numerals.{add-one}
 use native.Mathlib.Omega.{arith}
-use Rattle.alike.specs.Alike.{sameName}
-use Rattle.records.specs.Records.{wordAt, isClaim}
-use Rattle.pairs.specs.Pairs.{share, laterOf, pairFrom, pairOf}
+use lib.Dec.{eqb}
+use lib.ListN.{length, getD}
+use Rattle.pairs.specs.Pairs.{sameNumber, laterOf, pairFrom, pairOf}
 use Rattle.pairs.specs.declared.Pair.{Pair}
 use Rattle.pairs.specs.declared.Pair.the-variants.{Both, Neither}
-
-module _ (text elements items : List ℕ) (i j p q : ℕ) (x y : Bool) (a : p ≡ wordAt items i 0) (b : q ≡ wordAt items j 0) (u : x ≡ isClaim p) (v : y ≡ isClaim q) where
-  pub share-not : (x && y) ≡ false → false ≡ share text elements items i j
-  unfolding share
-  share-not h = rw (← a, ← b, ← u, ← v, h)
-
-  pub share-names : (m n : ℕ) (r : Bool) → (x && y) ≡ true → m ≡ wordAt items i 3 → n ≡ wordAt items j 3 → r ≡ sameName text elements m n → r ≡ share text elements items i j
-  unfolding share
-  share-names m n r h c d e = rw (← a, ← b, ← u, ← v, h, ← c, ← d) e
 
 left : (n i : ℕ) → i < n → n - i ≡ suc (n - (i + 1))
 left n i h = omega arith
@@ -45,6 +36,10 @@ module _ (s : ℕ → ℕ → Bool) (n i : ℕ) where
     unfolding laterOf
     inner-miss h e = rw (left n j h, e, laterOf) (ap (λ (k : ℕ). laterOf s i k (n - (j + 1)) other) (sym (add-one j)))
 
-pub pairs-start : (text elements items : List ℕ) (n : ℕ) → pairOf text elements items n ≡ pairFrom (share text elements items) 0 (n - 0)
+pub number-told : (owns : List ℕ) (i j own : ℕ) (t : Bool) → own ≡ getD owns i 0 → (not (eqb own 0) && eqb own (getD owns j 0)) ≡ t → sameNumber owns i j ≡ t
+unfolding sameNumber
+number-told owns i j own t e h = rw (← e) h
+
+pub pairs-start : (owns : List ℕ) (n end : ℕ) → end ≡ min n (length owns) → pairOf owns n ≡ pairFrom (sameNumber owns) 0 (end - 0)
 unfolding pairOf
-pairs-start text elements items n = let e : n - 0 ≡ n = omega arith in rw e
+pairs-start owns n end h = let e : end - 0 ≡ min n (length owns) = omega arith in rw e

@@ -1,16 +1,16 @@
--- "the first pair of own items that share a name: smallest earlier piece, then smallest later". Assumes nothing.
-use Prim.Native.Nat.{ℕ, zero, suc, _-_}
-use mathlib.Core.Bool.{Bool, true, false, _&&_}
+-- "the first pair of own items that share a name: smallest earlier piece, then smallest later". Each piece has a number, its name's, or 0
+-- for none, so that two share a name where their numbers are equal and not 0. Assumes nothing.
+use Prim.Native.Nat.{ℕ, zero, suc, min}
+use mathlib.Core.Bool.{Bool, true, false, not, _&&_}
 use mathlib.Core.List.{List}
-use Rattle.alike.specs.Alike.{sameName}
-use Rattle.records.specs.Records.{wordAt, isClaim}
+use lib.Dec.{eqb}
+use lib.ListN.{length, getD}
 use Rattle.pairs.specs.declared.Pair.{Pair}
 use Rattle.pairs.specs.declared.Pair.the-variants.{Both, Neither}
 
--- records i and j claim one name, broken or not
-unfoldable pub share : List ℕ → List ℕ → List ℕ → ℕ → ℕ → Bool
-share text elements items i j =
-    (isClaim (wordAt items i 0) && isClaim (wordAt items j 0)) && sameName text elements (wordAt items i 3) (wordAt items j 3)
+-- pieces i and j have one number, and it is not 0
+unfoldable pub sameNumber : List ℕ → ℕ → ℕ → Bool
+sameNumber owns i j = not (eqb (getD owns i 0) 0) && eqb (getD owns i 0) (getD owns j 0)
 
 -- the smallest later piece that goes with piece i, of m from the j-th on; else `other`
 unfoldable pub laterOf : (ℕ → ℕ → Bool) → ℕ → ℕ → ℕ → Pair → Pair
@@ -22,6 +22,6 @@ unfoldable pub pairFrom : (ℕ → ℕ → Bool) → ℕ → ℕ → Pair
 pairFrom s i zero = Neither
 pairFrom s i (suc m) = laterOf s i (suc i) m (pairFrom s (suc i) m)
 
--- the first pair of n records
-unfoldable pub pairOf : List ℕ → List ℕ → List ℕ → ℕ → Pair
-pairOf text elements items n = pairFrom (share text elements items) 0 n
+-- the first pair of n pieces that the table has
+unfoldable pub pairOf : List ℕ → ℕ → Pair
+pairOf owns n = pairFrom (sameNumber owns) 0 (min n (length owns))

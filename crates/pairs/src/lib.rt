@@ -1,43 +1,38 @@
-// The first pair of own items that share a name. Every public function takes any tables.
+// The first pair of own items that share a name, from a number for each name. Every public function takes any table.
 ghost use mathlib.Core.Path.{_≡_};
-ghost use Prim.Native.Nat.{ℕ, _-_};
-ghost use Rattle.pairs.specs.Pairs.{share, pairOf};
+ghost use Prim.Native.Nat.{min};
+ghost use Rattle.pairs.specs.Pairs.{pairOf};
 
 pub enum Pair {
     Both(usize, usize),
     Neither,
 }
 
-fn shares(text: &[u8], elements: &[u64], items: &[u64], i: usize, j: usize) -> bool
-    ensures { λ r. ⌜ r ≡ share (now (text .entry)) (now (elements .entry)) (now (items .entry)) i j ⌝ }
+fn least(a: usize, b: usize) -> usize
+    ensures { λ r. ⌜ r ≡ min a b ⌝ }
 {
-    let x = records::is_claim(records::word(items, i, 0));
-    let y = records::is_claim(records::word(items, j, 0));
-    if x & y {
-        let a = records::word(items, i, 3);
-        let b = records::word(items, j, 3);
-        return alike::same_name(text, elements, a as usize, b as usize);
-    }
-    false
+    if a < b { a } else { b }
 }
 
-// Of the first n records: smallest earlier piece, then smallest later.
-pub fn first_pair(text: &[u8], elements: &[u64], items: &[u64], n: usize) -> Pair
-    ensures { λ r. ⌜ r ≡ pairOf (now (text .entry)) (now (elements .entry)) (now (items .entry)) n ⌝ }
+// Of the first n pieces, each with its name's number, 0 for none: smallest earlier piece, then smallest later.
+pub fn first_pair(owns: &[u64], n: usize) -> Pair
+    ensures { λ r. ⌜ r ≡ pairOf (now (owns .entry)) n ⌝ }
 {
+    let end = least(n, owns.len());
     let mut i: usize = 0;
     let mut j: usize = 0;
-    'pairs: while i < n {
+    'pairs: while i < end {
+        let own = owns[i];
         j = i + 1;
-        while j < n {
-            if shares(text, elements, items, i, j) {
+        while j < end {
+            if (own != 0) & (own == owns[j]) {
                 break 'pairs;
             }
             j += 1;
         }
         i += 1;
     }
-    if i < n {
+    if i < end {
         return Pair::Both(i, j);
     }
     Pair::Neither

@@ -1,0 +1,9 @@
+pub mod Firsts
+pub mod Tables
+pub mod Hashing
+pub mod Chaining
+pub mod Owning
+pub mod Twins
+pub mod Whole
+pub mod Speaking
+pub mod Promises

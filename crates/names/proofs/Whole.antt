@@ -1,0 +1,46 @@
+-- The tables whole, from what each step wrote. Assumes nothing.
+use mathlib.Core.Path.{_≡_, ap, _∙_, subst}
+use mathlib.Core.Bool.{Bool}
+use mathlib.Core.List.{List}
+use Prim.Native.Nat.{ℕ, _/_, _≤_, _<_, min}
+use native.Mathlib.Omega.{arith}
+use lib.ListN.{length, getD}
+use Rattle.records.specs.Tallies.{oneIf}
+use Rattle.names.specs.Names.{recordsIn, linkOf, ownOf, twinOf, anyTwin, filled, linksTable, ownsTable, twinsTable}
+use Rattle.names.specs.Chains.{Chained, First, Marking}
+use Rattle.names.proofs.Tables.{filled-same}
+use Rattle.names.proofs.Twins.{owns-first, marks-twins, marks-any}
+
+pub links-whole : (text table items t : List ℕ) (count rows m : ℕ) → rows ≡ min count (length table / 3) → t ≡ filled (linkOf text table items) rows m → t ≡ linksTable text table count items m
+unfolding linksTable
+links-whole text table items t count rows m e h = h ∙ ap (λ (r : ℕ). filled (linkOf text table items) r m) e
+
+module _ (items : List ℕ) (n : ℕ) (e : n ≡ min (length items / 8) 1024) where
+  pub records-all : n ≡ recordsIn items
+  unfolding recordsIn
+  records-all = e
+
+  pub records-most : n ≤ 1024
+  records-most = omega arith
+
+  pub chained-all : (p : ℕ → ℕ → Bool) (heads next : List ℕ) → Chained p n 0 heads next → Chained p (recordsIn items) 0 heads next
+  chained-all p heads next h = subst (λ (k : ℕ). Chained p k 0 heads next) records-all h
+
+  module _ (text table own : List ℕ) (owned : (i : ℕ) → i < n → getD own i 0 ≡ ownOf text table items i) where
+    pub owns-firsts : First own n
+    owns-firsts = owns-first text table items own n records-all owned
+
+    pub owns-whole : (t : List ℕ) (m : ℕ) → t ≡ filled (λ (k : ℕ). getD own k 0) n m → t ≡ ownsTable text table items m
+    unfolding ownsTable
+    owns-whole t m h =
+        h ∙ filled-same (λ (k : ℕ). getD own k 0) (ownOf text table items) n m owned ∙ ap (λ (k : ℕ). filled (ownOf text table items) k m) records-all
+
+    module _ (marks : List ℕ) (any : Bool) (marked : Marking own n n marks any) where
+      pub answer-whole : any ≡ anyTwin text table items
+      answer-whole = marks-any text table items own n records-all owned marks any marked
+
+      pub twins-whole : (t : List ℕ) (m : ℕ) → t ≡ filled (λ (k : ℕ). getD marks k 0) n m → t ≡ twinsTable text table items m
+      unfolding twinsTable
+      twins-whole t m h =
+          h ∙ filled-same (λ (k : ℕ). getD marks k 0) (λ (k : ℕ). oneIf (twinOf text table items k)) n m (marks-twins text table items own n records-all owned marks any marked)
+          ∙ ap (λ (k : ℕ). filled (λ (k : ℕ). oneIf (twinOf text table items k)) k m) records-all

@@ -1,0 +1,40 @@
+-- A name in the text has its hash's chain; any other the first. Assumes nothing.
+use Rattle.names.specs.Chains.{chainOf}
+use Rattle.names.proofs.Hashing.{bucket-out, bucket-in, stands-in, chain-low}
+use borrow.Author.Needs.{needs}
+use Rattle.names.proofs.bucket.Statement.{statement}
+use Rattle.names.proofs.bucket.Tie as tie
+
+first-of-requires : tie.Need-first-of-requires
+first-of-requires c κs = search needs
+
+size-of-requires : tie.Need-size-of-requires
+size-of-requires c κs = search needs
+
+stands-requires : tie.Need-stands-requires
+stands-requires c κs = search needs
+
+kind-of-requires : tie.Need-kind-of-requires
+kind-of-requires c κs = search needs
+
+hashed-requires : tie.Need-hashed-requires
+hashed-requires c κs = stands-in (c .before .before .before .before .before .before .before .args .text .now) _ _ _ (c .before .before .stands .ensures) (c .before .if1 .taken)
+
+returns : tie.Need-returns
+unfolding chainOf
+returns c = (bucket-in _ _ _ _ _ _ (c .before .before .before .before .before .first-of .ensures) (c .before .before .before .before .size-of .ensures) (c .before .before .before .stands .ensures) _ _ (c .before .before .if1 .taken) (c .before .kind-of .ensures) (c .hashed .ensures .0), chain-low _ (c .hashed .ensures .1))
+
+returns-2 : tie.Need-returns-2
+returns-2 c = (search bucket-out, search needs)
+
+pub bucket-spec : {M : Type 1} → statement M
+bucket-spec =
+    tie.close
+    (tie.spec
+    first-of-requires
+    size-of-requires
+    stands-requires
+    kind-of-requires
+    hashed-requires
+    returns
+    returns-2)

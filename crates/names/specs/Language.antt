@@ -1,0 +1,42 @@
+-- "The names integer, natural, positive, boolean, true, false are claimed by the language already." Assumes nothing.
+use Prim.Native.Nat.{ℕ, suc}
+use mathlib.Core.Bool.{Bool, true, cond}
+use mathlib.Core.List.{List, [], _∷_}
+use lib.Dec.{eqb}
+use Rattle.alike.specs.Alike.{cellAt}
+use Rattle.alike.specs.Spelling.{spelledAs}
+
+-- the six names, in bytes
+abbrev pub integerName : List ℕ
+integerName = 105 ∷ 110 ∷ 116 ∷ 101 ∷ 103 ∷ 101 ∷ 114 ∷ []
+
+abbrev pub naturalName : List ℕ
+naturalName = 110 ∷ 97 ∷ 116 ∷ 117 ∷ 114 ∷ 97 ∷ 108 ∷ []
+
+abbrev pub positiveName : List ℕ
+positiveName = 112 ∷ 111 ∷ 115 ∷ 105 ∷ 116 ∷ 105 ∷ 118 ∷ 101 ∷ []
+
+abbrev pub booleanName : List ℕ
+booleanName = 98 ∷ 111 ∷ 111 ∷ 108 ∷ 101 ∷ 97 ∷ 110 ∷ []
+
+abbrev pub trueName : List ℕ
+trueName = 116 ∷ 114 ∷ 117 ∷ 101 ∷ []
+
+abbrev pub falseName : List ℕ
+falseName = 102 ∷ 97 ∷ 108 ∷ 115 ∷ 101 ∷ []
+
+abbrev pub languageNames : List (List ℕ)
+languageNames = integerName ∷ naturalName ∷ positiveName ∷ booleanName ∷ trueName ∷ falseName ∷ []
+
+-- the number of the first of the names that passes, counted from k; 0 where none does
+abbrev pub numberOf : (List ℕ → Bool) → ℕ → List (List ℕ) → ℕ
+numberOf p k [] = 0
+numberOf p k (w ∷ ws) = cond (p w) k (numberOf p (suc k) ws)
+
+-- 1 to 6 for a language's name, a basic identifier, case aside; 0 for any other element
+unfoldable pub languageOf : List ℕ → List ℕ → ℕ → ℕ
+languageOf text table e = cond (eqb (cellAt table e 0) 1) (numberOf (spelledAs true text table e) 1 languageNames) 0
+
+-- the number of a name of seven letters
+abbrev pub sevenOf : (List ℕ → Bool) → ℕ
+sevenOf p = cond (p integerName) 1 (cond (p naturalName) 2 (cond (p booleanName) 4 0))

@@ -1,0 +1,290 @@
+// Names resolved: each name used, to the first record that claims it. Names are hashed and chained once, so that a search compares few.
+// Every public function takes any text and tables.
+ghost use mathlib.Core.Path.{_≡_};
+ghost use mathlib.Core.Bool.{true, cond};
+ghost use Prim.Native.Nat.{ℕ, _+_, _≤_, _<_, min};
+ghost use lib.ListN.{length, getD, replicate};
+ghost use Rattle.alike.specs.Spelling.{spelledAs};
+ghost use Rattle.names.specs.Names.{recordsIn, linkOf, ownOf, below, filled, linksTable, ownsTable, twinsTable, anyTwin};
+ghost use Rattle.names.specs.Language.{sevenOf, languageOf};
+ghost use Rattle.names.specs.Chains.{mixedWith, hashFrom, bucketOf, inBucket, Chained, First, Marking};
+
+fn least(a: usize, b: usize) -> usize
+    ensures { λ r. ⌜ r ≡ min a b ⌝ }
+{
+    if a < b { a } else { b }
+}
+
+fn mixed(h: u64, b: u8) -> u64
+    requires { ⌜ h < 4294967296 ⌝ }
+    ensures { λ r. ⌜ (r ≡ mixedWith h b) × (r < 4294967296) ⌝ }
+{
+    (h + (b as u64)) * 2654435761 % 4294967296
+}
+
+fn hashed(text: &[u8], from: usize, n: usize, basic: bool) -> u64
+    requires { ⌜ from + n ≤ length (now text) ⌝ }
+    ensures { λ r. ⌜ (r ≡ hashFrom basic (now (text .entry)) from n 0) × (r < 4294967296) ⌝ }
+{
+    let mut h: u64 = 0;
+    let mut i: usize = 0;
+    while i < n {
+        h = mixed(h, alike::counted(basic, text[from + i]));
+        i += 1;
+    }
+    h
+}
+
+// Which chain element e's name is of.
+fn bucket(text: &[u8], elements: &[u64], e: usize) -> usize
+    ensures { λ r. ⌜ (r ≡ bucketOf (now (text .entry)) (now (elements .entry)) e) × (r < 1024) ⌝ }
+{
+    let first = alike::first_of(elements, e);
+    let n = alike::size_of(elements, e);
+    if alike::stands(text, first, n) {
+        let kind = alike::kind_of(elements, e);
+        let h = hashed(text, first as usize, n as usize, kind == 1);
+        return (h / 4194304) as usize;
+    }
+    0
+}
+
+// The chains of the first n records, from the last to the first.
+fn chain_names(
+    text: &[u8],
+    elements: &[u64],
+    items: &[u64],
+    n: usize,
+    heads: &mut [u64; 1024],
+    next: &mut [u64; 1024],
+)
+    requires { ⌜ (n ≤ 1024) × (now heads ≡ replicate 1024 0) × (now next ≡ replicate 1024 0) ⌝ }
+    ensures { λ _. ⌜ Chained (inBucket (now (text .entry)) (now (elements .entry)) (now (items .entry))) n 0 (now (heads .exit)) (now (next .exit)) ⌝ }
+{
+    let mut i = n;
+    while 0 < i {
+        i -= 1;
+        if records::is_claim(records::word(items, i, 0)) {
+            let b = bucket(text, elements, records::word(items, i, 3) as usize);
+            next[i] = heads[b];
+            heads[b] = (i + 1) as u64;
+        }
+    }
+}
+
+// The first record that claims element e's name, and one more; 0 where none does.
+fn find(
+    text: &[u8],
+    elements: &[u64],
+    items: &[u64],
+    heads: &[u64; 1024],
+    next: &[u64; 1024],
+    e: usize,
+) -> u64
+    requires { ⌜ Chained (inBucket (now text) (now elements) (now items)) (recordsIn (now items)) 0 (now heads) (now next) ⌝ }
+    ensures { λ r. ⌜ r ≡ linkOf (now (text .entry)) (now (elements .entry)) (now (items .entry)) e ⌝ }
+{
+    let kind = alike::kind_of(elements, e);
+    if (kind != 1) & (kind != 2) {
+        return 0;
+    }
+    let mut h = heads[bucket(text, elements, e)];
+    while h != 0 {
+        let j = (h - 1) as usize;
+        if alike::same_name(text, elements, records::word(items, j, 3) as usize, e) {
+            return h;
+        }
+        h = next[j];
+    }
+    0
+}
+
+fn link_at(
+    text: &[u8],
+    elements: &[u64],
+    items: &[u64],
+    rows: usize,
+    heads: &[u64; 1024],
+    next: &[u64; 1024],
+    e: usize,
+) -> u64
+    requires { ⌜ Chained (inBucket (now text) (now elements) (now items)) (recordsIn (now items)) 0 (now heads) (now next) ⌝ }
+    ensures { λ r. ⌜ r ≡ below (linkOf (now (text .entry)) (now (elements .entry)) (now (items .entry))) rows e ⌝ }
+{
+    if e < rows {
+        return find(text, elements, items, heads, next, e);
+    }
+    0
+}
+
+fn write_links(
+    text: &[u8],
+    elements: &[u64],
+    items: &[u64],
+    rows: usize,
+    heads: &[u64; 1024],
+    next: &[u64; 1024],
+    links: &mut [u64],
+)
+    requires { ⌜ Chained (inBucket (now text) (now elements) (now items)) (recordsIn (now items)) 0 (now heads) (now next) ⌝ }
+    ensures { λ _. ⌜ now (links .exit) ≡ filled (linkOf (now (text .entry)) (now (elements .entry)) (now (items .entry))) rows (length (now (links .entry))) ⌝ }
+{
+    let mut e: usize = 0;
+    while e < links.len() {
+        links[e] = link_at(text, elements, items, rows, heads, next, e);
+        e += 1;
+    }
+}
+
+fn own_link(
+    text: &[u8],
+    elements: &[u64],
+    items: &[u64],
+    heads: &[u64; 1024],
+    next: &[u64; 1024],
+    i: usize,
+) -> u64
+    requires { ⌜ Chained (inBucket (now text) (now elements) (now items)) (recordsIn (now items)) 0 (now heads) (now next) ⌝ }
+    ensures { λ r. ⌜ r ≡ ownOf (now (text .entry)) (now (elements .entry)) (now (items .entry)) i ⌝ }
+{
+    if records::is_claim(records::word(items, i, 0)) {
+        return find(
+            text,
+            elements,
+            items,
+            heads,
+            next,
+            records::word(items, i, 3) as usize,
+        );
+    }
+    0
+}
+
+fn own_links(
+    text: &[u8],
+    elements: &[u64],
+    items: &[u64],
+    n: usize,
+    heads: &[u64; 1024],
+    next: &[u64; 1024],
+    own: &mut [u64; 1024],
+)
+    requires { ⌜ (n ≤ 1024) × Chained (inBucket (now text) (now elements) (now items)) (recordsIn (now items)) 0 (now heads) (now next) × (now own ≡ replicate 1024 0) ⌝ }
+    ensures { λ _. ⌜ ((i : ℕ) → i < n → getD (now (own .exit)) i 0 ≡ ownOf (now (text .entry)) (now (elements .entry)) (now (items .entry)) i) ⌝ }
+{
+    let mut i: usize = 0;
+    while i < n {
+        own[i] = own_link(text, elements, items, heads, next, i);
+        i += 1;
+    }
+}
+
+// A record that is not the first to claim its name, and that first: each has a twin.
+fn mark_twins(own: &[u64; 1024], n: usize, marks: &mut [u64; 1024]) -> bool
+    requires { ⌜ (n ≤ 1024) × First (now own) n × (now marks ≡ replicate 1024 0) ⌝ }
+    ensures { λ r. ⌜ Marking (now (own .entry)) n n (now (marks .exit)) r ⌝ }
+{
+    let mut any = false;
+    let mut i: usize = 0;
+    while i < n {
+        let f = own[i];
+        if (f != 0) & (f != (i as u64) + 1) {
+            marks[i] = 1;
+            marks[(f - 1) as usize] = 1;
+            any = true;
+        }
+        i += 1;
+    }
+    any
+}
+
+fn word_at(from: &[u64; 1024], n: usize, i: usize) -> u64
+    requires { ⌜ n ≤ 1024 ⌝ }
+    ensures { λ r. ⌜ r ≡ below (λ (k : ℕ). getD (now (from .entry)) k 0) n i ⌝ }
+{
+    if i < n { from[i] } else { 0 }
+}
+
+// The first n words, then zeros.
+fn write_words(from: &[u64; 1024], n: usize, to: &mut [u64])
+    requires { ⌜ n ≤ 1024 ⌝ }
+    ensures { λ _. ⌜ now (to .exit) ≡ filled (λ (k : ℕ). getD (now (from .entry)) k 0) n (length (now (to .entry))) ⌝ }
+{
+    let mut i: usize = 0;
+    while i < to.len() {
+        to[i] = word_at(from, n, i);
+        i += 1;
+    }
+}
+
+// For each element, the first record that claims its name and one more, 0 where none does or it is no name; for each record the same of
+// its own name, 0 where it claims none; for each record 1 where another claims its name too. Whether any name is claimed twice.
+pub fn link_names(
+    text: &[u8],
+    elements: &[u64],
+    count: usize,
+    items: &[u64],
+    links: &mut [u64],
+    owns: &mut [u64],
+    twins: &mut [u64],
+) -> bool
+    ensures { λ r. ⌜ r ≡ anyTwin (now (text .entry)) (now (elements .entry)) (now (items .entry)) ⌝ }
+    ensures { λ _. ⌜ now (links .exit) ≡ linksTable (now (text .entry)) (now (elements .entry)) count (now (items .entry)) (length (now (links .entry))) ⌝ }
+    ensures { λ _. ⌜ now (owns .exit) ≡ ownsTable (now (text .entry)) (now (elements .entry)) (now (items .entry)) (length (now (owns .entry))) ⌝ }
+    ensures { λ _. ⌜ now (twins .exit) ≡ twinsTable (now (text .entry)) (now (elements .entry)) (now (items .entry)) (length (now (twins .entry))) ⌝ }
+{
+    let n = least(items.len() / 8, 1024);
+    let mut heads = [0u64; 1024];
+    let mut next = [0u64; 1024];
+    chain_names(text, elements, items, n, &mut heads, &mut next);
+    let rows = least(count, elements.len() / 3);
+    write_links(text, elements, items, rows, &heads, &next, links);
+    let mut own = [0u64; 1024];
+    own_links(text, elements, items, n, &heads, &next, &mut own);
+    let mut marks = [0u64; 1024];
+    let any = mark_twins(&own, n, &mut marks);
+    write_words(&own, n, owns);
+    write_words(&marks, n, twins);
+    any
+}
+
+// The number, where element e is spelled as the name; else 0.
+fn told(text: &[u8], elements: &[u64], e: usize, name: &[u8], number: u64) -> u64
+    ensures { λ r. ⌜ r ≡ cond (spelledAs true (now (text .entry)) (now (elements .entry)) e (now (name .entry))) number 0 ⌝ }
+{
+    if alike::spelled_as(true, text, elements, e, name) {
+        number
+    } else {
+        0
+    }
+}
+
+// The names of seven letters.
+fn seven(text: &[u8], elements: &[u64], e: usize) -> u64
+    ensures { λ r. ⌜ r ≡ sevenOf (spelledAs true (now (text .entry)) (now (elements .entry)) e) ⌝ }
+{
+    if alike::spelled_as(true, text, elements, e, b"integer") {
+        return 1;
+    }
+    if alike::spelled_as(true, text, elements, e, b"natural") {
+        return 2;
+    }
+    told(text, elements, e, b"boolean", 4)
+}
+
+// 1 to 6 for the language's names integer, natural, positive, boolean, true, false; 0 for any other element.
+pub fn language(text: &[u8], elements: &[u64], e: usize) -> u64
+    ensures { λ r. ⌜ r ≡ languageOf (now (text .entry)) (now (elements .entry)) e ⌝ }
+{
+    if alike::kind_of(elements, e) != 1 {
+        return 0;
+    }
+    let size = alike::size_of(elements, e);
+    match size {
+        4 => told(text, elements, e, b"true", 5),
+        5 => told(text, elements, e, b"false", 6),
+        7 => seven(text, elements, e),
+        8 => told(text, elements, e, b"positive", 3),
+        _ => 0,
+    }
+}
