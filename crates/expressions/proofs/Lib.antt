@@ -1,3 +1,4 @@
 pub mod Walking
 pub mod Edges
 pub mod Sorts
+pub mod Literal

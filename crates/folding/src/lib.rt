@@ -163,7 +163,7 @@ fn beside_truth(op: Operator, t: bool, y: Folded) -> Folded
 }
 
 // A binary operator on two folded operands.
-pub fn binary(op: Operator, x: Folded, y: Folded) -> Folded
+fn binary(op: Operator, x: Folded, y: Folded) -> Folded
     ensures { λ r. ⌜ r ≡ binaryOf op x y ⌝ }
 {
     match x {
@@ -196,7 +196,7 @@ fn sign_truth(op: Sign, t: bool) -> Folded
 }
 
 // A sign, `abs` or `not` on a folded operand.
-pub fn unary(op: Sign, x: Folded) -> Folded
+fn unary(op: Sign, x: Folded) -> Folded
     ensures { λ r. ⌜ r ≡ unaryOf op x ⌝ }
 {
     match x {
@@ -276,7 +276,7 @@ fn sort_beside_wrong(op: Operator, s: u8, y: Sort) -> Sort
     }
 }
 
-fn sorted(op: Operator, x: Sort, y: Sort) -> Sort
+pub fn sorted(op: Operator, x: Sort, y: Sort) -> Sort
     ensures { λ r. ⌜ r ≡ sortOf op x y ⌝ }
 {
     match x {

@@ -1,0 +1,245 @@
+-- The turns of the walk from the last row to the first, in the code's terms: each premise is what a call or a test gives. Assumes nothing.
+use mathlib.Core.Path.{_≡_, refl, sym, ap, ap₂, _∙_}
+use mathlib.Core.Bool.{Bool, true, false}
+use mathlib.Core.List.{List, [], _∷_}
+use Prim.Native.Nat.{ℕ, zero, suc, _+_, _-_, _*_, _/_, _≤_, _<_, min}
+use native.Mathlib.Omega.{arith}
+use native.Mathlib.Numerals.{add-one}
+use borrow.Author.Tests.{eq-eqb, ne-eqb, eqb-true, eqb-false, lt-ltb, le-ltb, ltb-true, ltb-false}
+use lib.Dec.{eqb, ltb}
+use lib.ListN.{length, getD, drop, set, drop-of-length-le, length-set}
+use lib.Seq.{drop-drop, getD-set-same, getD-set-other}
+use Rattle.alike.specs.Alike.{cellAt}
+use Rattle.records.specs.Records.{wordAt}
+use Rattle.forms.specs.Tree.{Row}
+use Rattle.integers.specs.declared.Folded.{Folded}
+use Rattle.folding.specs.declared.Sort.{Sort}
+use Rattle.folding.specs.declared.Sign.{Sign}
+use Rattle.folding.specs.declared.Operator.{Operator}
+use Rattle.folding.specs.declared.Outcome.{Outcome}
+use Rattle.folding.specs.Outcomes.{combinedOf, signedOf}
+use Rattle.expressions.specs.Leaves.{wrongLeaf}
+use Rattle.operands.specs.Operands.{operatorOf, signOf, literalIn}
+use Rattle.values.specs.Values.{operandOf}
+use Rattle.values.specs.declared.Value.{Value}
+use Rattle.uses.specs.Uses.{useIn}
+use Rattle.folds.specs.Expressions.{behind, rowOutcome, outcomeOf}
+use Rattle.folds.specs.Rows.{rowsIn, rowAt}
+use Rattle.folds.specs.Stored.{sortBy, foldedKind, foldedBy, unpacked, storedAt}
+use Rattle.folds.specs.Folds.{elementIn, nameValue, nameIn, literalAt, kindIn, expressionIn, foldedRow, rightOf, foldOf, mostRows}
+use Rattle.folds.proofs.Expressions.{outcome-row, outcome-none}
+use Rattle.folds.proofs.Rows.{rows-length, rows-from}
+
+-- where an element of the piece stands
+module _ (table items : List ℕ) (i j from count : ℕ) (p : from ≡ wordAt items i 1) (q : count ≡ wordAt items i 2) where
+  none : min count (length table / 3 - from) ≤ j → length table / 3 ≡ elementIn table items i j
+  unfolding elementIn
+  none h = rw (← p, ← q, le-ltb j (min count (length table / 3 - from)) h)
+
+  pub outside-table : length table / 3 ≤ from → length table / 3 ≡ elementIn table items i j
+  outside-table h = none (omega arith)
+
+  pub past-table : length table / 3 - from ≤ j → length table / 3 ≡ elementIn table items i j
+  past-table h = none (omega arith)
+
+  pub past-piece : count ≤ j → length table / 3 ≡ elementIn table items i j
+  past-piece h = none (omega arith)
+
+  pub in-piece : j < length table / 3 - from → j < count → from + j ≡ elementIn table items i j
+  unfolding elementIn
+  in-piece h k = rw (← p, ← q, lt-ltb j (min count (length table / 3 - from)) (omega arith))
+
+module _ (text table items links : List ℕ) (i j e : ℕ) (p : e ≡ elementIn table items i j) where
+  pub value-there : (v : Value) → v ≡ useIn text table items links i e → v ≡ nameValue text table items links i j
+  unfolding nameValue
+  value-there v h = rw (← p) h
+
+  pub literal-there : (r : Outcome) → r ≡ literalIn text table e → r ≡ literalAt text table items i j
+  unfolding literalAt
+  literal-there r z = rw (← p) z
+
+  pub kind-there : e < length table / 3 → getD table (3 * e) 0 ≡ kindIn table items i j
+  unfolding kindIn cellAt
+  kind-there h = let z : 3 * e + 0 ≡ 3 * e = omega arith in rw (← p, lt-ltb e (length table / 3) h, z)
+
+  pub kind-nowhere : length table / 3 ≤ e → _≡_ {A = ℕ} 0 (kindIn table items i j)
+  unfolding kindIn cellAt
+  kind-nowhere h = rw (← p, le-ltb e (length table / 3) h)
+
+pub name-there : (text table items links : List ℕ) (i j : ℕ) (v : Value) (r : Outcome) → v ≡ nameValue text table items links i j → r ≡ operandOf v → r ≡ nameIn text table items links i j
+unfolding nameIn
+name-there text table items links i j v r h z = rw (← h) z
+
+-- a row by its form
+module _ (text table items links rows : List ℕ) (i k : ℕ) (x y r : Outcome) where
+  abbrev Row′ : Outcome
+  Row′ = foldedRow text table items links i (rowAt rows k) x y
+
+  module _ (form : ℕ) (f : form ≡ getD rows (5 * k) 0) where
+    pub is-name : (j : ℕ) → form ≡ 24 → j ≡ getD rows (5 * k + 1) 0 → r ≡ nameIn text table items links i j → r ≡ Row′
+    unfolding rowOutcome
+    is-name j h g z = rw (← f, h, ← g) z
+
+    pub is-literal : (j : ℕ) → form ≡ 27 → j ≡ getD rows (5 * k + 1) 0 → r ≡ literalAt text table items i j → r ≡ Row′
+    unfolding rowOutcome
+    is-literal j h g z = rw (← f, h, ← g) z
+
+    pub is-sign : (j kind : ℕ) (o : Sign) → form ≡ 28 → j ≡ getD rows (5 * k + 4) 0 → kind ≡ kindIn table items i j → o ≡ signOf kind → r ≡ signedOf o x → r ≡ Row′
+    unfolding rowOutcome
+    is-sign j kind o h g m q z = rw (← f, h, ← g, ← m, ← q) z
+
+    pub is-operator : (j kind : ℕ) (o : Operator) → form ≡ 29 → j ≡ getD rows (5 * k + 4) 0 → kind ≡ kindIn table items i j → o ≡ operatorOf kind → r ≡ combinedOf o x y → r ≡ Row′
+    unfolding rowOutcome
+    is-operator j kind o h g m q z = rw (← f, h, ← g, ← m, ← q) z
+
+    pub is-other : (form ≡ 24 → ⊥) → (form ≡ 27 → ⊥) → (form ≡ 28 → ⊥) → (form ≡ 29 → ⊥) → r ≡ wrongLeaf 3 → r ≡ Row′
+    unfolding rowOutcome
+    is-other a b c d z = rw (← f, ne-eqb form 24 a, ne-eqb form 27 b, ne-eqb form 28 c, ne-eqb form 29 d) z
+
+-- an outcome stored
+module _ (outs : List ℕ) (k a b c : ℕ) (o : Outcome) (room : 3 * k + 3 ≤ length outs) where
+  abbrev stored : List ℕ
+  stored = set (set (set outs (3 * k) a) (3 * k + 1) b) (3 * k + 2) c
+
+  pub stored-here : sortBy a ≡ o .sort → b ≡ foldedKind (o .folded) → foldedBy (foldedKind (o .folded)) c ≡ o .folded → unpacked stored k ≡ o
+  unfolding unpacked
+  stored-here p q h =
+      rw (
+        getD-set-other (set (set outs (3 * k) a) (3 * k + 1) b) (3 * k + 2) (3 * k) c 0 (λ e. omega arith),
+        getD-set-other (set outs (3 * k) a) (3 * k + 1) (3 * k) b 0 (λ e. omega arith),
+        getD-set-same outs (3 * k) a 0 (omega arith),
+        getD-set-other (set (set outs (3 * k) a) (3 * k + 1) b) (3 * k + 2) (3 * k + 1) c 0 (λ e. omega arith),
+        getD-set-same (set outs (3 * k) a) (3 * k + 1) b 0 (simp length-set (omega arith)),
+        getD-set-same (set (set outs (3 * k) a) (3 * k + 1) b) (3 * k + 2) c 0 (simp length-set (omega arith)),
+        p,
+        q,
+        h,
+      )
+
+  pub stored-else : (j : ℕ) → (j ≡ k → ⊥) → unpacked stored j ≡ unpacked outs j
+  unfolding unpacked
+  stored-else j d = rw (other (3 * j) 0 (omega arith), other (3 * j + 1) 1 (omega arith), other (3 * j + 2) 2 (omega arith))
+    where
+      other : (n m : ℕ) → (n ≡ 3 * j + m) × (m < 3) → getD stored n 0 ≡ getD outs n 0
+      other n m h =
+          getD-set-other (set (set outs (3 * k) a) (3 * k + 1) b) (3 * k + 2) n c 0 (λ e. d (omega (arith, h .0, h .1)))
+          ∙ getD-set-other (set outs (3 * k) a) (3 * k + 1) n b 0 (λ e. d (omega (arith, h .0, h .1)))
+          ∙ getD-set-other outs (3 * k) n a 0 (λ e. d (omega (arith, h .0, h .1)))
+
+-- the outcome of a row past the last
+pub stored-past : (outs : List ℕ) (n k : ℕ) (r : Outcome) → n ≤ k → r ≡ wrongLeaf 3 → r ≡ storedAt outs n k
+unfolding storedAt
+stored-past outs n k r h z = rw (le-ltb k n h) z
+
+pub stored-at : (outs : List ℕ) (n k : ℕ) (s : Sort) (f : Folded) → k < n → s ≡ sortBy (getD outs (3 * k) 0) → f ≡ foldedBy (getD outs (3 * k + 1) 0) (getD outs (3 * k + 2) 0)
+    → _≡_ {A = Outcome} (record { sort = s; folded = f }) (storedAt outs n k)
+unfolding storedAt unpacked
+stored-at outs n k s f h p q = rw (lt-ltb k n h, p, q)
+
+-- where the right operand stands
+module _ (rows : List ℕ) (n k : ℕ) (l : k < n) where
+  pub right-none : n ≤ k + 1 → n ≡ rightOf rows n k
+  unfolding rightOf
+  right-none h = omega arith
+
+  module _ (size : ℕ) (p : size ≡ getD rows (5 * (k + 1) + 3) 0) where
+    pub right-past : n - (k + 1) ≤ size → n ≡ rightOf rows n k
+    unfolding rightOf
+    right-past h = rw (← p) (omega arith)
+
+    pub right-there : size < n - (k + 1) → k + 1 + size ≡ rightOf rows n k
+    unfolding rightOf
+    right-there h = rw (← p) (omega arith)
+
+module _ (text table items links : List ℕ) (i n : ℕ) (rows : List ℕ) where
+  -- the expression from row j on
+  abbrev from : ℕ → Outcome
+  from j = expressionIn text table items links i (drop j (rowsIn n rows))
+
+  -- from row k on each outcome is stored
+  abbrev pub Stored : List ℕ → ℕ → Type 0
+  Stored outs k = (j : ℕ) → k ≤ j → j < n → unpacked outs j ≡ from j
+
+  pub stored-start : (outs : List ℕ) → Stored outs n
+  stored-start outs j h l = absurd (omega arith)
+
+  -- an operand's outcome
+  pub operand : (outs : List ℕ) (k j : ℕ) (x : Outcome) → Stored outs k → k ≤ j → x ≡ storedAt outs n j → x ≡ from j
+  unfolding storedAt
+  operand outs k j x s h z = go (ltb j n) refl
+    where
+      go : (b : Bool) → ltb j n ≡ b → x ≡ from j
+      go true e = (rw e at z) ∙ s j h (ltb-true j n e)
+      go false e =
+          (rw e at z) ∙ outcome-none (nameIn text table items links i) (literalAt text table items i) (kindIn table items i)
+          ∙ ap (expressionIn text table items links i) (sym (drop-of-length-le (rowsIn n rows) {i = j} (rw (rows-length n rows) (ltb-false j n e))))
+
+  behind-right : (k : ℕ) → k < n → behind (drop (suc k) (rowsIn n rows)) ≡ drop (rightOf rows n k) (rowsIn n rows)
+  unfolding rightOf
+  behind-right k h = go (ltb (suc k) n) refl
+    where
+      nothing-left : (m : ℕ) → n ≤ m → drop m (rowsIn n rows) ≡ []
+      nothing-left m l = drop-of-length-le (rowsIn n rows) {i = m} (rw (rows-length n rows) l)
+
+      size : ℕ
+      size = getD rows (5 * (k + 1) + 3) 0
+
+      cut : (b : Bool) → ltb (suc k + size) n ≡ b → drop (suc k + size) (rowsIn n rows) ≡ drop (min n (k + 1 + size)) (rowsIn n rows)
+      cut true e =
+          let l = ltb-true (suc k + size) n e in
+          let w : suc k + size ≡ min n (k + 1 + size) = omega arith in
+          ap (λ (m : ℕ). drop m (rowsIn n rows)) w
+      cut false e =
+          let l = ltb-false (suc k + size) n e in
+          nothing-left (suc k + size) l ∙ sym (nothing-left (min n (k + 1 + size)) (omega arith))
+
+      go : (b : Bool) → ltb (suc k) n ≡ b → behind (drop (suc k) (rowsIn n rows)) ≡ drop (min n (k + 1 + size)) (rowsIn n rows)
+      go true e =
+          let z : suc k ≡ k + 1 = omega arith in
+          ap behind (rows-from n (suc k) rows (ltb-true (suc k) n e))
+          ∙ ap (drop (getD rows (5 * suc k + 3) 0)) (sym (rows-from n (suc k) rows (ltb-true (suc k) n e)))
+          ∙ drop-drop (getD rows (5 * suc k + 3) 0) (suc k) (rowsIn n rows)
+          ∙ ap (λ (m : ℕ). drop (suc k + getD rows (5 * m + 3) 0) (rowsIn n rows)) z
+          ∙ cut (ltb (suc k + size) n) refl
+      go false e =
+          let l = ltb-false (suc k) n e in
+          ap behind (nothing-left (suc k) l) ∙ sym (nothing-left (min n (k + 1 + size)) (omega arith))
+
+  -- one row: k was counted down from c
+  module _ (outs outs′ : List ℕ) (c k : ℕ) (x y o : Outcome) (s : Stored outs c) (h : 0 < c) (m : k ≡ c - 1) (l : c ≤ n)
+      (p : x ≡ storedAt outs n (k + 1)) (right : ℕ) (t : right ≡ rightOf rows n k) (q : y ≡ storedAt outs n right)
+      (z : o ≡ foldedRow text table items links i (rowAt rows k) x y)
+      (e : unpacked outs′ k ≡ o) (d : (j : ℕ) → (j ≡ k → ⊥) → unpacked outs′ j ≡ unpacked outs j) where
+    here : o ≡ from k
+    unfolding rightOf
+    here =
+        z
+        ∙ ap₂ (foldedRow text table items links i (rowAt rows k)) left-is right-is
+        ∙ sym (ap (expressionIn text table items links i) (rows-from n k rows (omega arith)) ∙ outcome-row (nameIn text table items links i) (literalAt text table items i) (kindIn table items i) (rowAt rows k) (drop (suc k) (rowsIn n rows)))
+      where
+        left-is : x ≡ from (suc k)
+        left-is = let g : c ≤ k + 1 = omega arith in operand outs c (k + 1) x s g p ∙ ap from (add-one k)
+
+        right-is : y ≡ expressionIn text table items links i (behind (drop (suc k) (rowsIn n rows)))
+        right-is =
+            operand outs c right y s (below (min n (k + 1 + getD rows (5 * (k + 1) + 3) 0)) refl) q
+            ∙ ap from t
+            ∙ ap (expressionIn text table items links i) (sym (behind-right k (omega arith)))
+          where
+            below : (v : ℕ) → v ≡ min n (k + 1 + getD rows (5 * (k + 1) + 3) 0) → c ≤ right
+            below v g = omega (arith, t, g)
+
+    pub stored-turn : Stored outs′ k
+    stored-turn j g f = go (eqb j k) refl
+      where
+        go : (b : Bool) → eqb j k ≡ b → unpacked outs′ j ≡ from j
+        go true w = let u : j ≡ k = eqb-true j k w in ap (unpacked outs′) u ∙ e ∙ here ∙ ap from (sym u)
+        go false w = let u = eqb-false j k w in d j u ∙ s j (omega (arith, u)) f
+
+  pub stored-end : (outs : List ℕ) (k : ℕ) (r : Outcome) → Stored outs k → k ≤ 0 → r ≡ storedAt outs n 0 → r ≡ expressionIn text table items links i (rowsIn n rows)
+  stored-end outs k r s h z = operand outs k 0 r s h z
+
+pub folded-whole : (text table items links : List ℕ) (i n : ℕ) (rows : List ℕ) (r : Outcome) → n ≡ min (length rows / 5) 8192 → r ≡ expressionIn text table items links i (rowsIn n rows)
+    → r ≡ foldOf text table items links i rows
+unfolding foldOf
+folded-whole text table items links i n rows r h z = rw (← h) z

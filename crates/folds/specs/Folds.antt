@@ -1,0 +1,52 @@
+-- An expression of piece i, over the tables: element numbers are the piece's own, counted from its first. Assumes nothing.
+use Prim.Native.Nat.{ℕ, _+_, _-_, _*_, _/_, min}
+use mathlib.Core.Bool.{cond}
+use mathlib.Core.List.{List}
+use lib.Dec.{ltb, leb}
+use lib.ListN.{length, getD}
+use Rattle.alike.specs.Alike.{cellAt}
+use Rattle.records.specs.Records.{wordAt}
+use Rattle.forms.specs.Tree.{Row}
+use Rattle.folding.specs.declared.Outcome.{Outcome}
+use Rattle.operands.specs.Operands.{literalIn}
+use Rattle.values.specs.Values.{operandOf}
+use Rattle.values.specs.declared.Value.{Value}
+use Rattle.uses.specs.Uses.{useIn}
+use Rattle.folds.specs.Expressions.{rowOutcome, outcomeOf}
+use Rattle.folds.specs.Rows.{rowsIn}
+
+-- where element j of piece i stands in the element table; behind its last, where the piece has none
+unfoldable pub elementIn : List ℕ → List ℕ → ℕ → ℕ → ℕ
+elementIn table items i j =
+    cond (ltb j (min (wordAt items i 2) (length table / 3 - wordAt items i 1))) (wordAt items i 1 + j) (length table / 3)
+
+-- element j of piece i used as a name
+unfoldable pub nameValue : List ℕ → List ℕ → List ℕ → List ℕ → ℕ → ℕ → Value
+nameValue text table items links i j = useIn text table items links i (elementIn table items i j)
+
+unfoldable pub nameIn : List ℕ → List ℕ → List ℕ → List ℕ → ℕ → ℕ → Outcome
+nameIn text table items links i j = operandOf (nameValue text table items links i j)
+
+unfoldable pub literalAt : List ℕ → List ℕ → List ℕ → ℕ → ℕ → Outcome
+literalAt text table items i j = literalIn text table (elementIn table items i j)
+
+unfoldable pub kindIn : List ℕ → List ℕ → ℕ → ℕ → ℕ
+kindIn table items i j = cellAt table (elementIn table items i j) 0
+
+abbrev pub foldedRow : List ℕ → List ℕ → List ℕ → List ℕ → ℕ → Row → Outcome → Outcome → Outcome
+foldedRow text table items links i r x y = rowOutcome (nameIn text table items links i) (literalAt text table items i) (kindIn table items i) r x y
+
+abbrev pub expressionIn : List ℕ → List ℕ → List ℕ → List ℕ → ℕ → List Row → Outcome
+expressionIn text table items links i rs = outcomeOf (nameIn text table items links i) (literalAt text table items i) (kindIn table items i) rs
+
+-- where the right operand of row k stands, of n rows: behind the left one's subtree
+unfoldable pub rightOf : List ℕ → ℕ → ℕ → ℕ
+rightOf rows n k = min n (k + 1 + getD rows (5 * (k + 1) + 3) 0)
+
+-- no expression has more rows than a text has elements
+abbrev pub mostRows : ℕ
+mostRows = 8192
+
+-- the expression that the rows of a table are
+unfoldable pub foldOf : List ℕ → List ℕ → List ℕ → List ℕ → ℕ → List ℕ → Outcome
+foldOf text table items links i rows = expressionIn text table items links i (rowsIn (min (length rows / 5) mostRows) rows)

@@ -1,0 +1,252 @@
+-- The ways of an item, in the code's terms: each premise is what a call or a test gives. Assumes nothing.
+use mathlib.Core.Path.{_≡_, refl, sym, ap, _∙_}
+use mathlib.Core.Bool.{Bool, true, false, not, cond, _&&_, _||_}
+use mathlib.Core.List.{List, [], _∷_}
+use Prim.Native.Nat.{ℕ, zero, suc, _+_, _-_, _*_, _/_, _≤_, _<_, min}
+use native.Mathlib.Nat.{zero-min, min-zero, suc-min-suc, add-zero}
+use native.Mathlib.Omega.{arith}
+use native.Mathlib.Numerals.{add-one}
+use borrow.Author.Tests.{eq-eqb, ne-eqb, lt-ltb, le-ltb, not-true, not-false}
+use lib.Dec.{eqb, ltb}
+use lib.ListN.{length, getD, drop, take, set, length-drop}
+use lib.Seq.{drop-drop, drop-cons, getD-drop, sets, length-sets}
+use Rattle.classes.proofs.Laws.{by-test}
+use Rattle.pieces.specs.Kinds.{kindsOf}
+use Rattle.pieces.proofs.Laws.{kinds-length, kinds-at}
+use Rattle.records.specs.Records.{wordAt, isItem, isClaim}
+use Rattle.names.specs.Language.{languageOf}
+use Rattle.folding.specs.declared.Outcome.{Outcome}
+use Rattle.folds.specs.Folds.{nameValue, foldOf}
+use Rattle.values.specs.Values.{constantOf, subtypeOf, rangedOf}
+use Rattle.values.specs.Words.{stateOf, kindOf, lowOf, highOf}
+use Rattle.values.specs.declared.Value.{Value}
+use Rattle.values.specs.declared.Value.the-variants.{Without}
+use Rattle.items.specs.Items.{heldIn, rowsHeld, anyDown, goesDownIn, doubledIn, expressionAt, rangeAt, boundedAt, markAt, formedAt, valueAt, valueWords, completedAt, completedFrom, completed}
+
+-- ---- the rows of a piece
+
+held-le : (n : ℕ) (words : List ℕ) → heldIn n words ≤ n
+unfolding heldIn
+held-le zero words = omega arith
+held-le (suc n) words = by-test (λ (m : ℕ). m ≤ suc n) (eqb (getD words 0 0) 0) (λ _. omega arith) (λ _. omega (arith, held-le n (drop 5 words)))
+
+module _ (rows items : List ℕ) (i : ℕ) where
+  -- a piece's rows lie in the table
+  pub held-room : (m : ℕ) → 1 ≤ m → m ≡ rowsHeld rows items i → 5 * (wordAt items i 1 + m) ≤ length rows
+  unfolding rowsHeld
+  held-room m h e = omega (arith, held-le (min (wordAt items i 2) (length rows / 5 - wordAt items i 1)) (drop (5 * wordAt items i 1) rows))
+
+-- of m rows counted, the rest with them are the whole
+abbrev pub Left : (rows items : List ℕ) (i from most m : ℕ) → Type 0
+Left rows items i from most m = m + heldIn (most - m) (drop (5 * (from + m)) rows) ≡ rowsHeld rows items i
+
+pub held-start : (rows items : List ℕ) (i from count most space : ℕ) → from ≡ wordAt items i 1 → count ≡ wordAt items i 2 → space ≡ length rows / 5 - from → most ≡ min count space → Left rows items i from most 0
+unfolding rowsHeld
+held-start rows items i from count most space p q w g =
+    let a : most - 0 ≡ min (wordAt items i 2) (length rows / 5 - wordAt items i 1) = omega arith in
+    let b : 5 * (from + 0) ≡ 5 * wordAt items i 1 = omega arith in
+    rw (a, b) (omega arith)
+
+module _ (rows items : List ℕ) (i from most m : ℕ) (inv : Left rows items i from most m) where
+  module _ (l : m < most) where
+    opened : heldIn (most - m) (drop (5 * (from + m)) rows)
+        ≡ cond (eqb (getD rows (5 * (from + m)) 0) 0) 0 (suc (heldIn (most - (m + 1)) (drop (5 * (from + (m + 1))) rows)))
+    unfolding heldIn
+    opened =
+        let a : most - m ≡ suc (most - (m + 1)) = omega arith in
+        let b : 5 * (from + m) + 0 ≡ 5 * (from + m) = omega arith in
+        let c : 5 * (from + m) + 5 ≡ 5 * (from + (m + 1)) = omega arith in
+        rw (a, getD-drop (5 * (from + m)) rows 0 0, b, drop-drop 5 (5 * (from + m)) rows, c)
+
+    pub held-stop : getD rows (5 * (from + m)) 0 ≡ 0 → m ≡ rowsHeld rows items i
+    held-stop h = let z : heldIn (most - m) (drop (5 * (from + m)) rows) ≡ 0 = opened ∙ rw (eq-eqb (getD rows (5 * (from + m)) 0) 0 h) in omega (arith, inv, z)
+
+    pub held-turn : (getD rows (5 * (from + m)) 0 ≡ 0 → ⊥) → Left rows items i from most (m + 1)
+    held-turn h =
+        let z : heldIn (most - m) (drop (5 * (from + m)) rows) ≡ suc (heldIn (most - (m + 1)) (drop (5 * (from + (m + 1))) rows)) = opened ∙ rw (ne-eqb (getD rows (5 * (from + m)) 0) 0 h) in
+        omega (arith, inv, z)
+
+  pub held-end : most ≤ m → m ≡ rowsHeld rows items i
+  unfolding heldIn
+  held-end l = let a : most - m ≡ 0 = omega arith in rw (a, add-zero m) at inv
+
+-- ---- the word downto
+
+cut : (k : ℕ) (l : List ℕ) → take (min k (length l)) l ≡ take k l
+cut zero l = rw (zero-min (length l))
+cut (suc k) [] = rw (min-zero (suc k))
+cut (suc k) (x ∷ l) = rw (suc-min-suc k (length l)) (ap (λ (m : List ℕ). x ∷ m) (cut k l))
+
+-- past m kinds without it
+abbrev pub Down : (table items : List ℕ) (i from most m : ℕ) → Type 0
+Down table items i from most m = anyDown (take (most - m) (drop (from + m) (kindsOf (length table / 3) table))) ≡ goesDownIn table items i
+
+pub down-start : (table items : List ℕ) (i from count most space : ℕ) → from ≡ wordAt items i 1 → count ≡ wordAt items i 2 → space ≡ length table / 3 - from → most ≡ min count space → Down table items i from most 0
+unfolding goesDownIn
+down-start table items i from count most space p q w g =
+    let a : most - 0 ≡ min count (length (drop from (kindsOf (length table / 3) table))) = omega (arith, length-drop from (kindsOf (length table / 3) table), kinds-length (length table / 3) table) in
+    let b : from + 0 ≡ from = omega arith in
+    rw (a, b, cut count (drop from (kindsOf (length table / 3) table)), p, q)
+
+module _ (table items : List ℕ) (i from most m : ℕ) (inv : Down table items i from most m) where
+  abbrev ks : List ℕ
+  ks = kindsOf (length table / 3) table
+
+  module _ (space count : ℕ) (l : m < most) (w : space ≡ length table / 3 - from) (g : most ≡ min count space) where
+    opened-down : anyDown (take (most - m) (drop (from + m) ks)) ≡ (eqb (getD table (3 * (from + m)) 0) 58 || anyDown (take (most - (m + 1)) (drop (from + (m + 1)) ks)))
+    unfolding anyDown
+    opened-down =
+        let a : most - m ≡ suc (most - (m + 1)) = omega arith in
+        let b : suc (from + m) ≡ from + (m + 1) = omega arith in
+        let k : from + m < length ks = omega (arith, kinds-length (length table / 3) table) in
+        rw (a, drop-cons ks (from + m) 0 k, b, ← kinds-at (length table / 3) (from + m) table (omega arith))
+
+    pub down-hit : getD table (3 * (from + m)) 0 ≡ 58 → true ≡ goesDownIn table items i
+    down-hit h = sym (opened-down ∙ rw (eq-eqb (getD table (3 * (from + m)) 0) 58 h)) ∙ inv
+
+    pub down-turn : (getD table (3 * (from + m)) 0 ≡ 58 → ⊥) → Down table items i from most (m + 1)
+    down-turn h = sym (opened-down ∙ rw (ne-eqb (getD table (3 * (from + m)) 0) 58 h)) ∙ inv
+
+  pub down-end : most ≤ m → false ≡ goesDownIn table items i
+  unfolding anyDown
+  down-end l = let a : most - m ≡ 0 = omega arith in rw a at inv
+
+-- ---- the name claimed again
+
+module _ (text table twins items : List ℕ) (i class : ℕ) (x : Bool) (p : class ≡ wordAt items i 0) (q : x ≡ isClaim class) where
+  pub no-claim : not x ≡ true → false ≡ doubledIn text table twins items i
+  unfolding doubledIn
+  no-claim h = rw (← p, ← q, not-true x h)
+
+  module _ (h : not x ≡ false) (twin : ℕ) (w : twin ≡ getD twins i 0) where
+    pub twin-there : (twin ≡ 0 → ⊥) → true ≡ doubledIn text table twins items i
+    unfolding doubledIn
+    twin-there k = rw (← p, ← q, not-false x h, ← w, ne-eqb twin 0 k)
+
+    pub by-language : (e language : ℕ) → twin ≡ 0 → e ≡ wordAt items i 3 → language ≡ languageOf text table e → not (eqb language 0) ≡ doubledIn text table twins items i
+    unfolding doubledIn
+    by-language e language k f g = rw (← p, ← q, not-false x h, ← w, eq-eqb twin 0 k, ← f, ← g)
+
+pub past-twins : (s : List ℕ) (i : ℕ) → length s ≤ i → _≡_ {A = ℕ} 0 (getD s i 0)
+past-twins [] i h = refl
+past-twins (x ∷ s) zero h = absurd (omega arith)
+past-twins (x ∷ s) (suc i) h = past-twins s i (omega arith)
+
+-- ---- expressions and marks
+
+pub part-is : (text table items links rows : List ℕ) (i from a m : ℕ) (r : Outcome) → from ≡ wordAt items i 1 → r ≡ foldOf text table items links i (take (5 * (from + m) - 5 * (from + a)) (drop (5 * (from + a)) rows))
+    → r ≡ expressionAt text table items links i rows a m
+unfolding expressionAt
+part-is text table items links rows i from a m r p z =
+    let e : 5 * (from + m) - 5 * (from + a) ≡ 5 * (m - a) = omega arith in
+    rw (← p, ← e) z
+
+module _ (items rows : List ℕ) (i m : ℕ) (h : 3 ≤ m) where
+  pub second-none : m ≡ 3 → _≡_ {A = ℕ} 3 (rangeAt items i rows m)
+  unfolding rangeAt
+  second-none e = omega arith
+
+  module _ (from size : ℕ) (p : from ≡ wordAt items i 1) (q : size ≡ getD rows (5 * (from + 3) + 3) 0) where
+    pub second-past : m - 3 ≤ size → m ≡ rangeAt items i rows m
+    unfolding rangeAt
+    second-past l = rw (← p, ← q) (omega arith)
+
+    pub second-there : size < m - 3 → 3 + size ≡ rangeAt items i rows m
+    unfolding rangeAt
+    second-there l = rw (← p, ← q) (omega arith)
+
+module _ (text table items links rows : List ℕ) (i m : ℕ) (mark r : Value) where
+  pub unbounded : m ≡ 2 → r ≡ subtypeOf mark → r ≡ boundedAt text table items links i rows m mark
+  unfolding boundedAt
+  unbounded h z = rw (eq-eqb m 2 h) z
+
+  pub ranged : (b : ℕ) (x y : Outcome) (down : Bool) → (m ≡ 2 → ⊥) → b ≡ rangeAt items i rows m → x ≡ expressionAt text table items links i rows 3 m
+      → y ≡ expressionAt text table items links i rows b m → down ≡ goesDownIn table items i → r ≡ rangedOf mark x y down → r ≡ boundedAt text table items links i rows m mark
+  unfolding boundedAt
+  ranged b x y down h e f g d z = rw (ne-eqb m 2 h, ← e, ← f, ← g, ← d) z
+
+pub mark-is : (text table items links rows : List ℕ) (i from j : ℕ) (r : Value) → from ≡ wordAt items i 1 → j ≡ getD rows (5 * (from + 1) + 1) 0
+    → r ≡ nameValue text table items links i j → r ≡ markAt text table items links i rows
+unfolding markAt
+mark-is text table items links rows i from j r p q z = rw (← p, ← q) z
+
+module _ (text table items links rows : List ℕ) (i m : ℕ) where
+  pub formed-not : m < 2 → Without 1 ≡ formedAt text table items links i rows m
+  unfolding formedAt
+  formed-not h = rw (lt-ltb m 2 h)
+
+  module _ (class : ℕ) (mark r : Value) (h : 2 ≤ m) (p : class ≡ wordAt items i 0) (q : mark ≡ markAt text table items links i rows) where
+    pub is-constant : (x : Outcome) → class ≡ 3 → x ≡ expressionAt text table items links i rows 2 m → r ≡ constantOf mark x → r ≡ formedAt text table items links i rows m
+    unfolding formedAt
+    is-constant x c e z = rw (le-ltb m 2 h, ← p, eq-eqb class 3 c, ← q, ← e) z
+
+    pub is-subtype : (class ≡ 3 → ⊥) → r ≡ boundedAt text table items links i rows m mark → r ≡ formedAt text table items links i rows m
+    unfolding formedAt
+    is-subtype c z = rw (le-ltb m 2 h, ← p, ne-eqb class 3 c, ← q) z
+
+module _ (text table links twins rows items : List ℕ) (i m : ℕ) (e : m ≡ rowsHeld rows items i) where
+  pub is-broken : m ≡ 0 → Without 1 ≡ valueAt text table links twins rows items i
+  unfolding valueAt
+  is-broken h = rw (← e, eq-eqb m 0 h)
+
+  module _ (d : Bool) (h : m ≡ 0 → ⊥) (f : d ≡ doubledIn text table twins items i) where
+    pub is-twice : d ≡ true → Without 2 ≡ valueAt text table links twins rows items i
+    unfolding valueAt
+    is-twice k = rw (← e, ne-eqb m 0 h, ← f, k)
+
+    pub is-formed : (r : Value) → d ≡ false → r ≡ formedAt text table items links i rows m → r ≡ valueAt text table links twins rows items i
+    unfolding valueAt
+    is-formed r k z = rw (← e, ne-eqb m 0 h, ← f, k) z
+
+pub some-rows : (m : ℕ) → (m ≡ 0 → ⊥) → 1 ≤ m
+some-rows zero h = absurd (h refl)
+some-rows (suc m) h = omega arith
+
+-- ---- records completed
+
+module _ (text table links twins rows items : List ℕ) (i class : ℕ) (x : Bool) (p : class ≡ wordAt items i 0) (q : x ≡ isItem class) where
+  pub completed-item : (v : Value) (items′ : List ℕ) → x ≡ true → v ≡ valueAt text table links twins rows items i → items′ ≡ sets items (8 * i + 4) (valueWords v)
+      → items′ ≡ completedAt text table links twins rows items i
+  unfolding completedAt
+  completed-item v items′ h e z = rw (← p, ← q, h, ← e) z
+
+  pub completed-other : x ≡ false → items ≡ completedAt text table links twins rows items i
+  unfolding completedAt
+  completed-other h = rw (← p, ← q, h)
+
+module _ (text table links twins rows whole : List ℕ) (most i : ℕ) where
+  pub completed-turn : (items items′ : List ℕ) → completedFrom text table links twins rows items i (most - i) ≡ whole → i < most → items′ ≡ completedAt text table links twins rows items i
+      → completedFrom text table links twins rows items′ (i + 1) (most - (i + 1)) ≡ whole
+  unfolding completedFrom
+  completed-turn items items′ inv l e =
+      let a : most - i ≡ suc (most - (i + 1)) = omega arith in
+      let z : completedFrom text table links twins rows (completedAt text table links twins rows items i) (suc i) (most - (i + 1)) ≡ whole = rw a at inv in
+      ap (λ (l : List ℕ). completedFrom text table links twins rows l (i + 1) (most - (i + 1))) e ∙ ap (λ (k : ℕ). completedFrom text table links twins rows (completedAt text table links twins rows items i) k (most - (i + 1))) (add-one i) ∙ z
+
+  pub completed-end : (items : List ℕ) → completedFrom text table links twins rows items i (most - i) ≡ whole → most ≤ i → items ≡ whole
+  unfolding completedFrom
+  completed-end items inv l = let a : most - i ≡ 0 = omega arith in rw a at inv
+
+pub completed-start : (text table links twins rows items : List ℕ) (n most : ℕ) → most ≡ min n (length items / 8)
+    → completedFrom text table links twins rows items 0 (most - 0) ≡ completed text table links twins rows items n
+unfolding completed
+completed-start text table links twins rows items n most e = let a : most - 0 ≡ min n (length items / 8) = omega arith in rw a
+
+pub completed-length : (text table links twins rows items items′ : List ℕ) (i : ℕ) → items′ ≡ completedAt text table links twins rows items i → length items′ ≡ length items
+unfolding completedAt
+completed-length text table links twins rows items items′ i e =
+    ap length e
+    ∙ by-test (λ (l : List ℕ). length l ≡ length items) (isItem (wordAt items i 0)) (λ _. length-sets items (8 * i + 4) (valueWords (valueAt text table links twins rows items i))) (λ _. refl)
+
+-- four words, one after the other
+pub four-stored : (l : List ℕ) (at : ℕ) (v : Value) (a b c d : ℕ) → a ≡ stateOf v → b ≡ kindOf v → c ≡ lowOf v → d ≡ highOf v
+    → set (set (set (set l (at + 4) a) (at + 5) b) (at + 6) c) (at + 7) d ≡ sets l (at + 4) (valueWords v)
+four-stored l at v a b c d p q r s =
+    let x : at + 5 ≡ suc (at + 4) = omega arith in
+    let y : at + 6 ≡ suc (suc (at + 4)) = omega arith in
+    let z : at + 7 ≡ suc (suc (suc (at + 4))) = omega arith in
+    rw (p, q, r, s, x, y, z)
+
+pub range-le : (items rows : List ℕ) (i m b : ℕ) → b ≡ rangeAt items i rows m → b ≤ m
+unfolding rangeAt
+range-le items rows i m b e = omega arith

@@ -1,0 +1,110 @@
+-- A kind that is tested for computes; any other is the last. Assumes nothing.
+use Rattle.operands.proofs.operator_of.Statement.{statement}
+use Rattle.operands.proofs.operator_of.Tie as tie
+use Rattle.operands.proofs.Laws.{joins}
+use Rattle.operands.specs.Operands.{operatorOf}
+use mathlib.Core.Path.{sym, ap}
+
+returns : tie.Need-returns
+unfolding operatorOf
+returns c = ap operatorOf (sym (c .if1 .taken))
+
+returns-2 : tie.Need-returns-2
+unfolding operatorOf
+returns-2 c = ap operatorOf (sym (c .if2 .taken))
+
+returns-3 : tie.Need-returns-3
+unfolding operatorOf
+returns-3 c = ap operatorOf (sym (c .if3 .taken))
+
+returns-4 : tie.Need-returns-4
+unfolding operatorOf
+returns-4 c = ap operatorOf (sym (c .if4 .taken))
+
+returns-5 : tie.Need-returns-5
+unfolding operatorOf
+returns-5 c = ap operatorOf (sym (c .if5 .taken))
+
+returns-6 : tie.Need-returns-6
+unfolding operatorOf
+returns-6 c = ap operatorOf (sym (c .if6 .taken))
+
+returns-7 : tie.Need-returns-7
+unfolding operatorOf
+returns-7 c = ap operatorOf (sym (c .if7 .taken))
+
+returns-8 : tie.Need-returns-8
+unfolding operatorOf
+returns-8 c = ap operatorOf (sym (c .if8 .taken))
+
+returns-9 : tie.Need-returns-9
+unfolding operatorOf
+returns-9 c = ap operatorOf (sym (c .if9 .taken))
+
+returns-10 : tie.Need-returns-10
+unfolding operatorOf
+returns-10 c = ap operatorOf (sym (c .if10 .taken))
+
+returns-11 : tie.Need-returns-11
+unfolding operatorOf
+returns-11 c = ap operatorOf (sym (c .if11 .taken))
+
+returns-12 : tie.Need-returns-12
+unfolding operatorOf
+returns-12 c = ap operatorOf (sym (c .if12 .taken))
+
+returns-13 : tie.Need-returns-13
+unfolding operatorOf
+returns-13 c = ap operatorOf (sym (c .if13 .taken))
+
+returns-14 : tie.Need-returns-14
+unfolding operatorOf
+returns-14 c = ap operatorOf (sym (c .if14 .taken))
+
+returns-15 : tie.Need-returns-15
+unfolding operatorOf
+returns-15 c = ap operatorOf (sym (c .if15 .taken))
+
+returns-16 : tie.Need-returns-16
+unfolding operatorOf
+returns-16 c = ap operatorOf (sym (c .if16 .taken))
+
+returns-17 : tie.Need-returns-17
+unfolding operatorOf
+returns-17 c = ap operatorOf (sym (c .if17 .taken))
+
+returns-18 : tie.Need-returns-18
+unfolding operatorOf
+returns-18 c = ap operatorOf (sym (c .if18 .taken))
+
+returns-19 : tie.Need-returns-19
+unfolding operatorOf
+returns-19 c = ap operatorOf (sym (c .if19 .taken))
+
+returns-20 : tie.Need-returns-20
+returns-20 c = search joins
+
+pub operator-of-spec : {M : Type 1} → statement M
+operator-of-spec =
+    tie.close
+    (tie.spec
+    returns
+    returns-2
+    returns-3
+    returns-4
+    returns-5
+    returns-6
+    returns-7
+    returns-8
+    returns-9
+    returns-10
+    returns-11
+    returns-12
+    returns-13
+    returns-14
+    returns-15
+    returns-16
+    returns-17
+    returns-18
+    returns-19
+    returns-20)

@@ -1,0 +1,41 @@
+-- The low half is the number itself, or 2^32 more than it. Assumes nothing.
+use mathlib.Core.Path.{_≡_, _∙_}
+use Prim.Native.Nat.{_-_, _%_, _^_, _<_}
+use native.Mathlib.Omega.{arith}
+use lib.IntN.{negsuc, _-ℤ_}
+use mir.ValLaws.{toZ-pos, toZ-ofZ}
+use mir.Syntax.{w32}
+use mir.Val.{toZ}
+use borrow.Author.Needs.{needs}
+use Rattle.values.proofs.Steps.{minus-one-less, number-low, number-high}
+use Rattle.values.proofs.number.Statement.{statement}
+use Rattle.values.proofs.number.Tie as tie
+
+module _ (c : tie.Else1) where
+  small : 4294967295 - c .before .args .n % 4294967296 < 2 ^ 31
+  small = let h = c .if1 .left in omega arith
+
+  less : negsuc 0 -ℤ toZ w32 (4294967295 - c .before .args .n % 4294967296) ≡ negsuc (4294967295 - c .before .args .n % 4294967296)
+  less = rw (toZ-pos w32 (4294967295 - c .before .args .n % 4294967296) small) (minus-one-less (4294967295 - c .before .args .n % 4294967296))
+
+cast-result : tie.Need-cast-result
+cast-result c = search needs
+
+returns : tie.Need-returns
+returns c = number-low (c .before .args .n) (c .if1 .taken)
+
+sub-result : tie.Need-sub-result
+sub-result c = search needs
+
+cast-result-2 : tie.Need-cast-result-2
+cast-result-2 c = search needs
+
+sub-result-2 : tie.Need-sub-result-2
+sub-result-2 c = rw (less c) (record { sfits = small c })
+
+returns-2 : tie.Need-returns-2
+returns-2 c = rw (less c) (toZ-ofZ w32 (negsuc (4294967295 - c .before .args .n % 4294967296)) (record { sfits = small c }) ∙ number-high (c .before .args .n) (c .if1 .left))
+
+pub number-spec : {M : Type 1} → statement M
+number-spec =
+    tie.close (tie.spec cast-result returns sub-result cast-result-2 sub-result-2 returns-2)
