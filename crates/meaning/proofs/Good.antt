@@ -1,0 +1,21 @@
+-- What the pieces done so far keep: each that claims a name has a value that fits its record, and a doubled one has none to give. Assumes
+-- nothing.
+use mathlib.Core.Path.{_≡_}
+use mathlib.Core.Bool.{true}
+use mathlib.Core.List.{List, [], _∷_}
+use Rattle.records.specs.Records.{isClaim}
+use Rattle.values.specs.Words.{leanOf}
+use Rattle.values.specs.declared.Value.the-variants.{Without}
+use Rattle.values.proofs.Laws.{Fits}
+use Rattle.worded.specs.Elements.{Piece}
+use Rattle.meaning.specs.Names.{classOf, ownDoubled, Done}
+
+-- of one piece
+abbrev pub GoodDone : List Piece → Done → Type 0
+GoodDone all d =
+    isClaim (classOf (d .piece)) ≡ true → Fits (classOf (d .piece)) (d .value) × (ownDoubled all (d .piece) ≡ true → leanOf (d .value) ≡ Without 5)
+
+-- of each
+abbrev pub Good : List Piece → List Done → Type 0
+Good all [] = Unit {0}
+Good all (d ∷ ds) = GoodDone all d × Good all ds

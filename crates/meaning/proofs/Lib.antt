@@ -1,0 +1,12 @@
+pub mod Records
+pub mod Good
+pub mod Sound
+pub mod Rows
+pub mod Places
+pub mod Values
+pub mod Stages
+pub mod Words
+pub mod Claims
+pub mod Sameness
+pub mod Doubles
+pub mod Uses

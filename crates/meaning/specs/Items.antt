@@ -1,0 +1,82 @@
+-- What each piece of a package comes to, from the first to the last, and the item table (01, "Pieces, items, states"). Assumes nothing.
+use Prim.Native.Nat.{ℕ, _+_}
+use mathlib.Core.Bool.{Bool, true, false, cond, _||_}
+use mathlib.Core.List.{List, [], _∷_, _++_}
+use lib.Dec.{eqb}
+use lib.ListN.{length}
+use Rattle.forms.specs.Tree.{Row}
+use Rattle.pieces.specs.Kinds.{markOf}
+use Rattle.pieces.specs.Records.{nameOf}
+use Rattle.records.specs.Records.{isItem}
+use Rattle.tree.specs.Items.{rowsOfPiece}
+use Rattle.folding.specs.declared.Outcome.{Outcome}
+use Rattle.operands.specs.Operands.{literalBy}
+use Rattle.items.specs.Items.{anyDown}
+use Rattle.values.specs.Values.{operandOf, constantOf, subtypeOf, rangedOf}
+use Rattle.values.specs.Words.{stateOf, kindOf, lowOf, highOf}
+use Rattle.values.specs.declared.Value.{Value}
+use Rattle.values.specs.declared.Value.the-variants.{Without}
+use Rattle.worded.specs.Elements.{Element, Piece, at, kinds, piecesOf}
+use Rattle.meaning.specs.Names.{classOf, ownDoubled, Done, useOf}
+use Rattle.folds.specs.Expressions.{behind, outcomeOf}
+
+-- a piece, and what the names used in it come to
+module _ (p : Piece) (used : Element → Value) where
+  -- an expression of it
+  unfoldable pub valued : List Row → Outcome
+  valued rs = outcomeOf (λ i. operandOf (used (at p i))) (λ i. literalBy (at p i .kind) (at p i .bytes)) (λ i. at p i .kind) rs
+
+  -- [range 10]: the two bounds
+  abbrev pub bounded : Value → List Row → Value
+  bounded mark [] = subtypeOf mark
+  bounded mark (range ∷ rs) = rangedOf mark (valued rs) (valued (behind rs)) (anyDown (kinds p))
+
+  -- class 3, constant N : mark := expression; class 4, subtype N is mark [range 10]
+  abbrev pub marked : Value → List Row → Value
+  marked mark rs = cond (eqb (classOf p) 3) (constantOf mark (valued rs)) (bounded mark rs)
+
+  -- the item's own row, the mark's, and the rest
+  abbrev pub formed : List Row → Value
+  formed [] = Without 1
+  formed (item ∷ []) = Without 1
+  formed (item ∷ mark ∷ rs) = marked (used (at p (mark .first))) rs
+
+-- 1, "no form fits", before 2, "its name has another claim", before the rest
+abbrev pub unlessDoubled : Bool → List Row → Value → Value
+unlessDoubled d [] v = Without 1
+unlessDoubled true (r ∷ rs) v = Without 2
+unlessDoubled false (r ∷ rs) v = v
+
+-- what a piece comes to, below `above` in the text `all`: "The smallest of 1 to 6 wins"
+unfoldable pub valueOf : List Piece → List Done → Piece → Value
+valueOf all above p = unlessDoubled (ownDoubled all p) (rowsOfPiece (kinds p)) (formed p (useOf all above) (rowsOfPiece (kinds p)))
+
+abbrev pub doneOf : List Piece → List Done → Piece → Done
+doneOf all above p = record { piece = p; value = valueOf all above p }
+
+-- the pieces from the first below `above` on, each with what it comes to
+unfoldable pub donesFrom : List Piece → List Done → List Piece → List Done
+donesFrom all above [] = []
+donesFrom all above (p ∷ ps) = doneOf all above p ∷ donesFrom all (above ++ doneOf all above p ∷ []) ps
+
+unfoldable pub donesOf : List Piece → List Done
+donesOf ps = donesFrom ps [] ps
+
+-- a record: "class 1 to 5 ..; first element, count, name element, state; in state 0 kind .. and two numbers; what is absent is 0"
+abbrev pub itemWords : Bool → Value → List ℕ
+itemWords true v = stateOf v ∷ kindOf v ∷ lowOf v ∷ highOf v ∷ []
+itemWords false v = 0 ∷ 0 ∷ 0 ∷ 0 ∷ []
+
+unfoldable pub recordOf : ℕ → Done → List ℕ
+recordOf from d =
+    markOf (kinds (d .piece)) .class ∷ from ∷ length (d .piece) ∷ nameOf from (markOf (kinds (d .piece)) .place)
+    ∷ itemWords (isItem (markOf (kinds (d .piece)) .class)) (d .value)
+
+-- the records, the first piece's first element being number `from`
+unfoldable pub recordsFrom : ℕ → List Done → List ℕ
+recordsFrom from [] = []
+recordsFrom from (d ∷ ds) = recordOf from d ++ recordsFrom (from + length (d .piece)) ds
+
+-- "one record to a piece"
+unfoldable pub recordsOf : List ℕ → List ℕ
+recordsOf text = recordsFrom 0 (donesOf (piecesOf text))

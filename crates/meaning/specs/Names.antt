@@ -1,0 +1,63 @@
+-- Which pieces claim a name, and what a name comes to where it is used (01, "Pieces, items, states"). Assumes nothing.
+use Prim.Native.Nat.{ℕ, _+_}
+use mathlib.Core.Bool.{Bool, true, false, cond, not, _&&_, _||_}
+use mathlib.Core.List.{List, [], _∷_}
+use lib.Dec.{eqb, leb}
+use Rattle.alike.specs.Spelling.{spelt}
+use Rattle.pieces.specs.Kinds.{markOf}
+use Rattle.records.specs.Records.{isClaim}
+use Rattle.records.specs.Tallies.{oneIf}
+use Rattle.names.specs.Language.{languageNames, numberOf}
+use Rattle.values.specs.Values.{languageValue}
+use Rattle.values.specs.Words.{leanOf}
+use Rattle.values.specs.declared.Value.{Value}
+use Rattle.values.specs.declared.Value.the-variants.{Without}
+use Rattle.worded.specs.Elements.{Element, Piece, at, kinds}
+use Rattle.worded.specs.Names.{sameAs}
+
+-- the class of a piece
+abbrev pub classOf : Piece → ℕ
+classOf p = markOf (kinds p) .class
+
+-- "A piece claims a name if it begins with constant or subtype and then a name, broken or not."
+abbrev pub ownName : Piece → Element
+ownName p = at p 1
+
+unfoldable pub claims : Element → Piece → Bool
+claims x p = isClaim (classOf p) && sameAs (ownName p) x
+
+-- "The names integer, natural, positive, boolean, true, false are claimed by the language already": 1 to 6, else 0
+abbrev pub language : Element → ℕ
+language x = cond (eqb (x .kind) 1) (numberOf (spelt true (x .bytes)) 1 languageNames) 0
+
+-- how many claims a name has in a text, the language's included
+unfoldable pub claimsIn : Element → List Piece → ℕ
+claimsIn x [] = oneIf (not (eqb (language x) 0))
+claimsIn x (p ∷ ps) = oneIf (claims x p) + claimsIn x ps
+
+-- "its name has another claim anywhere, the language's included"
+abbrev pub doubled : List Piece → Element → Bool
+doubled all x = leb 2 (claimsIn x all)
+
+abbrev pub ownDoubled : List Piece → Piece → Bool
+ownDoubled all p = isClaim (classOf p) && doubled all (ownName p)
+
+-- a piece, and what it comes to
+pub record Done : Type 0 where
+  pub piece : Piece
+  pub value : Value
+
+-- "Names resolve upward only": a claim above, the language's being above all
+unfoldable pub claimedAbove : Element → List Done → Bool
+claimedAbove x [] = not (eqb (language x) 0)
+claimedAbove x (d ∷ ds) = claims x (d .piece) || claimedAbove x ds
+
+-- what the first claim above comes to
+unfoldable pub firstAbove : Element → List Done → Value
+firstAbove x [] = languageValue (language x)
+firstAbove x (d ∷ ds) = elim (claims x (d .piece)) [ true ↦ d .value | false ↦ firstAbove x ds ]
+
+-- a name used below `above` in the text `all`; 4, "a name used with no claim above"; 5, "a name used that is doubled, or whose item isn't in
+-- state 0"
+unfoldable pub useOf : List Piece → List Done → Element → Value
+useOf all above x = cond (claimedAbove x above) (cond (doubled all x) (Without 5) (leanOf (firstAbove x above))) (Without 4)

@@ -1,0 +1,4 @@
+pub mod Laws
+mod Told
+pub mod Joined
+pub mod Promises

@@ -1,0 +1,99 @@
+-- The promises of the survey, proved. Assumes nothing.
+use mathlib.Core.Path.{_≡_, refl, sym, ap, subst, _∙_}
+use mathlib.Core.Bool.{Bool, true, false, cond}
+use mathlib.Core.List.{List, [], _∷_}
+use Prim.Native.Nat.{ℕ, zero, suc, _+_, _*_, _/_, _≤_, _<_}
+use native.Mathlib.Omega.{arith}
+use native.Mathlib.Nat.{add-zero, zero-add}
+use borrow.Author.Tests.{le-ltb, ltb-false}
+use lib.Dec.{ltb}
+use lib.ListN.{length, getD, replicate}
+use Rattle.records.specs.Tallies.{inState, countsFrom, tallyOf}
+use Rattle.records.specs.Frames.{frameGood}
+use Rattle.names.specs.Names.{sharedPair}
+use Rattle.pieces.specs.declared.Marking.{Marking}
+use Rattle.pieces.specs.declared.Marking.the-variants as M
+use Rattle.reading.specs.Reading.{readingOf}
+use Rattle.reading.specs.Reading as elements
+use Rattle.reading.specs.declared.Reading.{Reading}
+use Rattle.reading.specs.declared.Reading.the-variants as R
+use Rattle.worded.specs.Elements.{piecesOf}
+use Rattle.packages.specs.Tables.{summedOf}
+use Rattle.packages.specs.Survey.{itemTable, marking, summary, byMarking, byReading, surveyOf, elementsAfter, itemsAfter}
+use Rattle.packages.specs.Refusals.{refusedBy}
+use Rattle.packages.specs.Promises.{NoChoice, ZerosOnRefusal, Surveyed, SaysOfRecords}
+use Rattle.packages.specs.declared.Survey.{Survey}
+use Rattle.packages.specs.declared.Summary.{Summary}
+use Rattle.packages.specs.declared.SurveyRefusal.{SurveyRefusal}
+use Rattle.packages.specs.declared.Outcome.the-variants.{Done, Refused}
+use Rattle.packages.proofs.Joined.{marked-room}
+
+clash : {A : Type 0} → _≡_ {A = ℕ} 0 1 → A
+clash z = absurd (omega arith)
+
+pub no-choice : NoChoice
+no-choice s e i x x′ t t′ u u′ p q r p′ q′ r′ = (cc, cc, cc)
+
+by-marking-refused : (m : Marking) (s table items : List ℕ) (r : SurveyRefusal) → byMarking m s table items .outcome ≡ Refused r → byMarking m s table items ≡ refusedBy r
+unfolding summary summedOf
+by-marking-refused (M.Marked n) s table items r h = let z : _≡_ {A = ℕ} 0 1 = cc in clash z
+by-marking-refused M.TooMany s table items r h = let z = refused-same _ r h in ap refusedBy z
+  where
+    refused-same : (a b : SurveyRefusal) → Refused a ≡ Refused b → a ≡ b
+    refused-same a b e = cc
+by-marking-refused (M.TableShort n) s table items r h = let z = refused-same _ r h in ap refusedBy z
+  where
+    refused-same : (a b : SurveyRefusal) → Refused a ≡ Refused b → a ≡ b
+    refused-same a b e = cc
+
+by-reading-refused : (x : Reading) (s table : List ℕ) (words : ℕ) (r : SurveyRefusal) → byReading x s table words .outcome ≡ Refused r → byReading x s table words ≡ refusedBy r
+by-reading-refused (R.Refused y) s table words r h = let z = refused-same _ r h in ap refusedBy z
+  where
+    refused-same : (a b : SurveyRefusal) → Refused a ≡ Refused b → a ≡ b
+    refused-same a b e = cc
+by-reading-refused (R.Read n) s table words r h = by-marking-refused (marking (length (piecesOf s)) words) s table (itemTable s words) r h
+
+pub zeros-on-refusal : ZerosOnRefusal
+unfolding elementsAfter itemsAfter surveyOf
+zeros-on-refusal s e i r h = (rw h, rw h, by-reading-refused (readingOf s e) s (elements.tableOf s e) i r h)
+
+pub surveyed : Surveyed
+unfolding surveyOf marking summary summedOf
+surveyed s e i n h few room =
+    rw (h, le-ltb 1024 (length (piecesOf s)) few, le-ltb (i / 8) (length (piecesOf s)) (omega arith)) (_, (refl, refl))
+
+-- the counts of a tally, one by one
+count-at : (items : List ℕ) (n k m j : ℕ) → j < m → getD (countsFrom items n k m) j 0 ≡ inState (k + j) items 0 n
+unfolding countsFrom
+count-at items n k zero j h = absurd (omega arith)
+count-at items n k (suc m) zero h = ap (λ (x : ℕ). inState x items 0 n) (sym (add-zero k))
+count-at items n k (suc m) (suc j) h = let z : suc k + j ≡ k + suc j = omega arith in count-at items n (suc k) m j (omega arith) ∙ ap (λ (x : ℕ). inState x items 0 n) z
+
+-- what a survey says of n records
+abbrev Says : List ℕ → List ℕ → List ℕ → ℕ → Summary → Survey → Type 0
+Says s table items n y x =
+    (y .pieces ≡ n) × (y .frame ≡ frameGood s table items n) × (y .pair ≡ sharedPair s table items n) × ((k : ℕ) → k ≤ 10 → getD (x .tally .counts) k 0 ≡ inState k items 0 n)
+
+same-done : (a b : Summary) → Done a ≡ Done b → a ≡ b
+same-done a b e = cc
+
+by-marking-done : (m : Marking) (s table items : List ℕ) (n words : ℕ) (y : Summary) → marking n words ≡ m → byMarking m s table items .outcome ≡ Done y → Says s table items n y (byMarking m s table items)
+unfolding summary summedOf tallyOf
+by-marking-done (M.Marked k) s table items n words y e h =
+    let r = marked-room n words k e in
+    let z = same-done _ y h in
+    let c : (j : ℕ) → j ≤ 10 → getD (countsFrom items k 0 11) j 0 ≡ inState j items 0 k = λ j l. count-at items k 0 11 j (omega arith) ∙ ap (λ (x : ℕ). inState x items 0 k) (zero-add j) in
+    subst (λ (x : ℕ). Says s table items x y (byMarking (M.Marked k) s table items)) (r .0)
+    (ap (λ (x : Summary). x .pieces) (sym z), ap (λ (x : Summary). x .frame) (sym z), ap (λ (x : Summary). x .pair) (sym z), c)
+by-marking-done M.TooMany s table items n words y e h = let z : _≡_ {A = ℕ} 0 1 = cc in clash z
+by-marking-done (M.TableShort k) s table items n words y e h = let z : _≡_ {A = ℕ} 0 1 = cc in clash z
+
+by-reading-done : (x : Reading) (s table : List ℕ) (words : ℕ) (y : Summary) → byReading x s table words .outcome ≡ Done y → Says s table (itemTable s words) (length (piecesOf s)) y (byReading x s table words)
+by-reading-done (R.Refused r) s table words y h = let z : _≡_ {A = ℕ} 0 1 = cc in clash z
+by-reading-done (R.Read n) s table words y h = by-marking-done (marking (length (piecesOf s)) words) s table (itemTable s words) (length (piecesOf s)) words y refl h
+
+pub says-of-records : SaysOfRecords
+unfolding elementsAfter itemsAfter surveyOf
+says-of-records s e i y h =
+    let r = by-reading-done (readingOf s e) s (elements.tableOf s e) i y h in
+    (rw h, rw h, r .0, r .1, r .2, r .3)

@@ -1,0 +1,4 @@
+pub mod Refusals
+pub mod Tables
+pub mod Survey
+pub mod Promises

@@ -1,0 +1,48 @@
+-- What the survey promises beside its contract, as statements: proofs/Promises.antt proves each. Assumes nothing: these are definitions.
+use Prim.Native.Nat.{ℕ, _*_, _≤_}
+use mathlib.Core.Path.{_≡_}
+use mathlib.Core.Bool.{Bool, true}
+use mathlib.Core.List.{List}
+use lib.ListN.{length, getD, replicate}
+use Rattle.records.specs.Tallies.{inState}
+use Rattle.records.specs.Frames.{frameGood}
+use Rattle.names.specs.Names.{sharedPair}
+use Rattle.reading.specs.Reading.{readingOf}
+use Rattle.reading.specs.Reading as elements
+use Rattle.reading.specs.declared.ElementNumber.{ElementNumber}
+use Rattle.reading.specs.declared.Reading.the-variants as R
+use Rattle.worded.specs.Elements.{piecesOf}
+use Rattle.packages.specs.Survey.{surveyOf, elementsAfter, itemsAfter, itemTable}
+use Rattle.packages.specs.Refusals.{refusedBy}
+use Rattle.packages.specs.declared.Survey.{Survey}
+use Rattle.packages.specs.declared.Summary.{Summary}
+use Rattle.packages.specs.declared.Outcome.the-variants.{Done, Refused}
+use Rattle.packages.specs.declared.SurveyRefusal.{SurveyRefusal}
+
+-- Any two permitted answers coincide: what `read_survey` ensures leaves no choice.
+abbrev pub NoChoice : Type 0
+NoChoice =
+    (s : List ℕ) (e i : ℕ) (x x′ : Survey) (t t′ u u′ : List ℕ)
+    → x ≡ surveyOf s e i → t ≡ elementsAfter s e i → u ≡ itemsAfter s e i → x′ ≡ surveyOf s e i → t′ ≡ elementsAfter s e i → u′ ≡ itemsAfter s e i
+    → (x ≡ x′) × (t ≡ t′) × (u ≡ u′)
+
+-- A refusal leaves both tables all zeros, and no count in the tally.
+abbrev pub ZerosOnRefusal : Type 0
+ZerosOnRefusal =
+    (s : List ℕ) (e i : ℕ) (r : SurveyRefusal) → surveyOf s e i .outcome ≡ Refused r
+    → (elementsAfter s e i ≡ replicate e 0) × (itemsAfter s e i ≡ replicate i 0) × (surveyOf s e i ≡ refusedBy r)
+
+-- A text is surveyed exactly when the element reader takes it and its pieces are at most 1,024, with a record to each.
+abbrev pub Surveyed : Type 0
+Surveyed =
+    (s : List ℕ) (e i : ℕ) (n : ElementNumber) → readingOf s e ≡ R.Read n → length (piecesOf s) ≤ 1024 → 8 * length (piecesOf s) ≤ i
+    → (y : Summary) × ((surveyOf s e i .outcome ≡ Done y) × (y .pieces ≡ length (piecesOf s)))
+
+-- What a survey that is done says: the frame and the first pair are those of its records, and each count of the tally is the number of items
+-- in that state.
+abbrev pub SaysOfRecords : Type 0
+SaysOfRecords =
+    (s : List ℕ) (e i : ℕ) (y : Summary) → surveyOf s e i .outcome ≡ Done y
+    → (itemsAfter s e i ≡ itemTable s i) × (elementsAfter s e i ≡ elements.tableOf s e) × (y .pieces ≡ length (piecesOf s))
+    × (y .frame ≡ frameGood s (elements.tableOf s e) (itemTable s i) (length (piecesOf s))) × (y .pair ≡ sharedPair s (elements.tableOf s e) (itemTable s i) (length (piecesOf s)))
+    × ((k : ℕ) → k ≤ 10 → getD (surveyOf s e i .tally .counts) k 0 ≡ inState k (itemTable s i) 0 (length (piecesOf s)))

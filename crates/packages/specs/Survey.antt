@@ -1,0 +1,59 @@
+-- What the survey of a text answers, given how many words the two lent tables have, and what they hold then (01, "Pieces, items, states" and
+-- "Refusals and their order", of which 1, 3, 4, 9 and 10 concern it). Assumes nothing.
+use Prim.Native.Nat.{ℕ, _-_, _*_, _/_}
+use mathlib.Core.Bool.{cond}
+use lib.Dec.{ltb}
+use mathlib.Core.List.{List, _++_}
+use lib.ListN.{length, replicate}
+use Rattle.reading.specs.Reading.{readingOf}
+use Rattle.reading.specs.Reading as elements
+use Rattle.reading.specs.declared.Reading.{Reading}
+use Rattle.reading.specs.declared.Reading.the-variants as R
+use Rattle.pieces.specs.declared.Marking.{Marking}
+use Rattle.pieces.specs.declared.Marking.the-variants as M
+use Rattle.names.specs.Names.{sharedPair}
+use Rattle.worded.specs.Elements.{piecesOf}
+use Rattle.meaning.specs.Items.{recordsOf}
+use Rattle.packages.specs.Refusals.{refusedBy}
+use Rattle.packages.specs.Tables.{summedOf}
+use Rattle.packages.specs.declared.Outcome.{Outcome}
+use Rattle.packages.specs.declared.Outcome.the-variants.{Done, Refused}
+use Rattle.packages.specs.declared.Survey.{Survey}
+use Rattle.packages.specs.declared.SurveyRefusal.the-variants.{Elements, TooMany, ItemsShort}
+
+-- the item table of a text: "one record to a piece", and zeros behind
+unfoldable pub itemTable : List ℕ → ℕ → List ℕ
+itemTable text words = recordsOf text ++ replicate (words - 8 * length (piecesOf text)) 0
+
+-- n pieces: 9, "more than 1,024 pieces"; 10, "item table short", "rows it has"
+unfoldable pub marking : ℕ → ℕ → Marking
+marking n words = cond (ltb 1024 n) M.TooMany (cond (ltb (words / 8) n) (M.TableShort (words / 8)) (M.Marked n))
+
+-- the survey of a text that is not refused: what its records say together, and the first pair
+unfoldable pub summary : List ℕ → List ℕ → List ℕ → ℕ → Survey
+summary text table items n = summedOf text table items n (sharedPair text table items n)
+
+abbrev pub byMarking : Marking → List ℕ → List ℕ → List ℕ → Survey
+byMarking (M.Marked n) text table items = summary text table items n
+byMarking M.TooMany text table items = refusedBy TooMany
+byMarking (M.TableShort rows) text table items = refusedBy (ItemsShort rows)
+
+-- 1, 3, 4, then 9, 10, then the survey
+abbrev pub byReading : Reading → List ℕ → List ℕ → ℕ → Survey
+byReading (R.Refused r) text table words = refusedBy (Elements r)
+byReading (R.Read n) text table words = byMarking (marking (length (piecesOf text)) words) text table (itemTable text words)
+
+unfoldable pub surveyOf : List ℕ → ℕ → ℕ → Survey
+surveyOf text elementWords itemWords = byReading (readingOf text elementWords) text (elements.tableOf text elementWords) itemWords
+
+-- "On refusal every lent table is all zeros. On success unused rows are zeros.": a table of so many words
+abbrev pub left : Outcome → ℕ → List ℕ → List ℕ
+left (Done s) words table = table
+left (Refused r) words table = replicate words 0
+
+-- the element table afterwards, and the item table
+unfoldable pub elementsAfter : List ℕ → ℕ → ℕ → List ℕ
+elementsAfter text elementWords itemWords = left (surveyOf text elementWords itemWords .outcome) elementWords (elements.tableOf text elementWords)
+
+unfoldable pub itemsAfter : List ℕ → ℕ → ℕ → List ℕ
+itemsAfter text elementWords itemWords = left (surveyOf text elementWords itemWords .outcome) itemWords (itemTable text itemWords)

@@ -1,0 +1,66 @@
+-- What the survey's steps make of any tables, in their order; specs/Survey.antt says what comes of a text. Assumes nothing.
+use Prim.Native.Nat.{ℕ}
+use mathlib.Core.Bool.{Bool, cond}
+use mathlib.Core.List.{List}
+use lib.ListN.{length, replicate}
+use Rattle.pieces.specs.Records.{piecesIn, markingOf, recordTable}
+use Rattle.pieces.specs.declared.Marking.{Marking}
+use Rattle.pieces.specs.declared.Marking.the-variants as M
+use Rattle.records.specs.Tallies.{tallyOf}
+use Rattle.records.specs.Frames.{frameGood, wholeOf}
+use Rattle.pairs.specs.Pairs.{pairOf}
+use Rattle.pairs.specs.declared.Pair.{Pair}
+use Rattle.pairs.specs.declared.Pair.the-variants.{Neither}
+use Rattle.names.specs.Names.{linksTable, ownsTable, twinsTable, anyTwin}
+use Rattle.tree.specs.Items.{itemRows}
+use Rattle.items.specs.Items.{completed}
+use Rattle.packages.specs.Refusals.{refusedBy}
+use Rattle.packages.specs.declared.Survey.{Survey}
+use Rattle.packages.specs.declared.Outcome.{Outcome}
+use Rattle.packages.specs.declared.Outcome.the-variants.{Done, Refused}
+use Rattle.packages.specs.declared.SurveyRefusal.the-variants.{TooMany, ItemsShort}
+
+abbrev pub pairBy : Bool → List ℕ → ℕ → Pair
+pairBy any owns n = cond any (pairOf owns n) Neither
+
+-- what n records say together: frame, whole and tally, and the pair
+unfoldable pub summedOf : List ℕ → List ℕ → List ℕ → ℕ → Pair → Survey
+summedOf text table items n pair =
+    record {
+      outcome = Done (record { pieces = n; frame = frameGood text table items n; whole = wholeOf (frameGood text table items n) (tallyOf items n); pair = pair });
+      tally = tallyOf items n;
+    }
+
+-- the records of n marked pieces, completed
+unfoldable pub itemsCompleted : List ℕ → List ℕ → ℕ → List ℕ → ℕ → List ℕ
+itemsCompleted text table count items n =
+    completed text table (linksTable text table count items 8192) (twinsTable text table items 1024) (itemRows table count 40960) items n
+
+unfoldable pub itemsSurvey : List ℕ → List ℕ → ℕ → List ℕ → ℕ → Survey
+itemsSurvey text table count items n =
+    summedOf text table (itemsCompleted text table count items n) n (pairBy (anyTwin text table items) (ownsTable text table items 1024) n)
+
+abbrev pub byMarking : Marking → List ℕ → List ℕ → ℕ → List ℕ → Survey
+byMarking (M.Marked n) text table count items = itemsSurvey text table count items n
+byMarking M.TooMany text table count items = refusedBy TooMany
+byMarking (M.TableShort rows) text table count items = refusedBy (ItemsShort rows)
+
+-- 9, 10, or the survey of the pieces
+unfoldable pub piecesSurvey : List ℕ → List ℕ → ℕ → ℕ → Survey
+piecesSurvey text table count words = byMarking (markingOf (piecesIn table count) words) text table count (recordTable (piecesIn table count) words)
+
+abbrev pub itemsByMarking : Marking → List ℕ → List ℕ → ℕ → List ℕ → List ℕ
+itemsByMarking (M.Marked n) text table count items = itemsCompleted text table count items n
+itemsByMarking M.TooMany text table count items = items
+itemsByMarking (M.TableShort rows) text table count items = items
+
+unfoldable pub piecesItems : List ℕ → List ℕ → ℕ → ℕ → List ℕ
+piecesItems text table count words = itemsByMarking (markingOf (piecesIn table count) words) text table count (recordTable (piecesIn table count) words)
+
+-- "On refusal every lent table is all zeros."
+abbrev pub keptBy : Outcome → List ℕ → List ℕ
+keptBy (Done s) table = table
+keptBy (Refused r) table = replicate (length table) 0
+
+abbrev pub kept : Survey → List ℕ → List ℕ
+kept s table = keptBy (s .outcome) table

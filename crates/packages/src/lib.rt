@@ -1,0 +1,154 @@
+// The survey of a package: its items' records, and what they say together. Any bytes and any tables may be given.
+use pairs::Pair;
+use pieces::Marking;
+use reading::Reading;
+use reading::Refusal;
+use records::Tally;
+ghost use mathlib.Core.Path.{_≡_};
+ghost use lib.ListN.{length};
+ghost use Rattle.packages.specs.Refusals.{surveyNumber, surveyPlace, refusedBy};
+ghost use Rattle.packages.specs.Tables.{pairBy, summedOf, itemsSurvey, itemsCompleted, kept, piecesSurvey, piecesItems};
+ghost use Rattle.packages.specs.Survey.{surveyOf, elementsAfter, itemsAfter};
+
+// 01's refusals of the survey: 1, 3, 4 as the elements' own; 9; 10 with the records that the table has.
+pub enum SurveyRefusal {
+    Elements(Refusal),
+    TooMany,
+    ItemsShort(usize),
+}
+
+// What the survey says of a package as a whole, its tally aside.
+pub struct Summary {
+    pub pieces: usize,
+    pub frame: bool,
+    pub whole: bool,
+    pub pair: Pair,
+}
+
+pub enum Outcome {
+    Done(Summary),
+    Refused(SurveyRefusal),
+}
+
+// The tally stands beside the outcome, since no enum holds an array; it is all zeros on refusal.
+pub struct Survey {
+    pub outcome: Outcome,
+    pub tally: Tally,
+}
+
+pub fn survey_number(r: SurveyRefusal) -> u64
+    ensures { λ n. ⌜ n ≡ surveyNumber r ⌝ }
+{
+    match r {
+        SurveyRefusal::Elements(e) => reading::refusal_number(e),
+        SurveyRefusal::TooMany => 9,
+        SurveyRefusal::ItemsShort(_) => 10,
+    }
+}
+
+pub fn survey_place(r: SurveyRefusal) -> usize
+    ensures { λ n. ⌜ n ≡ surveyPlace r ⌝ }
+{
+    match r {
+        SurveyRefusal::Elements(e) => reading::refusal_place(e),
+        SurveyRefusal::TooMany => 1024,
+        SurveyRefusal::ItemsShort(n) => n,
+    }
+}
+
+// A refusal: its tally is all zeros.
+fn refused(r: SurveyRefusal) -> Survey
+    ensures { λ x. ⌜ x ≡ refusedBy r ⌝ }
+{
+    let tally = Tally { counts: [0u64; 11] };
+    let outcome = Outcome::Refused(r);
+    Survey { outcome, tally }
+}
+
+// The first pair: where no name is claimed twice there is none to look for.
+fn pair_of(any: bool, owns: &[u64], n: usize) -> Pair
+    ensures { λ r. ⌜ r ≡ pairBy any (now (owns .entry)) n ⌝ }
+{
+    if any {
+        return pairs::first_pair(owns, n);
+    }
+    Pair::Neither
+}
+
+// What the n records say together.
+fn summed(text: &[u8], elements: &[u64], items: &[u64], n: usize, pair: Pair) -> Survey
+    ensures { λ r. ⌜ r ≡ summedOf (now (text .entry)) (now (elements .entry)) (now (items .entry)) n pair ⌝ }
+{
+    let frame = records::frame_good(text, elements, items, n);
+    let tally = records::tallied(items, n);
+    let whole = records::whole(frame, tally);
+    let summary = Summary {
+        pieces: n,
+        frame: frame,
+        whole: whole,
+        pair: pair,
+    };
+    let outcome = Outcome::Done(summary);
+    Survey { outcome, tally }
+}
+
+// The items of n pieces that are marked.
+fn survey_items(text: &[u8], elements: &[u64], count: usize, items: &mut [u64], n: usize) -> Survey
+    ensures { λ r. ⌜ r ≡ itemsSurvey (now (text .entry)) (now (elements .entry)) count (now (items .entry)) n ⌝ }
+    ensures { λ _. ⌜ now (items .exit) ≡ itemsCompleted (now (text .entry)) (now (elements .entry)) count (now (items .entry)) n ⌝ }
+{
+    let mut rows = [0u64; 40960];
+    tree::read_items(elements, count, &mut rows);
+    let mut links = [0u64; 8192];
+    let mut owns = [0u64; 1024];
+    let mut twins = [0u64; 1024];
+    let any = names::link_names(
+        text,
+        elements,
+        count,
+        items,
+        &mut links,
+        &mut owns,
+        &mut twins,
+    );
+    items::complete_items(text, elements, &links, &twins, &rows, items, n);
+    let pair = pair_of(any, &owns, n);
+    summed(text, elements, items, n, pair)
+}
+
+// The pieces of a text's elements.
+fn survey_pieces(text: &[u8], elements: &mut [u64], count: usize, items: &mut [u64]) -> Survey
+    ensures { λ r. ⌜ r ≡ piecesSurvey (now (text .entry)) (now (elements .entry)) count (length (now (items .entry))) ⌝ }
+    ensures { λ r. ⌜ now (elements .exit) ≡ kept (piecesSurvey (now (text .entry)) (now (elements .entry)) count (length (now (items .entry)))) (now (elements .entry)) ⌝ }
+    ensures { λ r. ⌜ now (items .exit) ≡ piecesItems (now (text .entry)) (now (elements .entry)) count (length (now (items .entry))) ⌝ }
+{
+    match pieces::mark_pieces(elements, count, items) {
+        Marking::Marked(n) => survey_items(text, elements, count, items, n),
+        Marking::TooMany => {
+            lent::clear(elements);
+            refused(SurveyRefusal::TooMany)
+        }
+        Marking::TableShort(rows) => {
+            lent::clear(elements);
+            refused(SurveyRefusal::ItemsShort(rows))
+        }
+    }
+}
+
+// The survey of a text: element table and item table are lent, and all zeros on a refusal.
+pub fn read_survey(text: &[u8], elements: &mut [u64], items: &mut [u64]) -> Survey
+    ensures { λ r. ⌜ r ≡ surveyOf (now (text .entry)) (length (now (elements .entry))) (length (now (items .entry))) ⌝ }
+    ensures { λ r. ⌜ now (elements .exit) ≡ elementsAfter (now (text .entry)) (length (now (elements .entry))) (length (now (items .entry))) ⌝ }
+    ensures { λ r. ⌜ now (items .exit) ≡ itemsAfter (now (text .entry)) (length (now (elements .entry))) (length (now (items .entry))) ⌝ }
+{
+    match reading::read_elements(text, elements) {
+        Reading::Read(e) => {
+            let count = e.0;
+            survey_pieces(text, elements, count, items)
+        }
+        Reading::Refused(r) => {
+            lent::clear(items);
+            refused(SurveyRefusal::Elements(r))
+        }
+    }
+}
