@@ -56,6 +56,26 @@ def differences(expected, printed, sides=('expected', 'printed'), most=12):
     return lines[:most] + ([f'  and {len(lines) - most} lines more'] if len(lines) > most else [])
 
 
+def cases(stream):
+    """The cases of a stream for the batch programs (second/main.rs says how one is written), each with its head, whose last
+    three bytes are the length of the text."""
+    place = 0
+    while place < len(stream):
+        end = place + 10 + int.from_bytes(stream[place + 7 : place + 10], 'big')
+        yield stream[place:end]
+        place = end
+
+
+def case(mode, text, element_rows=8_192, other_rows=1_024):
+    """A text as such a case."""
+    return mode + b''.join(number.to_bytes(3, 'big') for number in (element_rows, other_rows, len(text))) + text
+
+
+def answers(printed):
+    """What was printed of each case, a line with a single point after each."""
+    return printed.split(b'\n.\n')[:-1]
+
+
 class Tally:
     """Counts the tests of a script and prints each failure."""
 

@@ -4,6 +4,9 @@ use libc::STDERR_FILENO;
 use libc::STDOUT_FILENO;
 use reading::Reading;
 use verdict::Verdict;
+
+pub mod surveys; // what is printed of a survey
+
 ghost use mathlib.Core.Path.{_≡_};
 ghost use Prim.Native.Nat.{_≤_};
 ghost use lib.ListN.{take};
@@ -49,7 +52,7 @@ pub fn complain(what: &[u8], name: &[u8]) {
     io::write_all(STDERR_FILENO, b"\n");
 }
 
-pub fn number(n: u64) {
+fn number(n: u64) {
     io::print_decimal(STDOUT_FILENO, n);
 }
 
@@ -58,7 +61,7 @@ pub fn words(text: &[u8]) {
 }
 
 // "a refusal as `refused NO at PLACE`"
-pub fn refused(no: u64, place: usize) {
+fn refused(no: u64, place: usize) {
     words(b"refused ");
     number(no);
     words(b" at ");

@@ -6,10 +6,10 @@ use Rattle.batch.proofs.cases.Statement.{statement}
 use Rattle.batch.proofs.cases.Tie as tie
 
 abbrev Inv-loop : tie.InvT-loop
-Inv-loop head₀ text₀ table₀ trees₀ left₀ head text table trees left = (length head ≡ length head₀) × (length text ≡ length text₀) × (length table ≡ length table₀) × (length trees ≡ length trees₀)
+Inv-loop head₀ text₀ table₀ others₀ left₀ head text table others left = (length head ≡ length head₀) × (length text ≡ length text₀) × (length table ≡ length table₀) × (length others ≡ length others₀)
 
 abbrev μ-loop : tie.MeasureT-loop
-μ-loop head₀ text₀ table₀ trees₀ left₀ head text table trees left = left
+μ-loop head₀ text₀ table₀ others₀ left₀ head text table others left = left
 
 loop-holds : tie.Need-loop-holds Inv-loop μ-loop
 loop-holds c = search needs

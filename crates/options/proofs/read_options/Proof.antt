@@ -2,14 +2,14 @@
 use lib.ListN.{length}
 use mathlib.Core.Path.{_≡_}
 use borrow.Author.Needs.{needs}
-use Rattle.strict.proofs.read_options.Statement.{statement}
-use Rattle.strict.proofs.read_options.Tie as tie
+use Rattle.options.proofs.read_options.Statement.{statement}
+use Rattle.options.proofs.read_options.Tie as tie
 
 abbrev Inv-loop : tie.InvT-loop
-Inv-loop word₀ count o₀ left₀ word o left = length word ≡ length word₀
+Inv-loop program other rows most word₀ count o₀ left₀ word o left = length word ≡ length word₀
 
 abbrev μ-loop : tie.MeasureT-loop
-μ-loop word₀ count o₀ left₀ word o left = left
+μ-loop program other rows most word₀ count o₀ left₀ word o left = left
 
 arg-count-requires : tie.Need-arg-count-requires Inv-loop μ-loop
 arg-count-requires c κs = search needs

@@ -1,0 +1,36 @@
+// The survey of a package from standard input or a file: the listing of its items, or its records, tally and pair.
+use console::Got;
+use console::surveys;
+use console::surveys::Shown;
+use options::Options;
+
+fn run(text: &[u8], o: Options) {
+    let mut table = [0u64; 24576];
+    let mut items = [0u64; 8192];
+    let shown = if o.other {
+        Shown::Records
+    } else {
+        Shown::Items
+    };
+    surveys::survey(
+        text,
+        &mut table,
+        o.element_rows,
+        &mut items,
+        o.other_rows,
+        shown,
+    );
+}
+
+fn main() {
+    let mut word = [0u8; 4096];
+    let o = options::read_options(b"survey", b"--records", b"--item-rows", 1024, &mut word);
+    if !o.good {
+        return;
+    }
+    let mut text = [0u8; 65537];
+    let Got::Bytes(n) = options::read_input(o.file, &mut word, &mut text) else {
+        return;
+    };
+    run(console::front(&text, n), o);
+}
