@@ -1,0 +1,10 @@
+pub mod Order
+pub mod Lines
+pub mod Cuts
+pub mod Common
+pub mod Agreeing
+pub mod Above
+pub mod Promises
+pub mod Answers
+pub mod Testing
+pub mod Examples

@@ -1,0 +1,274 @@
+-- The third demand, proved: an item whose names are claimed by common pieces alone has the same answer in both texts. By induction on how many
+-- pieces stand above it. Assumes nothing.
+use Prim.Native.Nat.{ℕ, zero, suc, _+_, _≤_, _<_}
+use mathlib.Core.Path.{_≡_, refl, sym, ap, ap₂, subst, _∙_}
+use mathlib.Core.Logic.{_⊎_, inl, inr}
+use mathlib.Core.Bool.{Bool, true, false, not, _&&_, _||_, false≢true}
+use mathlib.Core.List.{List, [], _∷_, _++_, append-assoc}
+use native.Mathlib.Nat.{le-refl}
+use native.Mathlib.Omega.{arith}
+use lib.Dec.{eqb, leb}
+use lib.ListN.{length, getD, length-append}
+use Rattle.pieces.specs.Cutting.{cut, joined}
+use Rattle.records.specs.Records.{isClaim, wordAt}
+use Rattle.records.specs.Tallies.{oneIf}
+use Rattle.values.specs.declared.Value.{Value}
+use Rattle.worded.specs.Elements.{Element, Piece, closes, opens, piecesOf}
+use Rattle.worded.proofs.Cutting.{total}
+use Rattle.meaning.specs.Names.{classOf, ownName, claims, language, claimsIn, ownDoubled, Done, claimedAbove, firstAbove, useOf}
+use Rattle.meaning.specs.Items.{valueOf, doneOf, donesFrom, donesOf, recordOf, recordsFrom, recordsOf}
+use Rattle.meaning.proofs.Records.{piecesDone, word-at-record}
+use Rattle.damage.specs.Places.{In, Placed, placedIn, Part, closesPart, opensPart, partsOf, bare, bareEach, SameEach, PieceOf}
+use Rattle.damage.specs.Damage.{PlacesAdded, OneLine, lineNumber, NoneOf, UsesName, Above, LeadsTo, itself, through, Concerns, Undisturbed, SameAnswer}
+use Rattle.damage.proofs.Order.{in-left, in-middle, Rising, rising-left, rising-between, ordered, earlier, passing-in, in-passing, rising-passing, one-list}
+use Rattle.damage.proofs.Lines.{Before, before-never, before-both, places-added, places-true, placed-rising}
+use Rattle.damage.proofs.Cuts.{Ahead, ahead-never, ahead-both, cut-rising}
+use Rattle.damage.proofs.Common.{flip, parted, one-piece, piece-of, of-piece}
+use Rattle.damage.proofs.Agreeing.{claims-on, value-on}
+use Rattle.damage.proofs.Above.{each-append, dones-append, dones-length, claimants, claims-count, NoClaim, FirstClaim, first-claim, none-claimed, none-first, some-claimed, some-first, use-on}
+
+-- the pieces without places are the text's
+bare-joined : (b : Bool) (x : Placed) (ps : List Part) → bareEach (joined closesPart opensPart b x ps) ≡ joined closes opens b (x .element) (bareEach ps)
+unfolding bareEach bare
+bare-joined true x ps = refl
+bare-joined false x [] = refl
+bare-joined false x (p ∷ ps) = refl
+
+bare-cut : (l : Part) → bareEach (cut closesPart opensPart l) ≡ cut closes opens (bare l)
+unfolding bareEach bare cut
+bare-cut [] = refl
+bare-cut (x ∷ []) = refl
+bare-cut (x ∷ y ∷ l) =
+    bare-joined (closesPart x || opensPart y) x (cut closesPart opensPart (y ∷ l))
+    ∙ ap (λ (ps : List Piece). joined closes opens (closesPart x || opensPart y) (x .element) ps) (bare-cut (y ∷ l))
+
+parts-bare : (s : List ℕ) → bareEach (partsOf s) ≡ piecesOf s
+unfolding partsOf piecesOf
+parts-bare s = bare-cut (placedIn s) ∙ ap (cut closes opens) (places-added s)
+
+pub added : PlacesAdded
+added s = (places-added s, parts-bare s, places-true s)
+
+parts-rising : (s : List ℕ) → Rising (Ahead Before) (partsOf s)
+unfolding partsOf
+parts-rising s = cut-rising closesPart opensPart Before (placedIn s) (placed-rising s)
+
+-- one way leads on to another
+leads-on : (s : List ℕ) (p q r : Part) → LeadsTo s p q → LeadsTo s q r → LeadsTo s p r
+leads-on s p q r h itself = h
+leads-on s p q r h (through x k u c a) = through x (leads-on s p q _ h k) u c a
+
+-- an item all of whose names are claimed by pieces of both texts alone
+abbrev Clear : List ℕ → List ℕ → Part → Type 0
+Clear s t p =
+    (x : Element) → Concerns s p x → (q : Part) → In q (partsOf s) ⊎ In q (partsOf t) → claims x (bare q) ≡ true → In q (partsOf s) × In q (partsOf t)
+
+-- so is one that it leads to
+clear-on : (s t : List ℕ) (p q : Part) (x : Element) → Clear s t p → UsesName (bare p) x → claims x (bare q) ≡ true → Above s q p → Clear s t q
+clear-on s t p q x f u c a y (inl own) r i h =
+    f x (inr (p, itself, u)) r i (claims-on x (bare q) (bare r) c (subst (λ z. claims z (bare r) ≡ true) (own .1) h))
+clear-on s t p q x f u c a y (inr (r, l, v)) w i h = f y (inr (r, leads-on s p q r (through x itself u c a) l, v)) w i h
+
+abbrev Ordered : List Part → Type 0
+Ordered = Rising (Ahead Before)
+
+abbrev never : (p : Part) → Ahead Before p p → ⊥
+never = ahead-never Before before-never
+
+abbrev along : (p q r : Part) → Ahead Before p q → Ahead Before q r → Ahead Before p r
+along = ahead-both Before before-both
+
+-- claims of x are the same in both
+module _ (P Q : List Part) (r : Ordered P) (o : Ordered Q) (x : Element) (f : (q : Part) → In q P ⊎ In q Q → claims x (bare q) ≡ true → In q P × In q Q) where
+  same-claimants : claimants x P ≡ claimants x Q
+  same-claimants =
+      one-list (Ahead Before) never along (claimants x P) (claimants x Q)
+      (rising-passing (Ahead Before) never along (λ p. claims x (bare p)) P r)
+      (rising-passing (Ahead Before) never along (λ p. claims x (bare p)) Q o)
+      (λ q h. let z = passing-in (Ahead Before) never along (λ p. claims x (bare p)) q P h in in-passing (Ahead Before) never along (λ p. claims x (bare p)) q Q (f q (inl (z .0)) (z .1) .1) (z .1))
+      (λ q h. let z = passing-in (Ahead Before) never along (λ p. claims x (bare p)) q Q h in in-passing (Ahead Before) never along (λ p. claims x (bare p)) q P (f q (inr (z .0)) (z .1) .0) (z .1))
+
+  same-count : claimsIn x (bareEach P) ≡ claimsIn x (bareEach Q)
+  same-count = claims-count x P ∙ ap (λ (l : List Part). length l + oneIf (not (eqb (language x) 0))) same-claimants ∙ sym (claims-count x Q)
+
+-- a claim above p in one is above p in the other
+moves-above : (P Q a b a′ b′ : List Part) (p q : Part) → Ordered P → Ordered Q → P ≡ a ++ p ∷ b → Q ≡ a′ ++ p ∷ b′ → In q a → In q Q → In q a′
+moves-above P Q a b a′ b′ p q r o e f h k =
+    earlier (Ahead Before) never along a′ b′ p q (subst Ordered f o) (subst (λ l. In q l) f k)
+    (rising-between (Ahead Before) a (p ∷ b) q p (subst Ordered e r) h (inl refl))
+
+split-in : {x : Element} {ps : List Part} (f : FirstClaim x ps) → In (f .claimant) ps
+split-in f = subst (λ l. In (f .claimant) l) (sym (f .split)) (in-middle (f .claimant) (f .early) (f .late))
+
+-- the first claim above p is the same in both
+module _ (P Q a b a′ b′ : List Part) (p : Part) (r : Ordered P) (o : Ordered Q) (e : P ≡ a ++ p ∷ b) (e′ : Q ≡ a′ ++ p ∷ b′) (x : Element)
+    (f : (q : Part) → In q P ⊎ In q Q → claims x (bare q) ≡ true → In q P × In q Q) where
+  in-first : (q : Part) → In q a → In q P
+  in-first q h = subst (λ l. In q l) (sym e) (in-left q a (p ∷ b) h)
+
+  in-second : (q : Part) → In q a′ → In q Q
+  in-second q h = subst (λ l. In q l) (sym e′) (in-left q a′ (p ∷ b′) h)
+
+  there : (q : Part) → In q a → claims x (bare q) ≡ true → In q a′
+  there q h c = moves-above P Q a b a′ b′ p q r o e e′ h (f q (inl (in-first q h)) c .1)
+
+  back : (q : Part) → In q a′ → claims x (bare q) ≡ true → In q a
+  back q h c = moves-above Q P a′ b′ a b p q o r e′ e h (f q (inr (in-second q h)) c .0)
+
+  -- no claim is ahead of the first
+  not-ahead : (c : List Part) (k : FirstClaim x c) → Ordered c → (q : Part) → In q c → claims x (bare q) ≡ true → Ahead Before q (k .claimant) → ⊥
+  not-ahead c k u q h t z =
+      let m = earlier (Ahead Before) never along (k .early) (k .late) (k .claimant) q (subst Ordered (k .split) u) (subst (λ l. In q l) (k .split) h) z in
+      false≢true (sym (k .unclaimed q m) ∙ t)
+
+  same-first : (k : FirstClaim x a) (k′ : FirstClaim x a′) → k .claimant ≡ k′ .claimant
+  same-first k k′ = go (ordered (Ahead Before) never along P (k .claimant) (k′ .claimant) r (in-first (k .claimant) (split-in k)) (in-first (k′ .claimant) (back (k′ .claimant) (split-in k′) (k′ .claimed))))
+    where
+      go : Ahead Before (k .claimant) (k′ .claimant) ⊎ ((k .claimant ≡ k′ .claimant) ⊎ Ahead Before (k′ .claimant) (k .claimant)) → k .claimant ≡ k′ .claimant
+      go (inl z) = absurd (not-ahead a′ k′ (rising-left (Ahead Before) a′ (p ∷ b′) (subst Ordered e′ o)) (k .claimant) (there (k .claimant) (split-in k) (k .claimed)) (k .claimed) z)
+      go (inr (inl z)) = z
+      go (inr (inr z)) = absurd (not-ahead a k (rising-left (Ahead Before) a (p ∷ b) (subst Ordered e r)) (k′ .claimant) (back (k′ .claimant) (split-in k′) (k′ .claimed)) (k′ .claimed) z)
+
+-- what p comes to below the pieces a
+abbrev worth : List Piece → List Part → Part → Value
+worth all a p = valueOf all (donesFrom all [] (bareEach a)) (bare p)
+
+module _ (s t : List ℕ) where
+  abbrev first-all : List Piece
+  first-all = bareEach (partsOf s)
+
+  abbrev second-all : List Piece
+  second-all = bareEach (partsOf t)
+
+  abbrev Value-same : ℕ → Type 0
+  Value-same n =
+      (p : Part) (a b a′ b′ : List Part) → partsOf s ≡ a ++ p ∷ b → partsOf t ≡ a′ ++ p ∷ b′ → length a < n → Clear s t p → worth first-all a p ≡ worth second-all a′ p
+
+  -- a name that p uses
+  module _ (n : ℕ) (ih : Value-same n) (p : Part) (a b a′ b′ : List Part) (e : partsOf s ≡ a ++ p ∷ b) (e′ : partsOf t ≡ a′ ++ p ∷ b′) (l : length a < suc n) (c : Clear s t p) (x : Element) (u : UsesName (bare p) x) where
+    clear-here : (q : Part) → In q (partsOf s) ⊎ In q (partsOf t) → claims x (bare q) ≡ true → In q (partsOf s) × In q (partsOf t)
+    clear-here = c x (inr (p, itself, u))
+
+    abbrev Found : Type 0
+    Found =
+        (claimedAbove x (donesFrom first-all [] (bareEach a)) ≡ claimedAbove x (donesFrom second-all [] (bareEach a′)))
+        × (firstAbove x (donesFrom first-all [] (bareEach a)) ≡ firstAbove x (donesFrom second-all [] (bareEach a′)))
+
+    found-none : NoClaim x a → NoClaim x a′ → Found
+    found-none h h′ =
+        (none-claimed first-all x [] a h ∙ sym (none-claimed second-all x [] a′ h′), none-first first-all x [] a h ∙ sym (none-first second-all x [] a′ h′))
+
+    found-some : FirstClaim x a → FirstClaim x a′ → Found
+    found-some k k′ =
+        let z : k .claimant ≡ k′ .claimant = same-first (partsOf s) (partsOf t) a b a′ b′ p (parts-rising s) (parts-rising t) e e′ x clear-here k k′ in
+        let w : a′ ≡ k′ .early ++ k .claimant ∷ k′ .late = k′ .split ∙ ap (λ (q : Part). k′ .early ++ q ∷ k′ .late) (sym z) in
+        let g : partsOf s ≡ k .early ++ k .claimant ∷ (k .late ++ p ∷ b) = e ∙ ap (λ (m : List Part). m ++ p ∷ b) (k .split) ∙ append-assoc (k .early) (k .claimant ∷ k .late) (p ∷ b) in
+        let g′ : partsOf t ≡ k′ .early ++ k .claimant ∷ (k′ .late ++ p ∷ b′) = e′ ∙ ap (λ (m : List Part). m ++ p ∷ b′) w ∙ append-assoc (k′ .early) (k .claimant ∷ k′ .late) (p ∷ b′) in
+        let v : worth first-all (k .early) (k .claimant) ≡ worth second-all (k′ .early) (k .claimant) =
+        ih (k .claimant) (k .early) (k .late ++ p ∷ b) (k′ .early) (k′ .late ++ p ∷ b′) g g′ (omega (arith, l, ap length (k .split), length-append (k .early) (k .claimant ∷ k .late)))
+        (clear-on s t p (k .claimant) x c u (k .claimed) (k .early, k .late, b, g)) in
+        let d : claims x (bare (k .claimant)) ≡ true = k .claimed in (
+          ap (λ (m : List Part). claimedAbove x (donesFrom first-all [] (bareEach m))) (k .split) ∙ some-claimed first-all x [] (k .early) (k .claimant) (k .late) d
+              ∙ sym (ap (λ (m : List Part). claimedAbove x (donesFrom second-all [] (bareEach m))) w ∙ some-claimed second-all x [] (k′ .early) (k .claimant) (k′ .late) d),
+          ap (λ (m : List Part). firstAbove x (donesFrom first-all [] (bareEach m))) (k .split) ∙ some-first first-all x [] (k .early) (k .claimant) (k .late) (k .unclaimed) d
+              ∙ v
+              ∙ sym (ap (λ (m : List Part). firstAbove x (donesFrom second-all [] (bareEach m))) w ∙ some-first second-all x [] (k′ .early) (k .claimant) (k′ .late) (k′ .unclaimed) d),
+        )
+
+    found : FirstClaim x a ⊎ NoClaim x a → FirstClaim x a′ ⊎ NoClaim x a′ → Found
+    found (inl k) (inl k′) = found-some k k′
+    found (inl k) (inr h′) =
+        absurd (false≢true (sym (h′ (k .claimant) (there (partsOf s) (partsOf t) a b a′ b′ p (parts-rising s) (parts-rising t) e e′ x clear-here (k .claimant) (split-in k) (k .claimed))) ∙ k .claimed))
+    found (inr h) (inl k′) =
+        absurd (false≢true (sym (h (k′ .claimant) (back (partsOf s) (partsOf t) a b a′ b′ p (parts-rising s) (parts-rising t) e e′ x clear-here (k′ .claimant) (split-in k′) (k′ .claimed))) ∙ k′ .claimed))
+    found (inr h) (inr h′) = found-none h h′
+
+    same-use : useOf first-all (donesFrom first-all [] (bareEach a)) x ≡ useOf second-all (donesFrom second-all [] (bareEach a′)) x
+    same-use =
+        let z = found (first-claim x a) (first-claim x a′) in
+        use-on first-all second-all (donesFrom first-all [] (bareEach a)) (donesFrom second-all [] (bareEach a′)) x
+        (same-count (partsOf s) (partsOf t) (parts-rising s) (parts-rising t) x clear-here) (z .0) (z .1)
+
+  same-doubled : (p : Part) → Clear s t p → ownDoubled first-all (bare p) ≡ ownDoubled second-all (bare p)
+  same-doubled p c = go (isClaim (classOf (bare p))) refl
+    where
+      go : (b : Bool) → isClaim (classOf (bare p)) ≡ b → (b && leb 2 (claimsIn (ownName (bare p)) first-all)) ≡ (b && leb 2 (claimsIn (ownName (bare p)) second-all))
+      go true h = ap (λ (n : ℕ). leb 2 n) (same-count (partsOf s) (partsOf t) (parts-rising s) (parts-rising t) (ownName (bare p)) (c (ownName (bare p)) (inl (h, refl))))
+      go false h = refl
+
+  same-value : (n : ℕ) → Value-same n
+  same-value zero p a b a′ b′ e e′ l c = absurd (omega arith)
+  same-value (suc n) p a b a′ b′ e e′ l c =
+      value-on first-all second-all (donesFrom first-all [] (bareEach a)) (donesFrom second-all [] (bareEach a′)) (bare p) (same-doubled p c)
+      (λ x u. same-use n (same-value n) p a b a′ b′ e e′ l c x u)
+
+-- the words of a record from the fifth on do not say where its piece stands
+late : (from : ℕ) (d : Done) (k : ℕ) → 4 ≤ k → getD (recordOf from d) k 0 ≡ getD (recordOf 0 d) k 0
+unfolding recordOf
+late from d zero h = absurd (omega arith)
+late from d (suc zero) h = absurd (omega arith)
+late from d (suc (suc zero)) h = absurd (omega arith)
+late from d (suc (suc (suc zero))) h = absurd (omega arith)
+late from d (suc (suc (suc (suc k)))) h = refl
+
+-- word k of the record of a piece that comes to v
+abbrev answer : Part → ℕ → Value → ℕ
+answer p k v = getD (recordOf 0 (record { piece = bare p; value = v })) k 0
+
+module _ (s : List ℕ) (p : Part) (i : PieceOf s p) where
+  abbrev all : List Piece
+  all = bareEach (partsOf s)
+
+  abbrev done : List Done
+  done = donesFrom all [] (bareEach (i .above))
+
+  abbrev this : Done
+  this = doneOf all done (bare p)
+
+  abbrev rest : List Done
+  rest = donesFrom all (done ++ this ∷ []) (bareEach (i .below))
+
+  all-split : all ≡ bareEach (i .above) ++ bare p ∷ bareEach (i .below)
+  unfolding bareEach
+  all-split = ap bareEach (i .split) ∙ each-append (i .above) (p ∷ i .below)
+
+  dones-split : donesOf (piecesOf s) ≡ done ++ this ∷ rest
+  unfolding donesOf donesFrom
+  dones-split =
+      ap donesOf (sym (parts-bare s)) ∙ ap (donesFrom all []) all-split ∙ dones-append all [] (bareEach (i .above)) (bare p ∷ bareEach (i .below))
+
+  record-word : (more : List ℕ) (k : ℕ) → 4 ≤ k → k ≤ 7 → wordAt (recordsOf s ++ more) (length (i .above)) k ≡ answer p k (worth all (i .above) p)
+  unfolding recordsOf
+  record-word more k low high =
+      ap₂ (λ (l : List ℕ) (n : ℕ). wordAt (l ++ more) n k) (ap (recordsFrom 0) dones-split) (sym (dones-length all [] (i .above)))
+      ∙ word-at-record done rest this more k high
+      ∙ late (total (piecesDone done)) this k low
+
+-- common pieces are in both texts
+module _ (s t : List ℕ) (d : OneLine s t) where
+  abbrev changed : ℕ
+  changed = lineNumber d
+
+  one : (p q : Part) → PieceOf s p → PieceOf t q → SameEach p q → NoneOf changed p → p ≡ q
+  unfolding partsOf
+  one p q i j = one-piece (placedIn s) (placedIn t) changed (parted s t d) (placed-rising s) (i .above) (i .below) (j .above) (j .below) p q (i .split) (j .split)
+
+  other : (p q : Part) → PieceOf t p → PieceOf s q → SameEach p q → NoneOf changed p → p ≡ q
+  unfolding partsOf
+  other p q i j =
+      one-piece (placedIn t) (placedIn s) changed (flip (placedIn s) (placedIn t) changed (suc changed) (parted s t d)) (placed-rising t) (i .above) (i .below) (j .above) (j .below) p q (i .split) (j .split)
+
+  clear : (p : Part) → Undisturbed s t changed p → Clear s t p
+  clear p u x c r (inl h) k =
+      let z = u x c r (inl (piece-of s r h)) k in
+      (h, subst (λ q. In q (partsOf t)) (sym (one r (z .1 .0) (piece-of s r h) (z .1 .1) (z .1 .2) (z .2))) (of-piece t (z .1 .0) (z .1 .1)))
+  clear p u x c r (inr h) k =
+      let z = u x c r (inr (piece-of t r h)) k in
+      (subst (λ q. In q (partsOf s)) (sym (other r (z .0 .0) (piece-of t r h) (z .0 .1) (z .0 .2) (z .2))) (of-piece s (z .0 .0) (z .0 .1)), h)
+
+pub same-answer : SameAnswer
+same-answer s t d p q i j e n u more others k low high =
+    let z : p ≡ q = one s t d p q i j e n in
+    let w : partsOf t ≡ j .above ++ p ∷ j .below = j .split ∙ ap (λ (r : Part). j .above ++ r ∷ j .below) (sym z) in
+    let v = same-value s t (suc (length (i .above))) p (i .above) (i .below) (j .above) (j .below) (i .split) w (le-refl _) (clear s t d p u) in
+    record-word s p i more k low high ∙ ap (answer p k) v ∙ sym (record-word t p (record { above = j .above; below = j .below; split = w }) others k low high)

@@ -1,0 +1,93 @@
+-- The elements of a text with the places where they stand, and its pieces as such elements (01, "Pieces, items, states": "two elements are the
+-- same if line number, place in the line and bytes agree"). Assumes nothing.
+use Prim.Native.Nat.{ℕ, zero, suc, _+_, _-_}
+use mathlib.Core.Path.{_≡_}
+use mathlib.Core.Logic.{_⊎_}
+use mathlib.Core.Bool.{Bool}
+use mathlib.Core.List.{List, [], _∷_, _++_}
+use lib.ListN.{length, take, drop}
+use Rattle.elements.specs.Kinds.{kindNumber}
+use Rattle.reading.specs.Rows.{Row, linesOf, rowsOf}
+use Rattle.pieces.specs.Cutting.{cut}
+use Rattle.worded.specs.Elements.{Element, Piece, closes, opens}
+
+-- one of a list
+abbrev pub In : {A : Type 0} → A → List A → Type 0
+In x [] = ⊥
+In x (y ∷ l) = (y ≡ x) ⊎ In x l
+
+-- an element, the number of its line and its place in the line, both from 0
+pub record Placed : Type 0 where
+  pub line : ℕ
+  pub place : ℕ
+  pub element : Element
+
+-- rows of line number n, whose bytes are l
+unfoldable pub placedRows : ℕ → List ℕ → List Row → List Placed
+placedRows n l [] = []
+placedRows n l (r ∷ rs) =
+    record { line = n; place = r .first; element = record { kind = kindNumber (r .kind); bytes = take (r .size) (drop (r .first) l) } } ∷ placedRows n l rs
+
+-- the elements of lines, of which the first has number n: "No element crosses a line end."
+unfoldable pub placedLines : ℕ → List (List ℕ) → List Placed
+placedLines n [] = []
+placedLines n (l ∷ ls) = placedRows n l (rowsOf l) ++ placedLines (suc n) ls
+
+unfoldable pub placedIn : List ℕ → List Placed
+placedIn text = placedLines 0 (linesOf text)
+
+-- the byte at which line m of lines begins
+unfoldable pub startOf : ℕ → List (List ℕ) → ℕ
+startOf zero ls = 0
+startOf (suc m) [] = 0
+startOf (suc m) (l ∷ ls) = suc (length l) + startOf m ls
+
+-- the first bytes of elements, by their lines and places, the first of the lines being number n
+unfoldable pub firstsIn : ℕ → List (List ℕ) → List Placed → List ℕ
+firstsIn n ls [] = []
+firstsIn n ls (x ∷ p) = (startOf (x .line - n) ls + x .place) ∷ firstsIn n ls p
+
+-- the first bytes of rows
+unfoldable pub firstsOf : List Row → List ℕ
+firstsOf [] = []
+firstsOf (r ∷ rs) = r .first ∷ firstsOf rs
+
+-- a piece whose elements have their places
+abbrev pub Part : Type 0
+Part = List Placed
+
+abbrev pub closesPart : Placed → Bool
+closesPart x = closes (x .element)
+
+abbrev pub opensPart : Placed → Bool
+opensPart x = opens (x .element)
+
+-- "Elements are cut after each `;` and before each of the words constant, subtype, end."
+unfoldable pub partsOf : List ℕ → List Part
+partsOf text = cut closesPart opensPart (placedIn text)
+
+-- without their places
+unfoldable pub bare : Part → Piece
+bare [] = []
+bare (x ∷ p) = x .element ∷ bare p
+
+unfoldable pub bareEach : List Part → List Piece
+bareEach [] = []
+bareEach (p ∷ ps) = bare p ∷ bareEach ps
+
+-- "two elements are the same if line number, place in the line and bytes agree"
+abbrev pub Same : Placed → Placed → Type 0
+Same x y = (x .line ≡ y .line) × (x .place ≡ y .place) × (x .element .bytes ≡ y .element .bytes)
+
+-- "element for element"
+abbrev pub SameEach : Part → Part → Type 0
+SameEach [] [] = Unit {0}
+SameEach [] (y ∷ q) = ⊥
+SameEach (x ∷ p) [] = ⊥
+SameEach (x ∷ p) (y ∷ q) = Same x y × SameEach p q
+
+-- a text has a piece: those above it, and those below
+pub record PieceOf (text : List ℕ) (p : Part) : Type 0 where
+  pub above : List Part
+  pub below : List Part
+  pub split : partsOf text ≡ above ++ p ∷ below
