@@ -1,0 +1,49 @@
+-- The answers as numbers, in the code's terms: each premise is what a match or a call gives. Assumes nothing.
+use Prim.Native.Nat.{ℕ}
+use mathlib.Core.Path.{_≡_, sym, ap}
+use Rattle.reading.specs.Reading.{refusalNumber, refusalPlace}
+use Rattle.reading.specs.declared.ElementNumber.{ElementNumber}
+use Rattle.reading.specs.declared.Refusal.{Refusal}
+use Rattle.reading.specs.declared.Reading.{Reading}
+use Rattle.reading.specs.declared.Reading.the-variants as R
+use Rattle.files.specs.Strict.{strictNumber, strictPlace}
+use Rattle.files.specs.declared.StrictRefusal.{StrictRefusal}
+use Rattle.files.specs.declared.Strict.{Strict}
+use Rattle.files.specs.declared.Strict.the-variants as S
+use Rattle.verdict.specs.declared.Verdict.{Verdict}
+use Rattle.verdict.specs.declared.Verdict.the-variants.{Passes, NotSupported}
+use Rattle.packages.specs.Refusals.{surveyNumber, surveyPlace}
+use Rattle.packages.specs.declared.SurveyRefusal.{SurveyRefusal}
+use Rattle.packages.specs.declared.Summary.{Summary}
+use Rattle.packages.specs.declared.Outcome.the-variants as O
+use Rattle.packages.specs.declared.Survey.{Survey}
+use Rattle.kawhiluhe.specs.Numbers.{elementNumbers, strictNumbers, truthNumber, pairNumber, earlierNumber, laterNumber, surveyNumbers}
+use Rattle.kawhiluhe.specs.declared.Judged.{Judged}
+
+pub elements-read : (r : Reading) (e : ElementNumber) → r ≡ R.Read e → record { refusal = 0; place = 0; elements = e .0 } ≡ elementNumbers r
+elements-read r e h = sym (ap elementNumbers h)
+
+pub elements-refused : (r : Reading) (x : Refusal) (n p : ℕ) → r ≡ R.Refused x → n ≡ refusalNumber x → p ≡ refusalPlace x
+    → record { refusal = n; place = p; elements = 0 } ≡ elementNumbers r
+elements-refused r x n p h e f = rw (h, e, f)
+
+pub strict-passes : (x : Strict) (rows : ℕ) (v : Verdict) (n : Judged) → x ≡ S.Read rows v → v ≡ Passes
+    → n ≡ record { refusal = 0; place = 0; rows = rows; passes = 1; row = 0 } → n ≡ strictNumbers x
+strict-passes x rows v n h g e = rw (h, g) e
+
+pub strict-fails : (x : Strict) (rows i : ℕ) (v : Verdict) (n : Judged) → x ≡ S.Read rows v → v ≡ NotSupported i
+    → n ≡ record { refusal = 0; place = 0; rows = rows; passes = 0; row = i } → n ≡ strictNumbers x
+strict-fails x rows i v n h g e = rw (h, g) e
+
+pub strict-refused : (x : Strict) (r : StrictRefusal) (n p : ℕ) → x ≡ S.Refused r → n ≡ strictNumber r → p ≡ strictPlace r
+    → record { refusal = n; place = p; rows = 0; passes = 0; row = 0 } ≡ strictNumbers x
+strict-refused x r n p h e f = rw (h, e, f)
+
+pub survey-done : (x : Survey) (s : Summary) (f w a b d : ℕ) → x .outcome ≡ O.Done s → f ≡ truthNumber (s .frame) → w ≡ truthNumber (s .whole)
+    → a ≡ pairNumber (s .pair) → b ≡ earlierNumber (s .pair) → d ≡ laterNumber (s .pair)
+    → record { refusal = 0; place = 0; pieces = s .pieces; frame = f; whole = w; pair = a; earlier = b; later = d; tally = x .tally .counts } ≡ surveyNumbers x
+survey-done x s f w a b d h e₁ e₂ e₃ e₄ e₅ = rw (h, e₁, e₂, e₃, e₄, e₅)
+
+pub survey-refused : (x : Survey) (r : SurveyRefusal) (n p : ℕ) → x .outcome ≡ O.Refused r → n ≡ surveyNumber r → p ≡ surveyPlace r
+    → record { refusal = n; place = p; pieces = 0; frame = 0; whole = 0; pair = 0; earlier = 0; later = 0; tally = x .tally .counts } ≡ surveyNumbers x
+survey-refused x r n p h e f = rw (h, e, f)

@@ -1,0 +1,75 @@
+-- The readers' answers as numbers, 0 for what is absent. Assumes nothing.
+use Prim.Native.Nat.{ℕ}
+use mathlib.Core.Bool.{Bool, true, false}
+use mathlib.Core.List.{List}
+use Rattle.reading.specs.Reading.{refusalNumber, refusalPlace}
+use Rattle.reading.specs.declared.Reading.{Reading}
+use Rattle.reading.specs.declared.Reading.the-variants as R
+use Rattle.files.specs.Strict.{strictNumber, strictPlace}
+use Rattle.files.specs.declared.Strict.{Strict}
+use Rattle.files.specs.declared.Strict.the-variants as S
+use Rattle.verdict.specs.declared.Verdict.the-variants.{Passes, NotSupported}
+use Rattle.pairs.specs.declared.Pair.{Pair}
+use Rattle.pairs.specs.declared.Pair.the-variants.{Both, Neither}
+use Rattle.packages.specs.Refusals.{surveyNumber, surveyPlace}
+use Rattle.packages.specs.declared.Outcome.{Outcome}
+use Rattle.packages.specs.declared.Outcome.the-variants.{Done, Refused}
+use Rattle.packages.specs.declared.Survey.{Survey}
+use Rattle.lookup.specs.declared.Found.{Found}
+use Rattle.lookup.specs.declared.Found.the-variants.{At, Nothing}
+use Rattle.kawhiluhe.specs.declared.Elements.{Elements}
+use Rattle.kawhiluhe.specs.declared.Judged.{Judged}
+use Rattle.kawhiluhe.specs.declared.Surveyed.{Surveyed}
+
+-- the element reader's answer: a refusal and its place, or how many elements there are
+abbrev pub elementNumbers : Reading → Elements
+elementNumbers (R.Read n) = record { refusal = 0; place = 0; elements = n .0 }
+elementNumbers (R.Refused r) = record { refusal = refusalNumber r; place = refusalPlace r; elements = 0 }
+
+-- the strict reading's: a refusal and its place, or the tree's rows and the verdict, 1 where the file passes, else the row named
+abbrev pub strictNumbers : Strict → Judged
+strictNumbers (S.Read rows Passes) = record { refusal = 0; place = 0; rows = rows; passes = 1; row = 0 }
+strictNumbers (S.Read rows (NotSupported i)) = record { refusal = 0; place = 0; rows = rows; passes = 0; row = i }
+strictNumbers (S.Refused r) = record { refusal = strictNumber r; place = strictPlace r; rows = 0; passes = 0; row = 0 }
+
+-- a truth
+abbrev pub truthNumber : Bool → ℕ
+truthNumber false = 0
+truthNumber true = 1
+
+-- whether there is a pair, its earlier piece and its later one
+abbrev pub pairNumber : Pair → ℕ
+pairNumber (Both i j) = 1
+pairNumber Neither = 0
+
+abbrev pub earlierNumber : Pair → ℕ
+earlierNumber (Both i j) = i
+earlierNumber Neither = 0
+
+abbrev pub laterNumber : Pair → ℕ
+laterNumber (Both i j) = j
+laterNumber Neither = 0
+
+-- the survey's: a refusal and its place, or pieces, frame, whole and pair; and the tally, which is all zeros on a refusal
+abbrev pub outcomeNumbers : Outcome → List ℕ → Surveyed
+outcomeNumbers (Done s) counts = record {
+  refusal = 0;
+  place = 0;
+  pieces = s .pieces;
+  frame = truthNumber (s .frame);
+  whole = truthNumber (s .whole);
+  pair = pairNumber (s .pair);
+  earlier = earlierNumber (s .pair);
+  later = laterNumber (s .pair);
+  tally = counts;
+}
+outcomeNumbers (Refused r) counts =
+    record { refusal = surveyNumber r; place = surveyPlace r; pieces = 0; frame = 0; whole = 0; pair = 0; earlier = 0; later = 0; tally = counts }
+
+abbrev pub surveyNumbers : Survey → Surveyed
+surveyNumbers x = outcomeNumbers (x .outcome) (x .tally .counts)
+
+-- the record's number, or another number where there is none
+abbrev pub foundNumber : Found → ℕ → ℕ
+foundNumber (At i) none = i
+foundNumber Nothing none = none

@@ -1,0 +1,211 @@
+// What C and Rust programs link: the readers on bytes and lent tables, each answer as numbers, by 01's own where it has them and 0 for what
+// is absent. Every function takes any bytes and any tables. include/kawhiluhe.h describes the tables' rows.
+use files::Strict;
+use lookup::Found;
+use packages::Outcome;
+use packages::Survey;
+use pairs::Pair;
+use reading::Reading;
+use verdict::Verdict;
+ghost use mathlib.Core.Path.{_≡_};
+ghost use Prim.Native.Nat.{_/_};
+ghost use lib.ListN.{length};
+ghost use Rattle.reading.specs.Reading.{readingOf, tableOf};
+ghost use Rattle.files.specs.Strict.{strictOf, elementsAfter, treeAfter};
+ghost use Rattle.packages.specs.Survey.{surveyOf, elementsAfter as surveyElements, itemsAfter};
+ghost use Rattle.lookup.specs.Lookup.{foundOf};
+ghost use Rattle.kawhiluhe.specs.Numbers.{elementNumbers, strictNumbers, truthNumber, pairNumber, earlierNumber, laterNumber, surveyNumbers, foundNumber};
+
+// The element reader's answer.
+#[repr(C)]
+pub struct Elements {
+    pub refusal: u64,
+    pub place: u64,
+    pub elements: u64,
+}
+
+// The strict reading's: how many rows the tree has, 1 where the file passes, and where it doesn't the first row that is not supported.
+#[repr(C)]
+pub struct Judged {
+    pub refusal: u64,
+    pub place: u64,
+    pub rows: u64,
+    pub passes: u64,
+    pub row: u64,
+}
+
+// The survey's: how many pieces there are, 1 where the frame is good and where the survey is whole, 1 where two own items share a name and
+// the first such pair of pieces, and how many items are in each state.
+#[repr(C)]
+pub struct Surveyed {
+    pub refusal: u64,
+    pub place: u64,
+    pub pieces: u64,
+    pub frame: u64,
+    pub whole: u64,
+    pub pair: u64,
+    pub earlier: u64,
+    pub later: u64,
+    pub tally: [u64; 11],
+}
+
+fn element_numbers(r: Reading) -> Elements
+    ensures { λ n. ⌜ n ≡ elementNumbers r ⌝ }
+{
+    match r {
+        Reading::Read(e) => Elements {
+            refusal: 0,
+            place: 0,
+            elements: e.0 as u64,
+        },
+        Reading::Refused(x) => Elements {
+            refusal: reading::refusal_number(x),
+            place: reading::refusal_place(x) as u64,
+            elements: 0,
+        },
+    }
+}
+
+fn rows_judged(rows: u64, passes: u64, row: u64) -> Judged
+    ensures { λ n. ⌜ n ≡ record { refusal = 0; place = 0; rows = rows; passes = passes; row = row } ⌝ }
+{
+    Judged {
+        refusal: 0,
+        place: 0,
+        rows: rows,
+        passes: passes,
+        row: row,
+    }
+}
+
+fn strict_numbers(x: Strict) -> Judged
+    ensures { λ n. ⌜ n ≡ strictNumbers x ⌝ }
+{
+    match x {
+        Strict::Read(rows, verdict) => match verdict {
+            Verdict::Passes => rows_judged(rows as u64, 1, 0),
+            Verdict::NotSupported(row) => rows_judged(rows as u64, 0, row as u64),
+        },
+        Strict::Refused(r) => Judged {
+            refusal: files::strict_number(r),
+            place: files::strict_place(r) as u64,
+            rows: 0,
+            passes: 0,
+            row: 0,
+        },
+    }
+}
+
+fn truth_number(t: bool) -> u64
+    ensures { λ n. ⌜ n ≡ truthNumber t ⌝ }
+{
+    if t { 1 } else { 0 }
+}
+
+fn pair_number(p: Pair) -> u64
+    ensures { λ n. ⌜ n ≡ pairNumber p ⌝ }
+{
+    match p {
+        Pair::Both(_, _) => 1,
+        Pair::Neither => 0,
+    }
+}
+
+fn earlier_number(p: Pair) -> u64
+    ensures { λ n. ⌜ n ≡ earlierNumber p ⌝ }
+{
+    match p {
+        Pair::Both(i, _) => i as u64,
+        Pair::Neither => 0,
+    }
+}
+
+fn later_number(p: Pair) -> u64
+    ensures { λ n. ⌜ n ≡ laterNumber p ⌝ }
+{
+    match p {
+        Pair::Both(_, j) => j as u64,
+        Pair::Neither => 0,
+    }
+}
+
+fn survey_numbers(x: Survey) -> Surveyed
+    ensures { λ n. ⌜ n ≡ surveyNumbers x ⌝ }
+{
+    let outcome = x.outcome;
+    let tally = x.tally.counts;
+    match outcome {
+        Outcome::Done(s) => {
+            let pair = s.pair;
+            Surveyed {
+                refusal: 0,
+                place: 0,
+                pieces: s.pieces as u64,
+                frame: truth_number(s.frame),
+                whole: truth_number(s.whole),
+                pair: pair_number(pair),
+                earlier: earlier_number(pair),
+                later: later_number(pair),
+                tally: tally,
+            }
+        }
+        Outcome::Refused(r) => Surveyed {
+            refusal: packages::survey_number(r),
+            place: packages::survey_place(r) as u64,
+            pieces: 0,
+            frame: 0,
+            whole: 0,
+            pair: 0,
+            earlier: 0,
+            later: 0,
+            tally: tally,
+        },
+    }
+}
+
+fn found_number(x: Found, none: u64) -> u64
+    ensures { λ n. ⌜ n ≡ foundNumber x none ⌝ }
+{
+    match x {
+        Found::At(i) => i as u64,
+        Found::Nothing => none,
+    }
+}
+
+// The elements of a text, in a table of three words a row.
+#[no_mangle]
+pub extern "C" fn kawhiluhe_elements(text: &[u8], elements: &mut [u64]) -> Elements
+    ensures { λ r. ⌜ r ≡ elementNumbers (readingOf (now (text .entry)) (length (now (elements .entry)))) ⌝ }
+    ensures { λ r. ⌜ now (elements .exit) ≡ tableOf (now (text .entry)) (length (now (elements .entry))) ⌝ }
+{
+    element_numbers(reading::read_elements(text, elements))
+}
+
+// The strict reading of a text: its elements, and its tree in a table of five words a row.
+#[no_mangle]
+pub extern "C" fn kawhiluhe_strict(text: &[u8], elements: &mut [u64], tree: &mut [u64]) -> Judged
+    ensures { λ r. ⌜ r ≡ strictNumbers (strictOf (now (text .entry)) (length (now (elements .entry))) (length (now (tree .entry)))) ⌝ }
+    ensures { λ r. ⌜ now (elements .exit) ≡ elementsAfter (now (text .entry)) (length (now (elements .entry))) (length (now (tree .entry))) ⌝ }
+    ensures { λ r. ⌜ now (tree .exit) ≡ treeAfter (now (text .entry)) (length (now (elements .entry))) (length (now (tree .entry))) ⌝ }
+{
+    strict_numbers(files::read_strict(text, elements, tree))
+}
+
+// The survey of a package: its elements, and a record of eight words to each piece.
+#[no_mangle]
+pub extern "C" fn kawhiluhe_survey(text: &[u8], elements: &mut [u64], items: &mut [u64]) -> Surveyed
+    ensures { λ r. ⌜ r ≡ surveyNumbers (surveyOf (now (text .entry)) (length (now (elements .entry))) (length (now (items .entry)))) ⌝ }
+    ensures { λ r. ⌜ now (elements .exit) ≡ surveyElements (now (text .entry)) (length (now (elements .entry))) (length (now (items .entry))) ⌝ }
+    ensures { λ r. ⌜ now (items .exit) ≡ itemsAfter (now (text .entry)) (length (now (elements .entry))) (length (now (items .entry))) ⌝ }
+{
+    survey_numbers(packages::read_survey(text, elements, items))
+}
+
+// The first record of a table, eight words to a record, that claims a name; how many records the table has, where none does.
+#[no_mangle]
+pub extern "C" fn kawhiluhe_lookup(text: &[u8], elements: &[u64], name: &[u8], items: &[u64]) -> u64
+    ensures { λ r. ⌜ r ≡ foundNumber (foundOf (now (text .entry)) (now (elements .entry)) (now (name .entry)) (now (items .entry))) (length (now (items .entry)) / 8) ⌝ }
+{
+    let none = (items.len() / 8) as u64;
+    found_number(lookup::lookup(text, elements, name, items), none)
+}

@@ -1,0 +1,283 @@
+/* The static library from C: each function with tables of every size around the edge, filled with garbage first. Rows, zeros behind
+   them, all zeros after every refusal, and the words behind a table untouched. Each expectation is written out here, from 01.
+   The kit's clang has no headers of the C library, so what is called is declared. */
+#include "../../include/kawhiluhe.h"
+
+int printf(const char *, ...);
+
+typedef kawhiluhe_word word;
+
+enum { ROOM = 24600, GUARD = 4 };
+
+static word elements[ROOM + GUARD], second[ROOM + GUARD];
+static char long_text[70000];
+static long passed, failed;
+
+static void test(int holds, const char *label, word size, word other)
+{
+    if (holds) {
+        passed++;
+        return;
+    }
+    failed++;
+    printf("FAILED: %s, with tables of %lu and %lu words\n", label, size, other);
+}
+
+static word length(const char *text)
+{
+    word n = 0;
+    while (text[n]) n++;
+    return n;
+}
+
+static const kawhiluhe_byte *bytes(const char *text) { return (const kawhiluhe_byte *)text; }
+
+static word garbage(word i) { return 0x9e3779b97f4a7c15UL * (i + 1) | 1; }
+
+static void fill(word *table)
+{
+    for (word i = 0; i < ROOM + GUARD; i++) table[i] = garbage(i);
+}
+
+/* The table of so many words holds these, then zeros, and nothing behind it was touched. */
+static int holds(const word *table, word size, const word *row, word count)
+{
+    for (word i = 0; i < size; i++)
+        if (table[i] != (i < count ? row[i] : 0)) return 0;
+    for (word i = size; i < size + GUARD; i++)
+        if (table[i] != garbage(i)) return 0;
+    return 1;
+}
+
+static void try_elements(const char *label, const char *text, word text_length, const word *row, word rows, word refusal, word place)
+{
+    for (word size = 0; size <= 3 * rows + 7; size++) {
+        word short_of = !refusal && size / 3 < rows;
+        fill(elements);
+        struct kawhiluhe_elements r = kawhiluhe_elements(bytes(text), text_length, elements, size);
+        word no = refusal ? refusal : short_of ? KAWHILUHE_ELEMENT_TABLE_SHORT : 0;
+        test(r.refusal == no && r.place == (refusal ? place : short_of ? size / 3 : 0) && r.elements == (no ? 0 : rows), label, size, 0);
+        test(holds(elements, size, row, no ? 0 : 3 * rows), label, size, 0);
+    }
+}
+
+/* Both tables at and around their edges: refusal 4 before all others of the strict reading and the survey. */
+static const word *sizes_of(word rows, word width)
+{
+    static word sizes[2][12];
+    static int turn;
+    word *s = sizes[turn ^= 1], full = rows * width, n = 0;
+    s[n++] = 0;
+    s[n++] = 1;
+    s[n++] = width;
+    s[n++] = full < width ? 0 : full - width;
+    s[n++] = full ? full - 1 : 0;
+    for (word more = 0; more <= width; more += width > 3 ? 2 : 1) s[n++] = full + more;
+    for (; n < 11; n++) s[n] = full + 4 * width + n;
+    s[n] = ROOM;
+    return s;
+}
+
+struct strict_case {
+    const char *label, *text;
+    word count;             /* elements */
+    word rows, passes, row; /* and rows of the tree */
+    word refusal, place;    /* or 2, 5, 6, 7 */
+    const word *tree;
+};
+
+static void try_strict(const struct strict_case *c, word text_length, const word *wanted)
+{
+    const word *wide = sizes_of(c->count, 3), *high = sizes_of(c->rows, 5);
+    for (int i = 0; i < 12; i++)
+        for (int j = 0; j < 12; j++) {
+            word size = wide[i], other = high[j];
+            fill(elements);
+            fill(second);
+            struct kawhiluhe_judged r = kawhiluhe_strict(bytes(c->text), text_length, elements, size, second, other);
+            word no = c->refusal, place = c->place;
+            if (size / 3 < c->count) no = KAWHILUHE_ELEMENT_TABLE_SHORT, place = size / 3;
+            else if (!no && other / 5 < c->rows) no = KAWHILUHE_TREE_TABLE_SHORT, place = other / 5;
+            test(r.refusal == no && r.place == (no ? place : 0), c->label, size, other);
+            test(r.rows == (no ? 0 : c->rows) && r.passes == (no ? 0 : c->passes) && r.row == (no ? 0 : c->row), c->label, size, other);
+            test(no || !wanted || holds(elements, size, wanted, 3 * c->count), c->label, size, other);
+            test(!no || holds(elements, size, 0, 0), c->label, size, other);
+            test(no ? holds(second, other, 0, 0) : !c->tree || holds(second, other, c->tree, 5 * c->rows), c->label, size, other);
+        }
+}
+
+struct survey_case {
+    const char *label, *text;
+    word count, pieces;
+    word frame, whole, pair, earlier, later;
+    word tally[KAWHILUHE_STATES];
+    const word *items;
+};
+
+static int same_tally(const word *a, const word *b)
+{
+    for (int i = 0; i < KAWHILUHE_STATES; i++)
+        if (a[i] != (b ? b[i] : 0)) return 0;
+    return 1;
+}
+
+static void try_survey(const struct survey_case *c)
+{
+    const word *wide = sizes_of(c->count, 3), *high = sizes_of(c->pieces, 8);
+    for (int i = 0; i < 12; i++)
+        for (int j = 0; j < 12; j++) {
+            word size = wide[i], other = high[j], no = 0, place = 0;
+            fill(elements);
+            fill(second);
+            struct kawhiluhe_surveyed r = kawhiluhe_survey(bytes(c->text), length(c->text), elements, size, second, other);
+            if (size / 3 < c->count) no = KAWHILUHE_ELEMENT_TABLE_SHORT, place = size / 3;
+            else if (other / 8 < c->pieces) no = KAWHILUHE_ITEM_TABLE_SHORT, place = other / 8;
+            test(r.refusal == no && r.place == place && r.pieces == (no ? 0 : c->pieces), c->label, size, other);
+            test(r.frame == (no ? 0 : c->frame) && r.whole == (no ? 0 : c->whole), c->label, size, other);
+            test(r.pair == (no ? 0 : c->pair) && r.earlier == (no ? 0 : c->earlier) && r.later == (no ? 0 : c->later), c->label, size, other);
+            test(same_tally(r.tally, no ? 0 : c->tally), c->label, size, other);
+            test(!no || holds(elements, size, 0, 0), c->label, size, other);
+            test(holds(second, other, c->items, no ? 0 : 8 * c->pieces), c->label, size, other);
+        }
+}
+
+static void refuses(const char *label, const char *text, word n, word no, word place)
+{
+    fill(elements);
+    fill(second);
+    struct kawhiluhe_surveyed r = kawhiluhe_survey(bytes(text), n, elements, ROOM, second, ROOM);
+    test(r.refusal == no && r.place == place && !r.pieces && !r.frame && !r.whole && !r.pair && same_tally(r.tally, 0), label, ROOM, ROOM);
+    test(holds(elements, ROOM, 0, 0) && holds(second, ROOM, 0, 0), label, ROOM, ROOM);
+    if (no == KAWHILUHE_TOO_MANY_PIECES) return;
+    fill(elements);
+    fill(second);
+    struct kawhiluhe_judged s = kawhiluhe_strict(bytes(text), n, elements, ROOM, second, ROOM);
+    test(s.refusal == no && s.place == place && !s.rows && !s.passes && !s.row, label, ROOM, ROOM);
+    test(holds(elements, ROOM, 0, 0) && holds(second, ROOM, 0, 0), label, ROOM, ROOM);
+    try_elements(label, text, n, 0, 0, no, place);
+}
+
+static const char *repeated(char c, word n)
+{
+    for (word i = 0; i < n; i++) long_text[i] = c;
+    long_text[n] = 0;
+    return long_text;
+}
+
+static word found(const char *text, const char *name, word item_words)
+{
+    return kawhiluhe_lookup(bytes(text), length(text), elements, ROOM, bytes(name), length(name), second, item_words);
+}
+
+/* 01's own example, the incident's package. */
+static const char gas[] = "package gas is\n"
+                          "  constant ch4 : natural := 5800;\n"
+                          "  constant co2 : natural := ;\n"
+                          "  constant total : natural := ch4 + co2;\n"
+                          "  constant idle : natural := ch4 / 4;\n"
+                          "end package gas;\n";
+static const word gas_items[] = {
+    1, 0,  3, 1,  0, 0, 0,    0, /* package gas is */
+    3, 3,  7, 4,  0, 1, 5800, 0, /* ch4 */
+    3, 10, 6, 11, 1, 0, 0,    0, /* co2, broken */
+    3, 16, 9, 17, 5, 0, 0,    0, /* total, leans */
+    3, 25, 9, 26, 0, 1, 1450, 0, /* idle */
+    2, 34, 4, 36, 0, 0, 0,    0, /* end package gas; */
+};
+static const struct survey_case incident = { "the incident", gas, 38, 6, 1, 0, 0, 0, 0, { 2, 1, 0, 0, 0, 1 }, gas_items };
+
+static const char doubled[] = "package p is constant c : integer := -2; constant d : boolean := true; subtype s is integer range 1 to 5; "
+                              "constant C : natural := 2; constant e : integer := -7; end;";
+static const word doubled_items[] = {
+    1, 0,  3, 1,  0, 0, 0,       0,
+    3, 3,  8, 4,  2, 0, 0,       0,
+    3, 11, 7, 12, 0, 2, 1,       0,
+    4, 18, 9, 19, 0, 1, 1,       5,
+    3, 27, 7, 28, 2, 0, 0,       0,
+    3, 34, 8, 35, 0, 1, -7UL, 0,
+    2, 42, 2, 0,  0, 0, 0,       0,
+};
+static const struct survey_case shared = { "a shared name", doubled, 44, 7, 1, 0, 1, 1, 4, { 3, 0, 2 }, doubled_items };
+
+static void lookups(void)
+{
+    kawhiluhe_survey(bytes(gas), length(gas), elements, ROOM, second, 48);
+    test(found(gas, "ch4", 48) == 1 && found(gas, "CH4", 48) == 1 && found(gas, "Idle", 48) == 4, "lookup", ROOM, 48);
+    test(found(gas, "gas", 48) == 6 && found(gas, "ch", 48) == 6 && found(gas, "ch44", 48) == 6, "lookup of no claim", ROOM, 48);
+    test(found(gas, "", 48) == 6 && found(gas, "idle", 39) == 4 && found(gas, "idle", 40) == 4, "lookup in part", ROOM, 48);
+    for (word size = 0; size <= 48; size++) {
+        test(found(gas, "co2", size) == (size / 8 > 2 ? 2 : size / 8), "lookup in fewer records", ROOM, size);
+        test(kawhiluhe_lookup(bytes(gas), length(gas), elements, size, bytes("ch4"), 3, second, 48) == (size / 3 > 4 ? 1 : 6),
+             "lookup with fewer elements", size, 48);
+    }
+    for (word n = 0; n <= length(gas); n++)
+        test(kawhiluhe_lookup(bytes(gas), n, elements, ROOM, bytes("ch4"), 3, second, 48) == (n >= 29 ? 1 : 6), "lookup in less text", n, 48);
+    const struct kawhiluhe_item *item = (const struct kawhiluhe_item *)second;
+    test(item[4].sort == 3 && item[4].name == 26 && item[4].low == 1450, "the record as a struct", ROOM, 48);
+    fill(second);
+    test(found(gas, "ch4", ROOM) == ROOM / 8, "lookup in garbage", ROOM, ROOM);
+    second[8] = 3;
+    second[11] = -1UL;
+    second[16] = 4;
+    second[19] = ROOM / 3;
+    test(found(gas, "ch4", ROOM) == ROOM / 8, "records that point outside", ROOM, ROOM);
+    second[24] = 3;
+    second[27] = 4;
+    test(found(gas, "ch4", ROOM) == 3, "the first that points inside", ROOM, ROOM);
+    fill(elements);
+    test(found(gas, "ch4", ROOM) == ROOM / 8, "elements that are garbage", ROOM, ROOM);
+    test(kawhiluhe_lookup(0, 0, 0, 0, 0, 0, 0, 0) == 0, "lookup in nothing", 0, 0);
+    test(kawhiluhe_lookup(bytes(gas), length(gas), 0, 0, bytes("ch4"), 3, gas_items, 48) == 6, "lookup without elements", 0, 48);
+    test(kawhiluhe_lookup(0, 0, elements, ROOM, bytes("ch4"), 3, gas_items, 48) == 6, "lookup without a text", ROOM, 48);
+}
+
+static void nothing_lent(void)
+{
+    struct kawhiluhe_elements e = kawhiluhe_elements(0, 0, 0, 0);
+    test(!e.refusal && !e.place && !e.elements, "the elements of nothing", 0, 0);
+    struct kawhiluhe_judged j = kawhiluhe_strict(0, 0, 0, 0, 0, 0);
+    test(j.refusal == KAWHILUHE_NO_FILE && !j.place && !j.rows && !j.passes && !j.row, "the strict reading of nothing", 0, 0);
+    struct kawhiluhe_surveyed s = kawhiluhe_survey(0, 0, 0, 0, 0, 0);
+    test(!s.refusal && !s.place && !s.pieces && !s.frame && !s.whole && !s.pair && same_tally(s.tally, 0), "the survey of nothing", 0, 0);
+    e = kawhiluhe_elements(bytes("a"), 1, 0, 0);
+    test(e.refusal == KAWHILUHE_ELEMENT_TABLE_SHORT && !e.place && !e.elements, "no element table", 0, 0);
+    j = kawhiluhe_strict(bytes("package p is end;"), 17, elements, 15, 0, 0);
+    test(j.refusal == KAWHILUHE_TREE_TABLE_SHORT && !j.place, "no tree table", 15, 0);
+    s = kawhiluhe_survey(bytes("package p is end;"), 17, elements, 15, 0, 0);
+    test(s.refusal == KAWHILUHE_ITEM_TABLE_SHORT && !s.place, "no item table", 15, 0);
+}
+
+int main(void)
+{
+    static const word three[] = { 1, 0, 1, 13, 2, 2, 3, 5, 1 };
+    static const word odd[] = { 2, 0, 3, 7, 4, 3, 37, 8, 3, 5, 12, 3 };
+    try_elements("three elements", "a <= 5", 6, three, 3, 0, 0);
+    try_elements("each on its line", "\\x\\ _ab\nAll 'q' -- no\n", 22, odd, 4, 0, 0);
+    try_elements("an empty text", "", 0, 0, 0, 0, 0);
+
+    static const char package[] = "package p is constant c : natural := 1; end;";
+    static const word package_elements[] = { 98, 0, 7,  1, 8, 1,   78, 10, 2, 53, 13, 8, 1, 22, 1, 25, 24, 1,
+                                             1,  26, 7, 10, 34, 2, 3, 37, 1,  26, 38, 1, 61, 40, 3, 26, 43, 1 };
+    static const word package_tree[] = { 1, 0, 12, 4, 0, 4, 3, 7, 3, 3, 31, 6, 1, 1, 6, 27, 8, 1, 1, 8 };
+    static const struct strict_case cases[] = {
+        { "a package", package, 12, 4, 1, 0, 0, 0, package_tree },
+        { "a while loop", "entity e is end; architecture a of e is begin process begin while true loop end loop; end process; end;", 24, 5, 0, 3, 0, 0, 0 },
+        { "an unreadable element", "package p is _ \nend;", 6, 0, 0, 0, KAWHILUHE_UNREADABLE, 3, 0 },
+        { "no file", "package is end;", 4, 0, 0, 0, KAWHILUHE_NO_FILE, 1, 0 },
+        { "half a file", "package p is", 3, 0, 0, 0, KAWHILUHE_NO_FILE, 3, 0 },
+        { "another closing name", "package p is end q;", 6, 0, 0, 0, KAWHILUHE_NAME_DIFFERS, 4, 0 },
+        { "33 parentheses", "package p is constant c : natural := (((((((((((((((((((((((((((((((((1)))))))))))))))))))))))))))))))));end;", 78, 0, 0, 0,
+          KAWHILUHE_TOO_DEEP, 40, 0 },
+    };
+    for (word i = 0; i < sizeof cases / sizeof cases[0]; i++) try_strict(&cases[i], length(cases[i].text), i ? 0 : package_elements);
+
+    try_survey(&incident);
+    try_survey(&shared);
+    refuses("65,537 bytes", repeated(';', 65537), 65537, KAWHILUHE_TEXT_TOO_LONG, 65536);
+    refuses("8,193 elements", repeated(';', 8193), 8193, KAWHILUHE_TOO_MANY_ELEMENTS, 8192);
+    refuses("1,025 pieces", repeated(';', 1025), 1025, KAWHILUHE_TOO_MANY_PIECES, 1024);
+    lookups();
+    nothing_lent();
+    printf("%ld passed, %ld failed\n", passed, failed);
+    return failed != 0;
+}
