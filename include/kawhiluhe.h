@@ -152,6 +152,11 @@ kawhiluhe_word kawhiluhe_lookup(const kawhiluhe_byte *text, kawhiluhe_word text_
                                 kawhiluhe_word element_words, const kawhiluhe_byte *name, kawhiluhe_word name_length,
                                 const kawhiluhe_word *items, kawhiluhe_word item_words);
 
+/* The same over records as structs, which have the same words. */
+kawhiluhe_word kawhiluhe_lookup_items(const kawhiluhe_byte *text, kawhiluhe_word text_length, const kawhiluhe_word *elements,
+                                      kawhiluhe_word element_words, const kawhiluhe_byte *name, kawhiluhe_word name_length,
+                                      const struct kawhiluhe_item *items, kawhiluhe_word item_count);
+
 #ifdef __cplusplus
 }
 #endif

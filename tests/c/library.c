@@ -164,9 +164,20 @@ static const char *repeated(char c, word n)
     return long_text;
 }
 
+/* Over the words of the records, and over as many structs as they are: one answer. */
+static word looked_up(const char *text, word text_length, const word *table, word words, const char *name, word name_length, const word *items,
+                      word item_words)
+{
+    word r = kawhiluhe_lookup(bytes(text), text_length, table, words, bytes(name), name_length, items, item_words);
+    word s = kawhiluhe_lookup_items(bytes(text), text_length, table, words, bytes(name), name_length, (const struct kawhiluhe_item *)items,
+                                    item_words / 8);
+    test(r == s, "lookup over structs", words, item_words);
+    return r;
+}
+
 static word found(const char *text, const char *name, word item_words)
 {
-    return kawhiluhe_lookup(bytes(text), length(text), elements, ROOM, bytes(name), length(name), second, item_words);
+    return looked_up(text, length(text), elements, ROOM, name, length(name), second, item_words);
 }
 
 /* 01's own example, the incident's package. */
@@ -207,11 +218,11 @@ static void lookups(void)
     test(found(gas, "", 48) == 6 && found(gas, "idle", 39) == 4 && found(gas, "idle", 40) == 4, "lookup in part", ROOM, 48);
     for (word size = 0; size <= 48; size++) {
         test(found(gas, "co2", size) == (size / 8 > 2 ? 2 : size / 8), "lookup in fewer records", ROOM, size);
-        test(kawhiluhe_lookup(bytes(gas), length(gas), elements, size, bytes("ch4"), 3, second, 48) == (size / 3 > 4 ? 1 : 6),
+        test(looked_up(gas, length(gas), elements, size, "ch4", 3, second, 48) == (size / 3 > 4 ? 1 : 6),
              "lookup with fewer elements", size, 48);
     }
     for (word n = 0; n <= length(gas); n++)
-        test(kawhiluhe_lookup(bytes(gas), n, elements, ROOM, bytes("ch4"), 3, second, 48) == (n >= 29 ? 1 : 6), "lookup in less text", n, 48);
+        test(looked_up(gas, n, elements, ROOM, "ch4", 3, second, 48) == (n >= 29 ? 1 : 6), "lookup in less text", n, 48);
     const struct kawhiluhe_item *item = (const struct kawhiluhe_item *)second;
     test(item[4].sort == 3 && item[4].name == 26 && item[4].low == 1450, "the record as a struct", ROOM, 48);
     fill(second);
@@ -226,9 +237,9 @@ static void lookups(void)
     test(found(gas, "ch4", ROOM) == 3, "the first that points inside", ROOM, ROOM);
     fill(elements);
     test(found(gas, "ch4", ROOM) == ROOM / 8, "elements that are garbage", ROOM, ROOM);
-    test(kawhiluhe_lookup(0, 0, 0, 0, 0, 0, 0, 0) == 0, "lookup in nothing", 0, 0);
-    test(kawhiluhe_lookup(bytes(gas), length(gas), 0, 0, bytes("ch4"), 3, gas_items, 48) == 6, "lookup without elements", 0, 48);
-    test(kawhiluhe_lookup(0, 0, elements, ROOM, bytes("ch4"), 3, gas_items, 48) == 6, "lookup without a text", ROOM, 48);
+    test(looked_up(0, 0, 0, 0, 0, 0, 0, 0) == 0, "lookup in nothing", 0, 0);
+    test(looked_up(gas, length(gas), 0, 0, "ch4", 3, gas_items, 48) == 6, "lookup without elements", 0, 48);
+    test(looked_up(0, 0, elements, ROOM, "ch4", 3, gas_items, 48) == 6, "lookup without a text", ROOM, 48);
 }
 
 static void nothing_lent(void)

@@ -2,6 +2,7 @@
 // is absent. Every function takes any bytes and any tables. include/kawhiluhe.h describes the tables' rows.
 use files::Strict;
 use lookup::Found;
+use lookup::Item;
 use packages::Outcome;
 use packages::Survey;
 use pairs::Pair;
@@ -14,6 +15,7 @@ ghost use Rattle.reading.specs.Reading.{readingOf, tableOf};
 ghost use Rattle.files.specs.Strict.{strictOf, elementsAfter, treeAfter};
 ghost use Rattle.packages.specs.Survey.{surveyOf, elementsAfter as surveyElements, itemsAfter};
 ghost use Rattle.lookup.specs.Lookup.{foundOf};
+ghost use Rattle.lookup.specs.Structs.{wordsOf};
 ghost use Rattle.kawhiluhe.specs.Numbers.{elementNumbers, strictNumbers, truthNumber, pairNumber, earlierNumber, laterNumber, surveyNumbers, foundNumber};
 
 // The element reader's answer.
@@ -208,4 +210,19 @@ pub extern "C" fn kawhiluhe_lookup(text: &[u8], elements: &[u64], name: &[u8], i
 {
     let none = (items.len() / 8) as u64;
     found_number(lookup::lookup(text, elements, name, items), none)
+}
+
+// The same over records lent as structs of eight words.
+#[no_mangle]
+pub extern "C" fn kawhiluhe_lookup_items<'a>(
+    text: &'a [u8],
+    elements: &'a [u64],
+    name: &'a [u8],
+    items: &'a [Item],
+) -> u64
+    ensures { λ r. ⌜ r ≡ foundNumber (foundOf (now (text .entry)) (now (elements .entry)) (now (name .entry)) (wordsOf (now (items .entry)))) (length (now (items .entry))) ⌝ }
+{
+    let found = lookup::lookup_items(text, elements, name, items);
+    let none = items.len() as u64;
+    found_number(found, none)
 }
