@@ -78,7 +78,7 @@ pub first-wrong : FirstWrong
 first-wrong alike w j e = wrong-at w j (agrees alike w (bad j) e)
 
 -- what begins a file begins it with less
-shorter : (w : List ℕ) (i j : ℕ) → j ≤ i → Begins w i → Begins w j
+pub shorter : (w : List ℕ) (i j : ℕ) → j ≤ i → Begins w i → Begins w j
 shorter w i j l b = (
   drop j (take i w) ++ b .0,
   subst IsFile

@@ -7,24 +7,24 @@ use mathlib.Core.List.{List, _++_}
 use native.Mathlib.Omega.{arith}
 use lib.Dec.{leb}
 use lib.ListN.{length, replicate}
-use borrow.Author.Tests.{le-leb, leb-true, leb-false}
+use borrow.Author.Tests.{le-leb, lt-leb, leb-true, leb-false}
 use Rattle.ll.specs.Actions.{End, read, bad, stopped, spent}
 use Rattle.alike.specs.Alike.{sameName}
-use Rattle.forms.specs.Tree.{State, Refusal, name-differs, too-deep, isNamed, rowsOf}
+use Rattle.forms.specs.Tree.{State, Refusal, name-differs, too-deep, rowsOf}
 use Rattle.forms.specs.Forest.{Forest, Tiled, upFrom}
 use Rattle.forms.proofs.Meaning as meaning
 use Rattle.forms.proofs.Growing.{rows-forest}
 use Rattle.forms.proofs.Opening as opening
 use Rattle.forms.proofs.Operators.{operators-right}
 use Rattle.forms.specs.Open.{openAfter, openFrom}
-use Rattle.forms.specs.Closing.{named, closesAt}
 use Rattle.forms.proofs.Closing as closing
 use Rattle.forms.proofs.Tiling.{rows-tiled}
 use Rattle.forms.proofs.Leaves as order
 use Rattle.tree.specs.Answers.{readingIn, wordsOf, answerOf, tableOf, pickAnswer, pickWords}
 use Rattle.tree.specs.declared.Answer.the-variants.{Tree, NoFile, NameDiffers, TooDeep, TableShort}
 use Rattle.tree.proofs.Lists.{terminals-size}
-use Rattle.tree_promises.specs.Promises.{Elements, Answered, Accepts, HasRows, OneTree, FirstWrong, StillBegins, TooManyOpen, NeverTooMany, WrongName, NeverWrongName, FirstDecides, IsShort, ZerosElse, RowsNest, LeavesInOrder, OperatorColumn, NoChoice}
+use Rattle.tree_promises.specs.Promises.{Elements, Answered, Accepts, HasRows, OneTree, NoFileExactly, NameDiffersExactly, TooDeepExactly, FileExactly, FirstWrong, StillBegins, TooManyOpen, NeverTooMany, WrongName, NeverWrongName, FirstDecides, IsShort, ZerosElse, RowsNest, LeavesInOrder, OperatorColumn, NoChoice}
+use Rattle.tree_promises.proofs.Exactly as exactly
 
 clash : {A : Type 0} → _≡_ {A = ℕ} 0 1 → A
 clash z = absurd (omega arith)
@@ -172,11 +172,29 @@ deep-reading text table n room k e =
     by (suc j) q o = omega arith
 
 pub wrong-name : WrongName
-wrong-name text table n room k e =
-    let r = closing.name-differs-at (sameName text table) (Elements table n) (suc k) (name-reading text table n room k e) in
-    let x = r .1 .0 in
-    let z : r .0 ≡ k = omega arith in
-    subst (λ (i : ℕ). (name : ℕ) × ((closesAt (Elements table n) i ≡ named name) × (isNamed (sameName text table) name i ≡ false))) z (r .1 .1)
+wrong-name text table n room k e = exactly.name-due (sameName text table) (Elements table n) k (name-reading text table n room k e)
+
+pub no-file-exactly : NoFileExactly
+no-file-exactly text table n room k =
+    let x = exactly.no-file-exactly (sameName text table) (Elements table n) k in (
+      (λ e. x .0 (wrong-end room k (readingIn text table n) (meaning.always-answers (sameName text table) (Elements table n)) e)),
+      λ f. ap (answerOf room) (x .1 f),
+    )
+
+pub name-differs-exactly : NameDiffersExactly
+name-differs-exactly text table n room k =
+    let x = exactly.name-exactly (sameName text table) (Elements table n) k in
+    let z : suc k - 1 ≡ k = omega arith in
+    ((λ e. x .0 (name-reading text table n room k e)), λ f. ap (answerOf room) (x .1 f) ∙ ap NameDiffers z)
+
+pub too-deep-exactly : TooDeepExactly
+too-deep-exactly text table n room k =
+    let x = exactly.depth-exactly (sameName text table) (Elements table n) k in
+    let z : suc k - 1 ≡ k = omega arith in
+    ((λ e. x .0 (deep-reading text table n room k e)), λ f. ap (answerOf room) (x .1 f) ∙ ap TooDeep z)
+
+pub file-exactly : FileExactly
+file-exactly text table n = exactly.read-exactly (sameName text table) (Elements table n)
 
 pub never-wrong-name : NeverWrongName
 never-wrong-name text table n s f k name l q =
@@ -219,10 +237,21 @@ short-end room k (stopped j name-differs) e = let z : _≡_ {A = ℕ} 0 1 = cc i
 short-end room k (stopped j too-deep) e = let z : _≡_ {A = ℕ} 0 1 = cc in clash z
 short-end room k spent e = let z : _≡_ {A = ℕ} 0 1 = cc in clash z
 
+answer-short : (room : ℕ) (s : State) → room < 5 * length (rowsOf s) → answerOf room (read s) ≡ TableShort (room / 5)
+answer-short room s l = ap (λ (b : Bool). pickAnswer b (Tree (length (rowsOf s))) (TableShort (room / 5))) (lt-leb (5 * length (rowsOf s)) room l)
+
 pub is-short : IsShort
-is-short text table n room k e =
-    let t = short-end room k (readingIn text table n) e in
-    (t .0, (t .1 .0, (meaning.reads-files (sameName text table) (Elements table n) (t .1 .0) .0 (t .1 .1 .0), t .1 .1 .1)))
+is-short text table n room k = (
+  (λ e.
+      let t = short-end room k (readingIn text table n) e in
+      let l = t .1 .1 .1 in
+      (t .0, (t .1 .0, (meaning.reads-files (sameName text table) (Elements table n) (t .1 .0) .0 (t .1 .1 .0), omega arith)))),
+  λ f.
+      let s = f .1 .0 in
+      let r : readingIn text table n ≡ read s = meaning.reads-files (sameName text table) (Elements table n) s .1 (f .1 .1 .0) in
+      let l = f .1 .1 .1 in
+      ap (answerOf room) r ∙ answer-short room s (omega arith) ∙ ap TableShort (sym (f .0)),
+)
 
 zeros-end : (room : ℕ) (o : End State Refusal) → ((rows : ℕ) → answerOf room o ≡ Tree rows → ⊥) → tableOf room o ≡ replicate room 0
 zeros-end room (read s) d = go (leb (5 * length (rowsOf s)) room) d

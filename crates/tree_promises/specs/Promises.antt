@@ -16,6 +16,7 @@ use Rattle.forms.specs.Operators.{OperatorRight, EachRow}
 use Rattle.tree.specs.Answers.{terminalsOf, readingIn, wordsOf, answerOf, tableOf}
 use Rattle.tree.specs.declared.Answer.{Answer}
 use Rattle.tree.specs.declared.Answer.the-variants.{Tree, NoFile, NameDiffers, TooDeep, TableShort}
+use Rattle.tree_promises.specs.Due.{SomeDue, NoFileFirst, NameFirst, DepthFirst}
 
 -- what the first n elements are to the forms
 abbrev pub Elements : List ℕ → ℕ → List ℕ
@@ -48,8 +49,25 @@ HasRows =
 abbrev pub OneTree : Type 0
 OneTree = (text table : List ℕ) (n : ℕ) (s t : State) → File text table n s → File text table n t → s ≡ t
 
--- Refusal 5 is answered exactly where the elements are no file and neither 6 nor 7 comes first. Its place is exact: the elements before it
--- begin some file, and with the element at it, or at the text's end as they are, they begin none and are none.
+-- Refusals 5, 6 and 7 are answered exactly where 01 says: at the first place at which one of them is due, and of those that are due there
+-- the one that 01's table has first. Due.antt says when each is due, of the elements alone.
+abbrev pub NoFileExactly : Type 0
+NoFileExactly = (text table : List ℕ) (n room k : ℕ) → (Answered text table n room ≡ NoFile k) ↔ NoFileFirst (sameName text table) (Elements table n) k
+
+abbrev pub NameDiffersExactly : Type 0
+NameDiffersExactly = (text table : List ℕ) (n room k : ℕ) → (Answered text table n room ≡ NameDiffers k) ↔ NameFirst (sameName text table) (Elements table n) k
+
+abbrev pub TooDeepExactly : Type 0
+TooDeepExactly = (text table : List ℕ) (n room k : ℕ) → (Answered text table n room ≡ TooDeep k) ↔ DepthFirst (sameName text table) (Elements table n) k
+
+-- The elements are a file, with names that agree and never more than 32 open, exactly where none of the three is due at any place.
+abbrev pub FileExactly : Type 0
+FileExactly =
+    (text table : List ℕ) (n : ℕ)
+    → ((k : ℕ) → SomeDue (sameName text table) (Elements table n) k → ⊥) ↔ ((s : State) × File text table n s)
+
+-- Where refusal 5 is answered, its place is exact: the elements before it begin some file, and with the element at it, or at the text's end
+-- as they are, they begin none and are none.
 abbrev pub FirstWrong : Type 0
 FirstWrong =
     (text table : List ℕ) (n room k : ℕ) → Answered text table n room ≡ NoFile k
@@ -100,11 +118,11 @@ FirstDecides =
     × (Answered text table n room ≡ NameDiffers k → Begins (Elements table n) (suc k) × NamesRight text table n k × FewOpen table n (suc k))
     × (Answered text table n room ≡ TooDeep k → Begins (Elements table n) (suc k) × NamesRight text table n (suc k) × FewOpen table n k)
 
--- Refusal 8: the elements are a file, the table is short of its rows, and the place is the rows that it has.
+-- Refusal 8 is answered exactly where the elements are a file and the table is short of its rows, and the place is the rows that it has.
 abbrev pub IsShort : Type 0
 IsShort =
-    (text table : List ℕ) (n room k : ℕ) → Answered text table n room ≡ TableShort k
-    → (k ≡ room / 5) × ((s : State) × (File text table n s × (room < 5 * length (rowsOf s))))
+    (text table : List ℕ) (n room k : ℕ)
+    → (Answered text table n room ≡ TableShort k) ↔ ((k ≡ room / 5) × ((s : State) × (File text table n s × (room < 5 * length (rowsOf s)))))
 
 -- On a refusal the tree table is all zeros.
 abbrev pub ZerosElse : Type 0
