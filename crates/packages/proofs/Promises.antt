@@ -5,7 +5,7 @@ use mathlib.Core.List.{List, [], _∷_}
 use Prim.Native.Nat.{ℕ, zero, suc, _+_, _*_, _/_, _≤_, _<_}
 use native.Mathlib.Omega.{arith}
 use native.Mathlib.Nat.{add-zero, zero-add}
-use borrow.Author.Tests.{le-ltb, ltb-false}
+use borrow.Author.Tests.{le-ltb, lt-ltb, ltb-true, ltb-false}
 use lib.Dec.{ltb}
 use lib.ListN.{length, getD, replicate}
 use Rattle.records.specs.Tallies.{inState, countsFrom, tallyOf}
@@ -21,10 +21,12 @@ use Rattle.worded.specs.Elements.{piecesOf}
 use Rattle.packages.specs.Tables.{summedOf}
 use Rattle.packages.specs.Survey.{itemTable, marking, summary, byMarking, byReading, surveyOf, elementsAfter, itemsAfter}
 use Rattle.packages.specs.Refusals.{refusedBy}
-use Rattle.packages.specs.Promises.{NoChoice, ZerosOnRefusal, Surveyed, SaysOfRecords}
+use Rattle.packages.specs.Promises.{NoChoice, ZerosOnRefusal, Taken, Surveyed, ElementsExactly, TooManyExactly, ItemsShortExactly, SaysOfRecords}
 use Rattle.packages.specs.declared.Survey.{Survey}
 use Rattle.packages.specs.declared.Summary.{Summary}
 use Rattle.packages.specs.declared.SurveyRefusal.{SurveyRefusal}
+use Rattle.packages.specs.declared.SurveyRefusal.the-variants.{Elements, TooMany, ItemsShort}
+use Rattle.packages.specs.declared.Outcome.{Outcome}
 use Rattle.packages.specs.declared.Outcome.the-variants.{Done, Refused}
 use Rattle.packages.proofs.Joined.{marked-room}
 
@@ -57,10 +59,57 @@ pub zeros-on-refusal : ZerosOnRefusal
 unfolding elementsAfter itemsAfter surveyOf
 zeros-on-refusal s e i r h = (rw h, rw h, by-reading-refused (readingOf s e) s (elements.tableOf s e) i r h)
 
+-- what each outcome says of the text and the tables
+abbrev Said : List ℕ → ℕ → ℕ → Outcome → Type 0
+Said s e i (Done y) = Taken s e × (length (piecesOf s) ≤ 1024) × (8 * length (piecesOf s) ≤ i)
+Said s e i (Refused (Elements r)) = readingOf s e ≡ R.Refused r
+Said s e i (Refused TooMany) = Taken s e × (1024 < length (piecesOf s))
+Said s e i (Refused (ItemsShort k)) = Taken s e × (length (piecesOf s) ≤ 1024) × (i / 8 < length (piecesOf s)) × (k ≡ i / 8)
+
+said-marked : (s table : List ℕ) (e i : ℕ) → Taken s e → Said s e i (byMarking (marking (length (piecesOf s)) i) s table (itemTable s i) .outcome)
+unfolding marking summary summedOf
+said-marked s table e i t = go (ltb 1024 n) (ltb (i / 8) n) refl refl
+  where
+    n : ℕ
+    n = length (piecesOf s)
+
+    go : (a b : Bool) → ltb 1024 n ≡ a → ltb (i / 8) n ≡ b → Said s e i (byMarking (cond a M.TooMany (cond b (M.TableShort (i / 8)) (M.Marked n))) s table (itemTable s i) .outcome)
+    go true b p q = (t, ltb-true 1024 n p)
+    go false true p q = (t, ltb-false 1024 n p, ltb-true (i / 8) n q, refl)
+    go false false p q = (t, ltb-false 1024 n p, omega (arith, ltb-false (i / 8) n q))
+
+said : (s : List ℕ) (e i : ℕ) (o : Outcome) → surveyOf s e i .outcome ≡ o → Said s e i o
+unfolding surveyOf
+said s e i o h = subst (Said s e i) h (go (readingOf s e) refl)
+  where
+    go : (x : Reading) → readingOf s e ≡ x → Said s e i (byReading x s (elements.tableOf s e) i .outcome)
+    go (R.Refused r) q = q
+    go (R.Read n) q = said-marked s (elements.tableOf s e) e i (n, q)
+
 pub surveyed : Surveyed
 unfolding surveyOf marking summary summedOf
-surveyed s e i n h few room =
-    rw (h, le-ltb 1024 (length (piecesOf s)) few, le-ltb (i / 8) (length (piecesOf s)) (omega arith)) (_, (refl, refl))
+surveyed s e i = (
+  (λ d. said s e i (Done (d .0)) (d .1)),
+  λ x.
+      let few = x .1 in
+      let room = x .2 in
+      rw (x .0 .1, le-ltb 1024 (length (piecesOf s)) few, le-ltb (i / 8) (length (piecesOf s)) (omega arith)) (_, refl),
+)
+
+pub elements-exactly : ElementsExactly
+unfolding surveyOf
+elements-exactly s e i r = (said s e i (Refused (Elements r)), λ h. rw h)
+
+pub too-many-exactly : TooManyExactly
+unfolding surveyOf marking
+too-many-exactly s e i = (said s e i (Refused TooMany), λ x. rw (x .0 .1, lt-ltb 1024 (length (piecesOf s)) (x .1)))
+
+pub items-short-exactly : ItemsShortExactly
+unfolding surveyOf marking
+items-short-exactly s e i k = (
+  said s e i (Refused (ItemsShort k)),
+  λ x. rw (x .0 .1, le-ltb 1024 (length (piecesOf s)) (x .1), lt-ltb (i / 8) (length (piecesOf s)) (x .2), x .3),
+)
 
 -- the counts of a tally, one by one
 count-at : (items : List ℕ) (n k m j : ℕ) → j < m → getD (countsFrom items n k m) j 0 ≡ inState (k + j) items 0 n

@@ -1,6 +1,7 @@
 -- What the survey promises beside its contract, as statements: proofs/Promises.antt proves each. Assumes nothing: these are definitions.
-use Prim.Native.Nat.{ℕ, _*_, _≤_}
+use Prim.Native.Nat.{ℕ, _*_, _/_, _≤_, _<_}
 use mathlib.Core.Path.{_≡_}
+use mathlib.Core.Logic.{_↔_}
 use mathlib.Core.Bool.{Bool, true}
 use mathlib.Core.List.{List}
 use lib.ListN.{length, getD, replicate}
@@ -11,6 +12,7 @@ use Rattle.reading.specs.Reading.{readingOf}
 use Rattle.reading.specs.Reading as elements
 use Rattle.reading.specs.declared.ElementNumber.{ElementNumber}
 use Rattle.reading.specs.declared.Reading.the-variants as R
+use Rattle.reading.specs.declared.Refusal.{Refusal}
 use Rattle.worded.specs.Elements.{piecesOf}
 use Rattle.packages.specs.Survey.{surveyOf, elementsAfter, itemsAfter, itemTable}
 use Rattle.packages.specs.Refusals.{refusedBy}
@@ -18,6 +20,7 @@ use Rattle.packages.specs.declared.Survey.{Survey}
 use Rattle.packages.specs.declared.Summary.{Summary}
 use Rattle.packages.specs.declared.Outcome.the-variants.{Done, Refused}
 use Rattle.packages.specs.declared.SurveyRefusal.{SurveyRefusal}
+use Rattle.packages.specs.declared.SurveyRefusal.the-variants.{Elements, TooMany, ItemsShort}
 
 -- Any two permitted answers coincide: what `read_survey` ensures leaves no choice.
 abbrev pub NoChoice : Type 0
@@ -32,11 +35,30 @@ ZerosOnRefusal =
     (s : List ℕ) (e i : ℕ) (r : SurveyRefusal) → surveyOf s e i .outcome ≡ Refused r
     → (elementsAfter s e i ≡ replicate e 0) × (itemsAfter s e i ≡ replicate i 0) × (surveyOf s e i ≡ refusedBy r)
 
+-- the element reader takes the text: none of 1, 3, 4 is given
+abbrev pub Taken : List ℕ → ℕ → Type 0
+Taken s e = (n : ElementNumber) × (readingOf s e ≡ R.Read n)
+
 -- A text is surveyed exactly when the element reader takes it and its pieces are at most 1,024, with a record to each.
 abbrev pub Surveyed : Type 0
 Surveyed =
-    (s : List ℕ) (e i : ℕ) (n : ElementNumber) → readingOf s e ≡ R.Read n → length (piecesOf s) ≤ 1024 → 8 * length (piecesOf s) ≤ i
-    → (y : Summary) × ((surveyOf s e i .outcome ≡ Done y) × (y .pieces ≡ length (piecesOf s)))
+    (s : List ℕ) (e i : ℕ)
+    → ((y : Summary) × (surveyOf s e i .outcome ≡ Done y)) ↔ (Taken s e × (length (piecesOf s) ≤ 1024) × (8 * length (piecesOf s) ≤ i))
+
+-- Refusals 1, 3, 4 are given exactly when the element reader gives them.
+abbrev pub ElementsExactly : Type 0
+ElementsExactly = (s : List ℕ) (e i : ℕ) (r : Refusal) → (surveyOf s e i .outcome ≡ Refused (Elements r)) ↔ (readingOf s e ≡ R.Refused r)
+
+-- Refusal 9 is given exactly when the element reader takes the text and its pieces are more than 1,024.
+abbrev pub TooManyExactly : Type 0
+TooManyExactly = (s : List ℕ) (e i : ℕ) → (surveyOf s e i .outcome ≡ Refused TooMany) ↔ (Taken s e × (1024 < length (piecesOf s)))
+
+-- Refusal 10 is given exactly when the element reader takes the text, its pieces are at most 1,024 and the item table has fewer records than
+-- that; its place is the records that it has.
+abbrev pub ItemsShortExactly : Type 0
+ItemsShortExactly =
+    (s : List ℕ) (e i k : ℕ)
+    → (surveyOf s e i .outcome ≡ Refused (ItemsShort k)) ↔ (Taken s e × (length (piecesOf s) ≤ 1024) × (i / 8 < length (piecesOf s)) × (k ≡ i / 8))
 
 -- What a survey that is done says: the frame and the first pair are those of its records, and each count of the tally is the number of items
 -- in that state.
