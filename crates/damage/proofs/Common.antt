@@ -4,7 +4,7 @@ use Prim.Native.Nat.{ℕ, suc, _+_, _≤_, _<_}
 use mathlib.Core.Path.{_≡_, refl, sym, ap, ap₂, subst, _∙_}
 use mathlib.Core.Logic.{_⊎_, inl, inr}
 use mathlib.Core.Bool.{Bool, true, false, _||_}
-use mathlib.Core.List.{List, [], _∷_, _++_, append-assoc}
+use mathlib.Core.List.{List, [], _∷_, _++_, append-assoc, append-nil}
 use native.Mathlib.Nat.{zero-add, le-refl}
 use native.Mathlib.Omega.{arith}
 use borrow.Author.Tests.{ltb-true, ltb-false}
@@ -48,10 +48,10 @@ pub record Parted (S T : Part) (n k : ℕ) : Type 0 where
   pub below-lies : Lying k end below
 
 -- a line that is not one of those
-abbrev Out : ℕ → ℕ → Placed → Type 0
+abbrev pub Out : ℕ → ℕ → Placed → Type 0
 Out n k x = (x .line < n) ⊎ (k ≤ x .line)
 
-abbrev AllOut : ℕ → ℕ → Part → Type 0
+abbrev pub AllOut : ℕ → ℕ → Part → Type 0
 AllOut n k [] = Unit {0}
 AllOut n k (x ∷ p) = Out n k x × AllOut n k p
 
@@ -119,19 +119,19 @@ piece-in S ps p qs e x h =
     subst (λ l. In x l) (sym (st .0))
     (in-right x (joinAll closesPart opensPart ps) (p ++ joinAll closesPart opensPart qs) (in-left x p (joinAll closesPart opensPart qs) h))
 
-none-out : (n : ℕ) (p : Part) → NoneOf n p → AllOut n (suc n) p
+-- of a piece of each text, the same element for element and none of the lines that differ
+pub one-piece : (S T : Part) (n k : ℕ) → Parted S T n k → Rising Before S → (ps qs ps′ qs′ : List Part) (p q : Part)
+    → cut closesPart opensPart S ≡ ps ++ p ∷ qs → cut closesPart opensPart T ≡ ps′ ++ q ∷ qs′ → SameEach p q → AllOut n k p → p ≡ q
+one-piece S T n k d r ps qs ps′ qs′ p q e f s o = one-part S T n k d r p q s o (piece-in S ps p qs e) (piece-in T ps′ q qs′ f)
+
+-- none of one line
+pub none-out : (n : ℕ) (p : Part) → NoneOf n p → AllOut n (suc n) p
 none-out n [] h = tt
 none-out n (x ∷ p) h = (go (ltb (x .line) n) refl, none-out n p (h .1))
   where
     go : (b : Bool) → ltb (x .line) n ≡ b → Out n (suc n) x
     go true e = inl (ltb-true (x .line) n e)
     go false e = inr (omega (arith, h .0, ltb-false (x .line) n e))
-
--- of a piece of each text, the same element for element and none of line n
-pub one-piece : (S T : Part) (n : ℕ) → Parted S T n (suc n) → Rising Before S → (ps qs ps′ qs′ : List Part) (p q : Part)
-    → cut closesPart opensPart S ≡ ps ++ p ∷ qs → cut closesPart opensPart T ≡ ps′ ++ q ∷ qs′ → SameEach p q → NoneOf n p → p ≡ q
-one-piece S T n d r ps qs ps′ qs′ p q e f s o =
-    one-part S T n (suc n) d r p q s (none-out n p o) (piece-in S ps p qs e) (piece-in T ps′ q qs′ f)
 
 -- two ways to part a list
 overlap : (u b v c : Part) → u ++ b ≡ v ++ c
@@ -273,39 +273,54 @@ lying-none m k n (x ∷ p) h o = ((λ e. not-here o e), lying-none m k n p (h .2
     not-here (inl a) e = omega (arith, h .1)
     not-here (inr a) e = omega (arith, h .0)
 
--- the elements of a text that has a line between two others
-module _ (before middle after : List ℕ) (w : Whole before) (i : Inside middle) (e : Ended after) (n : ℕ) (c : length (w .lines) ≡ n) where
-  text-lines : linesOf (before ++ (middle ++ after)) ≡ w .lines ++ middle ∷ linesBehind after
-  text-lines = w .apart (middle ++ after) ∙ ap (λ (ls : List (List ℕ)). w .lines ++ ls) (line-apart middle after i e)
+-- the elements of lines above, of a run of lines, and of lines below, of which the first is counted as number k
+abbrev pub counted : List (List ℕ) → List (List ℕ) → ℕ → List (List ℕ) → Part
+counted above run k below = placedLines 0 above ++ (placedLines (length above) run ++ placedLines k below)
 
-  text-parts : placedIn (before ++ (middle ++ after)) ≡ placedLines 0 (w .lines) ++ (placedRows n middle (rowsOf middle) ++ placedLines (suc n) (linesBehind after))
-  unfolding placedIn placedLines
-  text-parts =
-      ap (placedLines 0) text-lines ∙ lines-append 0 (w .lines) (middle ∷ linesBehind after)
-      ∙ ap (λ (m : ℕ). placedLines 0 (w .lines) ++ placedLines m (middle ∷ linesBehind after)) (zero-add (length (w .lines)) ∙ c)
+lines-within : (n k : ℕ) (ls : List (List ℕ)) → n + length ls ≤ k → Lying n k (placedLines n ls)
+lines-within n k ls h = lying-wider n (n + length ls) n k (placedLines n ls) (le-refl n) h (lines-lying n ls)
 
-rows-lie : (n : ℕ) (l : List ℕ) → Lying n (suc n) (placedRows n l (rowsOf l))
-rows-lie n l = rows-lying n l (rowsOf l)
+-- two texts in which one run of lines stands in another's place, the lines below counted alike
+pub runs-parted : (above old new below : List (List ℕ)) (k : ℕ) → length above + length old ≤ k → length above + length new ≤ k
+    → Parted (counted above old k below) (counted above new k below) (length above) k
+runs-parted above old new below k h g =
+    record {
+      above = placedLines 0 above;
+      old = placedLines (length above) old;
+      new = placedLines (length above) new;
+      below = placedLines k below;
+      end = k + length below;
+      rise = omega arith;
+      first = refl;
+      second = refl;
+      above-lies = subst (λ (m : ℕ). Lying 0 m (placedLines 0 above)) (zero-add (length above)) (lines-lying 0 above);
+      old-lies = lines-within (length above) k old h;
+      new-lies = lines-within (length above) k new g;
+      below-lies = lines-lying k below;
+    }
+
+-- a text that has a line between two others
+text-counted : (before middle after : List ℕ) (w : Whole before) → Inside middle → Ended after
+    → placedIn (before ++ (middle ++ after)) ≡ counted (w .lines) (middle ∷ []) (suc (length (w .lines))) (linesBehind after)
+unfolding placedIn placedLines
+text-counted before middle after w i e =
+    ap (placedLines 0) (w .apart (middle ++ after) ∙ ap (λ (ls : List (List ℕ)). w .lines ++ ls) (line-apart middle after i e))
+    ∙ lines-append 0 (w .lines) (middle ∷ linesBehind after)
+    ∙ ap (λ (m : ℕ). placedLines 0 (w .lines) ++ placedLines m (middle ∷ linesBehind after)) (zero-add (length (w .lines)))
+    ∙ ap (λ (p : Part). placedLines 0 (w .lines) ++ (p ++ placedLines (suc (length (w .lines))) (linesBehind after))) (sym (append-nil (placedRows (length (w .lines)) middle (rowsOf middle))))
 
 -- two texts that differ inside one line are parted there
 pub parted : (s t : List ℕ) (d : OneLine s t) → Parted (placedIn s) (placedIn t) (lineNumber d) (suc (lineNumber d))
 parted s t d =
     let w : Whole (d .before) = whole (d .before) (d .begun) in
-    let n : ℕ = lineNumber d in
-    record {
-      above = placedLines 0 (w .lines);
-      old = placedRows n (d .middle) (rowsOf (d .middle));
-      new = placedRows n (d .changed) (rowsOf (d .changed));
-      below = placedLines (suc n) (linesBehind (d .after));
-      end = suc n + length (linesBehind (d .after));
-      rise = omega arith;
-      first = ap placedIn (d .first) ∙ text-parts (d .before) (d .middle) (d .after) w (d .inside) (d .ended) n (w .count);
-      second = ap placedIn (d .second) ∙ text-parts (d .before) (d .changed) (d .after) w (d .inside-changed) (d .ended) n (w .count);
-      above-lies = subst (λ (m : ℕ). Lying 0 m (placedLines 0 (w .lines))) (zero-add (length (w .lines)) ∙ w .count) (lines-lying 0 (w .lines));
-      old-lies = rows-lie n (d .middle);
-      new-lies = rows-lie n (d .changed);
-      below-lies = lines-lying (suc n) (linesBehind (d .after));
-    }
+    let e : placedIn s ≡ counted (w .lines) (d .middle ∷ []) (suc (length (w .lines))) (linesBehind (d .after)) =
+    ap placedIn (d .first) ∙ text-counted (d .before) (d .middle) (d .after) w (d .inside) (d .ended) in
+    let f : placedIn t ≡ counted (w .lines) (d .changed ∷ []) (suc (length (w .lines))) (linesBehind (d .after)) =
+    ap placedIn (d .second) ∙ text-counted (d .before) (d .changed) (d .after) w (d .inside-changed) (d .ended) in
+    let z = runs-parted (w .lines) (d .middle ∷ []) (d .changed ∷ []) (linesBehind (d .after)) (suc (length (w .lines))) (omega arith) (omega arith) in
+    subst (λ (n : ℕ). Parted (placedIn s) (placedIn t) n (suc n)) (w .count)
+    (subst (λ (S : Part). Parted S (placedIn t) (length (w .lines)) (suc (length (w .lines)))) (sym e)
+    (subst (λ (T′ : Part). Parted (counted (w .lines) (d .middle ∷ []) (suc (length (w .lines))) (linesBehind (d .after))) T′ (length (w .lines)) (suc (length (w .lines)))) (sym f) z))
 
 pub same-each : (p : Part) → SameEach p p
 same-each [] = tt

@@ -23,7 +23,7 @@ use Rattle.damage.specs.Damage.{PlacesAdded, OneLine, lineNumber, NoneOf
 use Rattle.damage.proofs.Order.{in-left, in-middle, Rising, rising-left, rising-between, ordered, earlier, passing-in, in-passing, rising-passing, one-list}
 use Rattle.damage.proofs.Lines.{Before, before-never, before-both, places-added, places-true, placed-rising}
 use Rattle.damage.proofs.Cuts.{Ahead, ahead-never, ahead-both, cut-rising}
-use Rattle.damage.proofs.Common.{flip, parted, one-piece, piece-of, of-piece}
+use Rattle.damage.proofs.Common.{flip, parted, one-piece, none-out, piece-of, of-piece}
 use Rattle.damage.proofs.Agreeing.{claims-on, value-on}
 use Rattle.damage.proofs.Above.{each-append, dones-append, dones-length, claimants, claims-count, NoClaim, FirstClaim, first-claim, none-claimed, none-first, some-claimed, some-first, use-on}
 
@@ -54,22 +54,21 @@ unfolding partsOf
 parts-rising s = cut-rising closesPart opensPart Before (placedIn s) (placed-rising s)
 
 -- one way leads on to another
-leads-on : (s : List ℕ) (p q r : Part) → LeadsTo s p q → LeadsTo s q r → LeadsTo s p r
-leads-on s p q r h itself = h
-leads-on s p q r h (through x k u c a) = through x (leads-on s p q _ h k) u c a
+leads-on : (P : List Part) (p q r : Part) → LeadsTo P p q → LeadsTo P q r → LeadsTo P p r
+leads-on P p q r h itself = h
+leads-on P p q r h (through x k u c a) = through x (leads-on P p q _ h k) u c a
 
--- an item all of whose names are claimed by pieces of both texts alone
-abbrev Clear : List ℕ → List ℕ → Part → Type 0
-Clear s t p =
-    (x : Element) → Concerns s p x → (q : Part) → In q (partsOf s) ⊎ In q (partsOf t) → claims x (bare q) ≡ true → In q (partsOf s) × In q (partsOf t)
+-- an item of the pieces P all of whose names are claimed by pieces of P and Q alone
+abbrev pub Clear : List Part → List Part → Part → Type 0
+Clear P Q p = (x : Element) → Concerns P p x → (q : Part) → In q P ⊎ In q Q → claims x (bare q) ≡ true → In q P × In q Q
 
 -- so is one that it leads to
-clear-on : (s t : List ℕ) (p q : Part) (x : Element) → Clear s t p → UsesName (bare p) x → claims x (bare q) ≡ true → Above s q p → Clear s t q
-clear-on s t p q x f u c a y (inl own) r i h =
+clear-on : (P Q : List Part) (p q : Part) (x : Element) → Clear P Q p → UsesName (bare p) x → claims x (bare q) ≡ true → Above P q p → Clear P Q q
+clear-on P Q p q x f u c a y (inl own) r i h =
     f x (inr (p, itself, u)) r i (claims-on x (bare q) (bare r) c (subst (λ z. claims z (bare r) ≡ true) (own .1) h))
-clear-on s t p q x f u c a y (inr (r, l, v)) w i h = f y (inr (r, leads-on s p q r (through x itself u c a) l, v)) w i h
+clear-on P Q p q x f u c a y (inr (r, l, v)) w i h = f y (inr (r, leads-on P p q r (through x itself u c a) l, v)) w i h
 
-abbrev Ordered : List Part → Type 0
+abbrev pub Ordered : List Part → Type 0
 Ordered = Rising (Ahead Before)
 
 abbrev never : (p : Part) → Ahead Before p p → ⊥
@@ -130,23 +129,24 @@ module _ (P Q a b a′ b′ : List Part) (p : Part) (r : Ordered P) (o : Ordered
       go (inr (inr z)) = absurd (not-ahead a k (rising-left (Ahead Before) a (p ∷ b) (subst Ordered e r)) (k′ .claimant) (back (k′ .claimant) (split-in k′) (k′ .claimed)) (k′ .claimed) z)
 
 -- what p comes to below the pieces a
-abbrev worth : List Piece → List Part → Part → Value
+abbrev pub worth : List Piece → List Part → Part → Value
 worth all a p = valueOf all (donesFrom all [] (bareEach a)) (bare p)
 
-module _ (s t : List ℕ) where
-  abbrev first-all : List Piece
-  first-all = bareEach (partsOf s)
+-- what an item comes to among the pieces P and among the pieces Q, whatever texts they are of
+module _ (P Q : List Part) (r : Ordered P) (o : Ordered Q) where
+  abbrev pub first-all : List Piece
+  first-all = bareEach P
 
-  abbrev second-all : List Piece
-  second-all = bareEach (partsOf t)
+  abbrev pub second-all : List Piece
+  second-all = bareEach Q
 
-  abbrev Value-same : ℕ → Type 0
+  abbrev pub Value-same : ℕ → Type 0
   Value-same n =
-      (p : Part) (a b a′ b′ : List Part) → partsOf s ≡ a ++ p ∷ b → partsOf t ≡ a′ ++ p ∷ b′ → length a < n → Clear s t p → worth first-all a p ≡ worth second-all a′ p
+      (p : Part) (a b a′ b′ : List Part) → P ≡ a ++ p ∷ b → Q ≡ a′ ++ p ∷ b′ → length a < n → Clear P Q p → worth first-all a p ≡ worth second-all a′ p
 
   -- a name that p uses
-  module _ (n : ℕ) (ih : Value-same n) (p : Part) (a b a′ b′ : List Part) (e : partsOf s ≡ a ++ p ∷ b) (e′ : partsOf t ≡ a′ ++ p ∷ b′) (l : length a < suc n) (c : Clear s t p) (x : Element) (u : UsesName (bare p) x) where
-    clear-here : (q : Part) → In q (partsOf s) ⊎ In q (partsOf t) → claims x (bare q) ≡ true → In q (partsOf s) × In q (partsOf t)
+  module _ (n : ℕ) (ih : Value-same n) (p : Part) (a b a′ b′ : List Part) (e : P ≡ a ++ p ∷ b) (e′ : Q ≡ a′ ++ p ∷ b′) (l : length a < suc n) (c : Clear P Q p) (x : Element) (u : UsesName (bare p) x) where
+    clear-here : (q : Part) → In q (P) ⊎ In q (Q) → claims x (bare q) ≡ true → In q (P) × In q (Q)
     clear-here = c x (inr (p, itself, u))
 
     abbrev Found : Type 0
@@ -160,13 +160,13 @@ module _ (s t : List ℕ) where
 
     found-some : FirstClaim x a → FirstClaim x a′ → Found
     found-some k k′ =
-        let z : k .claimant ≡ k′ .claimant = same-first (partsOf s) (partsOf t) a b a′ b′ p (parts-rising s) (parts-rising t) e e′ x clear-here k k′ in
+        let z : k .claimant ≡ k′ .claimant = same-first P Q a b a′ b′ p r o e e′ x clear-here k k′ in
         let w : a′ ≡ k′ .early ++ k .claimant ∷ k′ .late = k′ .split ∙ ap (λ (q : Part). k′ .early ++ q ∷ k′ .late) (sym z) in
-        let g : partsOf s ≡ k .early ++ k .claimant ∷ (k .late ++ p ∷ b) = e ∙ ap (λ (m : List Part). m ++ p ∷ b) (k .split) ∙ append-assoc (k .early) (k .claimant ∷ k .late) (p ∷ b) in
-        let g′ : partsOf t ≡ k′ .early ++ k .claimant ∷ (k′ .late ++ p ∷ b′) = e′ ∙ ap (λ (m : List Part). m ++ p ∷ b′) w ∙ append-assoc (k′ .early) (k .claimant ∷ k′ .late) (p ∷ b′) in
+        let g : P ≡ k .early ++ k .claimant ∷ (k .late ++ p ∷ b) = e ∙ ap (λ (m : List Part). m ++ p ∷ b) (k .split) ∙ append-assoc (k .early) (k .claimant ∷ k .late) (p ∷ b) in
+        let g′ : Q ≡ k′ .early ++ k .claimant ∷ (k′ .late ++ p ∷ b′) = e′ ∙ ap (λ (m : List Part). m ++ p ∷ b′) w ∙ append-assoc (k′ .early) (k .claimant ∷ k′ .late) (p ∷ b′) in
         let v : worth first-all (k .early) (k .claimant) ≡ worth second-all (k′ .early) (k .claimant) =
         ih (k .claimant) (k .early) (k .late ++ p ∷ b) (k′ .early) (k′ .late ++ p ∷ b′) g g′ (omega (arith, l, ap length (k .split), length-append (k .early) (k .claimant ∷ k .late)))
-        (clear-on s t p (k .claimant) x c u (k .claimed) (k .early, k .late, b, g)) in
+        (clear-on P Q p (k .claimant) x c u (k .claimed) (k .early, k .late, b, g)) in
         let d : claims x (bare (k .claimant)) ≡ true = k .claimed in (
           ap (λ (m : List Part). claimedAbove x (donesFrom first-all [] (bareEach m))) (k .split) ∙ some-claimed first-all x [] (k .early) (k .claimant) (k .late) d
               ∙ sym (ap (λ (m : List Part). claimedAbove x (donesFrom second-all [] (bareEach m))) w ∙ some-claimed second-all x [] (k′ .early) (k .claimant) (k′ .late) d),
@@ -178,25 +178,25 @@ module _ (s t : List ℕ) where
     found : FirstClaim x a ⊎ NoClaim x a → FirstClaim x a′ ⊎ NoClaim x a′ → Found
     found (inl k) (inl k′) = found-some k k′
     found (inl k) (inr h′) =
-        absurd (false≢true (sym (h′ (k .claimant) (there (partsOf s) (partsOf t) a b a′ b′ p (parts-rising s) (parts-rising t) e e′ x clear-here (k .claimant) (split-in k) (k .claimed))) ∙ k .claimed))
+        absurd (false≢true (sym (h′ (k .claimant) (there P Q a b a′ b′ p r o e e′ x clear-here (k .claimant) (split-in k) (k .claimed))) ∙ k .claimed))
     found (inr h) (inl k′) =
-        absurd (false≢true (sym (h (k′ .claimant) (back (partsOf s) (partsOf t) a b a′ b′ p (parts-rising s) (parts-rising t) e e′ x clear-here (k′ .claimant) (split-in k′) (k′ .claimed))) ∙ k′ .claimed))
+        absurd (false≢true (sym (h (k′ .claimant) (back P Q a b a′ b′ p r o e e′ x clear-here (k′ .claimant) (split-in k′) (k′ .claimed))) ∙ k′ .claimed))
     found (inr h) (inr h′) = found-none h h′
 
     same-use : useOf first-all (donesFrom first-all [] (bareEach a)) x ≡ useOf second-all (donesFrom second-all [] (bareEach a′)) x
     same-use =
         let z = found (first-claim x a) (first-claim x a′) in
         use-on first-all second-all (donesFrom first-all [] (bareEach a)) (donesFrom second-all [] (bareEach a′)) x
-        (same-count (partsOf s) (partsOf t) (parts-rising s) (parts-rising t) x clear-here) (z .0) (z .1)
+        (same-count P Q r o x clear-here) (z .0) (z .1)
 
-  same-doubled : (p : Part) → Clear s t p → ownDoubled first-all (bare p) ≡ ownDoubled second-all (bare p)
+  same-doubled : (p : Part) → Clear P Q p → ownDoubled first-all (bare p) ≡ ownDoubled second-all (bare p)
   same-doubled p c = go (isClaim (classOf (bare p))) refl
     where
       go : (b : Bool) → isClaim (classOf (bare p)) ≡ b → (b && leb 2 (claimsIn (ownName (bare p)) first-all)) ≡ (b && leb 2 (claimsIn (ownName (bare p)) second-all))
-      go true h = ap (λ (n : ℕ). leb 2 n) (same-count (partsOf s) (partsOf t) (parts-rising s) (parts-rising t) (ownName (bare p)) (c (ownName (bare p)) (inl (h, refl))))
+      go true h = ap (λ (n : ℕ). leb 2 n) (same-count P Q r o (ownName (bare p)) (c (ownName (bare p)) (inl (h, refl))))
       go false h = refl
 
-  same-value : (n : ℕ) → Value-same n
+  pub same-value : (n : ℕ) → Value-same n
   same-value zero p a b a′ b′ e e′ l c = absurd (omega arith)
   same-value (suc n) p a b a′ b′ e e′ l c =
       value-on first-all second-all (donesFrom first-all [] (bareEach a)) (donesFrom second-all [] (bareEach a′)) (bare p) (same-doubled p c)
@@ -251,14 +251,16 @@ module _ (s t : List ℕ) (d : OneLine s t) where
 
   one : (p q : Part) → PieceOf s p → PieceOf t q → SameEach p q → NoneOf changed p → p ≡ q
   unfolding partsOf
-  one p q i j = one-piece (placedIn s) (placedIn t) changed (parted s t d) (placed-rising s) (i .above) (i .below) (j .above) (j .below) p q (i .split) (j .split)
+  one p q i j e n =
+      one-piece (placedIn s) (placedIn t) changed (suc changed) (parted s t d) (placed-rising s) (i .above) (i .below) (j .above) (j .below) p q (i .split) (j .split) e (none-out changed p n)
 
   other : (p q : Part) → PieceOf t p → PieceOf s q → SameEach p q → NoneOf changed p → p ≡ q
   unfolding partsOf
-  other p q i j =
-      one-piece (placedIn t) (placedIn s) changed (flip (placedIn s) (placedIn t) changed (suc changed) (parted s t d)) (placed-rising t) (i .above) (i .below) (j .above) (j .below) p q (i .split) (j .split)
+  other p q i j e n =
+      one-piece (placedIn t) (placedIn s) changed (suc changed) (flip (placedIn s) (placedIn t) changed (suc changed) (parted s t d)) (placed-rising t) (i .above) (i .below) (j .above) (j .below) p q (i .split) (j .split) e
+      (none-out changed p n)
 
-  clear : (p : Part) → Undisturbed s t changed p → Clear s t p
+  clear : (p : Part) → Undisturbed s t changed p → Clear (partsOf s) (partsOf t) p
   clear p u x c r (inl h) k =
       let z = u x c r (inl (piece-of s r h)) k in
       (h, subst (λ q. In q (partsOf t)) (sym (one r (z .1 .0) (piece-of s r h) (z .1 .1) (z .1 .2) (z .2))) (of-piece t (z .1 .0) (z .1 .1)))
@@ -270,5 +272,5 @@ pub same-answer : SameAnswer
 same-answer s t d p q i j e n u more others k low high =
     let z : p ≡ q = one s t d p q i j e n in
     let w : partsOf t ≡ j .above ++ p ∷ j .below = j .split ∙ ap (λ (r : Part). j .above ++ r ∷ j .below) (sym z) in
-    let v = same-value s t (suc (length (i .above))) p (i .above) (i .below) (j .above) (j .below) (i .split) w (le-refl _) (clear s t d p u) in
+    let v = same-value (partsOf s) (partsOf t) (parts-rising s) (parts-rising t) (suc (length (i .above))) p (i .above) (i .below) (j .above) (j .below) (i .split) w (le-refl _) (clear s t d p u) in
     record-word s p i more k low high ∙ ap (answer p k) v ∙ sym (record-word t p (record { above = j .above; below = j .below; split = w }) others k low high)

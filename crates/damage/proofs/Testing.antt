@@ -147,13 +147,13 @@ module _ (s t : List ℕ) (d : OneLine s t) (p : Part) (i : PieceOf s p) (names 
       let y = any-in (λ y. sameAs x y) names h in
       in-any (λ y. claims y (bare r)) names (y .0) (y .1) (claims-as x (y .0) (bare r) c (y .2))
 
-  leads-any : (q : Part) → LeadsTo s p q → In q (partsOf s) × (claimsAny names q ≡ true)
+  leads-any : (q : Part) → LeadsTo (partsOf s) p q → In q (partsOf s) × (claimsAny names q ≡ true)
   leads-any q itself = (of-piece s p i, own)
   leads-any q (through {q = r} x l u c a) =
       let z = leads-any r l in
       (subst (λ m. In q m) (sym (a .3)) (in-middle q (a .0) (a .1 ++ r ∷ a .2)), any-claims x q (uses-any r x (z .0) (z .1) u) c)
 
-  concerns-any : (x : Element) → Concerns s p x → isAny names x ≡ true
+  concerns-any : (x : Element) → Concerns (partsOf s) p x → isAny names x ≡ true
   concerns-any x (inl h) =
       let y = any-in (λ y. claims y (bare p)) names own in
       in-any (λ y. sameAs x y) names (y .0) (y .1) (subst (λ z. sameAs z (y .0) ≡ true) (sym (h .1)) (claims-own (y .0) (bare p) (y .2)))

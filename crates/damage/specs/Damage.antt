@@ -71,27 +71,27 @@ Common s t n p = Has s p × Has t p × NoneOf n p
 abbrev pub UsesName : Piece → Element → Type 0
 UsesName p x = (r : Row) × In r (rowsOfPiece (kinds p)) × ((r .form ≡ 24) ⊎ (r .form ≡ 31)) × (x ≡ at p (r .first))
 
--- "Names resolve upward only": q stands above p
-abbrev pub Above : List ℕ → Part → Part → Type 0
-Above text q p = (a : List Part) × (b : List Part) × (c : List Part) × (partsOf text ≡ a ++ q ∷ (b ++ p ∷ c))
+-- "Names resolve upward only": of the pieces of a text, q stands above p
+abbrev pub Above : List Part → Part → Part → Type 0
+Above pieces q p = (a : List Part) × (b : List Part) × (c : List Part) × (pieces ≡ a ++ q ∷ (b ++ p ∷ c))
 
 -- "or through other items": p leads to itself, and to each item above one that it leads to and claiming a name that this one uses
-pub data LeadsTo (text : List ℕ) (p : Part) : Part → Type 0 where
-  itself : LeadsTo text p p
-  through : {q r : Part} (x : Element) → LeadsTo text p q → UsesName (bare q) x → claims x (bare r) ≡ true → Above text r q → LeadsTo text p r
+pub data LeadsTo (pieces : List Part) (p : Part) : Part → Type 0 where
+  itself : LeadsTo pieces p p
+  through : {q r : Part} (x : Element) → LeadsTo pieces p q → UsesName (bare q) x → claims x (bare r) ≡ true → Above pieces r q → LeadsTo pieces p r
 
 -- "its own name"
 abbrev pub OwnName : Piece → Element → Type 0
 OwnName p x = (isClaim (classOf p) ≡ true) × (x ≡ ownName p)
 
 -- "its own name" or "any name it uses, directly or through other items"; for the demand one of the two texts is enough
-abbrev pub Concerns : List ℕ → Part → Element → Type 0
-Concerns text p x = OwnName (bare p) x ⊎ ((q : Part) × LeadsTo text p q × UsesName (bare q) x)
+abbrev pub Concerns : List Part → Part → Element → Type 0
+Concerns pieces p x = OwnName (bare p) x ⊎ ((q : Part) × LeadsTo pieces p q × UsesName (bare q) x)
 
 -- "neither its own name nor any name it uses .. is claimed in either text by a piece not common to both"
 abbrev pub Undisturbed : List ℕ → List ℕ → ℕ → Part → Type 0
 Undisturbed s t n p =
-    (x : Element) → Concerns s p x → (q : Part) → PieceOf s q ⊎ PieceOf t q → claims x (bare q) ≡ true → Common s t n q
+    (x : Element) → Concerns (partsOf s) p x → (q : Part) → PieceOf s q ⊎ PieceOf t q → claims x (bare q) ≡ true → Common s t n q
 
 -- "it has the same state, kind and number in both": the words 4 to 7 of its record in each of the two item tables, whatever stands behind the
 -- records
