@@ -6,12 +6,6 @@ use console::surveys::Shown;
 use libc::STDIN_FILENO;
 ghost use Prim.Native.Nat.{_≤_};
 
-fn least(a: usize, b: usize) -> usize
-    ensures { λ r. ⌜ r ≤ b ⌝ }
-{
-    if a <= b { a } else { b }
-}
-
 fn wide(b: u8) -> usize
     ensures { λ r. ⌜ r ≤ 255 ⌝ }
 {
@@ -55,7 +49,7 @@ fn one(head: &mut [u8], text: &mut [u8], table: &mut [u64], others: &mut [u64]) 
     if n < 10 {
         return false;
     }
-    let size = least(number_at(head, 7), text.len());
+    let size = lent::least(number_at(head, 7), text.len());
     let Got::Bytes(k) = console::read_text(STDIN_FILENO, &mut text[..size]) else {
         return false;
     };

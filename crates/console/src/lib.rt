@@ -8,7 +8,6 @@ use verdict::Verdict;
 pub mod surveys; // what is printed of a survey
 
 ghost use mathlib.Core.Path.{_≡_};
-ghost use Prim.Native.Nat.{_≤_};
 ghost use lib.ListN.{take};
 
 // How many bytes were read, or that a read failed.
@@ -112,15 +111,9 @@ fn element_lines(t: &[u64], count: usize) {
     }
 }
 
-fn least(a: usize, b: usize) -> usize
-    ensures { λ r. ⌜ r ≤ b ⌝ }
-{
-    if a <= b { a } else { b }
-}
-
 // The listing of a text's elements, or the refusal, with so many rows of a table lent.
 pub fn elements(text: &[u8], table: &mut [u64], rows: usize) {
-    let size = least(least(rows, 8192) * 3, table.len());
+    let size = lent::least(lent::least(rows, 8192) * 3, table.len());
     match reading::read_elements(text, &mut table[..size]) {
         Reading::Read(e) => {
             let count = e.0;
@@ -179,8 +172,8 @@ fn tree_head(count: usize, v: Verdict) {
 
 // The listing of a text's tree, or the refusal, with so many rows of each table lent.
 pub fn tree(text: &[u8], table: &mut [u64], rows: usize, trees: &mut [u64], tree_rows: usize) {
-    let size = least(least(rows, 8192) * 3, table.len());
-    let room = least(least(tree_rows, 8192) * 5, trees.len());
+    let size = lent::least(lent::least(rows, 8192) * 3, table.len());
+    let room = lent::least(lent::least(tree_rows, 8192) * 5, trees.len());
     match files::read_strict(text, &mut table[..size], &mut trees[..room]) {
         Strict::Read(count, v) => {
             tree_head(count, v);

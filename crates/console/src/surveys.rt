@@ -1,5 +1,4 @@
 // What is printed of a survey: the listing of its items, or its records with the tally and the pair. Any tables are survived.
-use crate::least;
 use crate::number;
 use crate::refused;
 use crate::words;
@@ -228,8 +227,8 @@ pub fn survey(
     item_rows: usize,
     shown: Shown,
 ) {
-    let size = least(least(rows, 8192) * 3, table.len());
-    let room = least(least(item_rows, 1024) * 8, items.len());
+    let size = lent::least(lent::least(rows, 8192) * 3, table.len());
+    let room = lent::least(lent::least(item_rows, 1024) * 8, items.len());
     let s = packages::read_survey(text, &mut table[..size], &mut items[..room]);
     let outcome = s.outcome;
     let tally = s.tally;

@@ -5,7 +5,7 @@ use folding::Sort;
 use integers::Folded;
 use values::Value;
 ghost use mathlib.Core.Path.{_≡_};
-ghost use Prim.Native.Nat.{ℕ, _+_, _-_, _*_, _/_, _≤_, _<_, min};
+ghost use Prim.Native.Nat.{ℕ, _+_, _-_, _*_, _/_, _≤_, _<_};
 ghost use lib.ListN.{length, getD, drop};
 ghost use lib.Seq.{sets};
 ghost use Rattle.alike.specs.Alike.{cellAt};
@@ -248,12 +248,6 @@ fn fold_rows(
     outcome_at(outs, n, 0)
 }
 
-fn least(a: usize, b: usize) -> usize
-    ensures { λ r. ⌜ r ≡ min a b ⌝ }
-{
-    if a <= b { a } else { b }
-}
-
 // The expression of piece i whose rows are lent. Most have few rows, and then the outcomes take little room.
 pub fn fold(
     text: &[u8],
@@ -265,7 +259,7 @@ pub fn fold(
 ) -> Outcome
     ensures { λ r. ⌜ r ≡ foldOf (now (text .entry)) (now (elements .entry)) (now (items .entry)) (now (links .entry)) i (now (rows .entry)) ⌝ }
 {
-    let n = least(rows.len() / 5, 8192);
+    let n = lent::least(rows.len() / 5, 8192);
     if n <= 32 {
         let mut few = [0u64; 96];
         return fold_rows(text, elements, items, links, i, rows, n, &mut few);

@@ -127,11 +127,6 @@ module _ (text table twins items : List ℕ) (i class : ℕ) (x : Bool) (p : cla
     unfolding doubledIn
     by-language e language k f g = rw (← p, ← q, not-false x h, ← w, eq-eqb twin 0 k, ← f, ← g)
 
-pub past-twins : (s : List ℕ) (i : ℕ) → length s ≤ i → _≡_ {A = ℕ} 0 (getD s i 0)
-past-twins [] i h = refl
-past-twins (x ∷ s) zero h = absurd (omega arith)
-past-twins (x ∷ s) (suc i) h = past-twins s i (omega arith)
-
 -- ---- expressions and marks
 
 pub part-is : (text table items links rows : List ℕ) (i from a m : ℕ) (r : Outcome) → from ≡ wordAt items i 1 → r ≡ foldOf text table items links i (take (5 * (from + m) - 5 * (from + a)) (drop (5 * (from + a)) rows))

@@ -3,18 +3,12 @@ use folding::Outcome;
 use values::Value;
 ghost use mathlib.Core.Path.{_≡_};
 ghost use mathlib.Core.Bool.{_||_};
-ghost use Prim.Native.Nat.{ℕ, _+_, _-_, _*_, _/_, _≤_, _<_, min};
-ghost use lib.ListN.{length, getD, drop, take};
+ghost use Prim.Native.Nat.{ℕ, _+_, _-_, _*_, _/_, _≤_, _<_};
+ghost use lib.ListN.{length, drop, take};
 ghost use lib.Seq.{sets};
 ghost use Rattle.pieces.specs.Kinds.{kindsOf};
 ghost use Rattle.records.specs.Records.{wordAt};
 ghost use Rattle.items.specs.Items.{heldIn, rowsHeld, anyDown, goesDownIn, doubledIn, expressionAt, rangeAt, markAt, boundedAt, formedAt, valueAt, valueWords, completedAt, completedFrom, completed};
-
-fn least(a: usize, b: usize) -> usize
-    ensures { λ r. ⌜ r ≡ min a b ⌝ }
-{
-    if a <= b { a } else { b }
-}
 
 fn minus(a: usize, b: usize) -> usize
     ensures { λ r. ⌜ r ≡ a - b ⌝ }
@@ -28,7 +22,7 @@ fn rows_held(rows: &[u64], items: &[u64], i: usize) -> usize
 {
     let from = records::word(items, i, 1) as usize;
     let count = records::word(items, i, 2) as usize;
-    let most = least(count, minus(rows.len() / 5, from));
+    let most = lent::least(count, minus(rows.len() / 5, from));
     let mut m: usize = 0;
     while m < most {
         if rows[5 * (from + m)] == 0 {
@@ -46,7 +40,7 @@ fn goes_down(elements: &[u64], items: &[u64], i: usize) -> bool
     let n = elements.len() / 3;
     let from = records::word(items, i, 1) as usize;
     let count = records::word(items, i, 2) as usize;
-    let most = least(count, minus(n, from));
+    let most = lent::least(count, minus(n, from));
     let mut m: usize = 0;
     while m < most {
         if elements[3 * (from + m)] == 58 {
@@ -57,12 +51,6 @@ fn goes_down(elements: &[u64], items: &[u64], i: usize) -> bool
     false
 }
 
-fn twin_at(twins: &[u64], i: usize) -> u64
-    ensures { λ r. ⌜ r ≡ getD (now (twins .entry)) i 0 ⌝ }
-{
-    if i < twins.len() { twins[i] } else { 0 }
-}
-
 // Whether the name of piece i has another claim, the language's included.
 fn is_doubled(text: &[u8], elements: &[u64], twins: &[u64], items: &[u64], i: usize) -> bool
     ensures { λ r. ⌜ r ≡ doubledIn (now (text .entry)) (now (elements .entry)) (now (twins .entry)) (now (items .entry)) i ⌝ }
@@ -70,7 +58,7 @@ fn is_doubled(text: &[u8], elements: &[u64], twins: &[u64], items: &[u64], i: us
     if !records::is_claim(records::word(items, i, 0)) {
         return false;
     }
-    if twin_at(twins, i) != 0 {
+    if lent::word_at(twins, i) != 0 {
         return true;
     }
     names::language(text, elements, records::word(items, i, 3) as usize) != 0
@@ -242,7 +230,7 @@ pub fn complete_items(
 )
     ensures { λ _. ⌜ now (items .exit) ≡ completed (now (text .entry)) (now (elements .entry)) (now (links .entry)) (now (twins .entry)) (now (rows .entry)) (now (items .entry)) n ⌝ }
 {
-    let most = least(n, items.len() / 8);
+    let most = lent::least(n, items.len() / 8);
     let mut i: usize = 0;
     while i < most {
         complete(text, elements, links, twins, rows, items, i);

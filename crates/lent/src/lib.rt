@@ -1,6 +1,8 @@
-// What every lent table has in common: it can be made all zeros.
+// What every lent table has in common: it can be made all zeros, a word of it is read with 0 past its end, and how much of it counts is the
+// least of two numbers. Every function takes any table and any numbers.
 ghost use mathlib.Core.Path.{_≡_};
-ghost use lib.ListN.{length, replicate};
+ghost use Prim.Native.Nat.{min};
+ghost use lib.ListN.{length, getD, replicate};
 
 pub fn clear(t: &mut [u64])
     ensures { λ _. ⌜ now (t .exit) ≡ replicate (length (now (t .entry))) 0 ⌝ }
@@ -10,4 +12,18 @@ pub fn clear(t: &mut [u64])
         t[i] = 0;
         i += 1;
     }
+}
+
+// The word at a place, 0 past the end.
+pub fn word_at(t: &[u64], i: usize) -> u64
+    ensures { λ r. ⌜ r ≡ getD (now (t .entry)) i 0 ⌝ }
+{
+    if i < t.len() { t[i] } else { 0 }
+}
+
+// The least of two numbers.
+pub fn least(a: usize, b: usize) -> usize
+    ensures { λ r. ⌜ r ≡ min a b ⌝ }
+{
+    if a <= b { a } else { b }
 }

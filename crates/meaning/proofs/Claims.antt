@@ -7,7 +7,7 @@ use native.Mathlib.Nat.{zero-add}
 use native.Mathlib.Omega.{arith}
 use borrow.Author.Tests.{ltb-true, ltb-false, eqb-true}
 use lib.Dec.{eqb, ltb}
-use lib.ListN.{length, getD, take, drop}
+use lib.ListN.{length, getD, take, drop, List·getD-eq-default}
 use lib.Seq.{split-at}
 use Rattle.alike.specs.Alike.{sameName}
 use Rattle.reading.specs.Rows.{rowsOf}
@@ -17,7 +17,6 @@ use Rattle.pieces.specs.declared.Mark.{Mark}
 use Rattle.records.specs.Records.{wordAt, isClaim}
 use Rattle.names.specs.Names.{recordsIn, firstFrom, claimsElement, linkOf, filled, linksTable}
 use Rattle.names.proofs.Tables.{filled-length, filled-at, filled-past}
-use Rattle.uses.proofs.Laws.{past-links}
 use Rattle.worded.specs.Elements.{Element, Piece, nothing, at, kinds, piecesOf}
 use Rattle.worded.specs.Names.{sameAs}
 use Rattle.worded.proofs.Cutting.{joinAll, total, cut-joins, at-piece, kinds-length}
@@ -224,5 +223,5 @@ module _ (s : List ℕ) (z y : ℕ) (ds : List Done) (cuts : piecesDone ds ≡ p
       go false false p q =
           let i = ltb-false e n p in
           let k = ltb-false e 8192 q in
-          sym (past-links (filled (linkOf s (tableOf s z) (itemTable ds y)) (min n (length (tableOf s z) / 3)) 8192) e (omega (arith, filled-length (linkOf s (tableOf s z) (itemTable ds y)) (min n (length (tableOf s z) / 3)) 8192)))
+          List·getD-eq-default (filled (linkOf s (tableOf s z) (itemTable ds y)) (min n (length (tableOf s z) / 3)) 8192) 0 {n = e} (omega (arith, filled-length (linkOf s (tableOf s z) (itemTable ds y)) (min n (length (tableOf s z) / 3)) 8192))
           ∙ sym (past i)

@@ -2,18 +2,12 @@
 // Every public function takes any text and tables.
 ghost use mathlib.Core.Path.{_≡_};
 ghost use mathlib.Core.Bool.{true, cond};
-ghost use Prim.Native.Nat.{ℕ, _+_, _≤_, _<_, min};
+ghost use Prim.Native.Nat.{ℕ, _+_, _≤_, _<_};
 ghost use lib.ListN.{length, getD, replicate};
 ghost use Rattle.alike.specs.Spelling.{spelledAs};
 ghost use Rattle.names.specs.Names.{recordsIn, linkOf, ownOf, below, filled, linksTable, ownsTable, twinsTable, anyTwin};
 ghost use Rattle.names.specs.Language.{sevenOf, languageOf};
 ghost use Rattle.names.specs.Chains.{mixedWith, hashFrom, bucketOf, inBucket, Chained, First, Marking};
-
-fn least(a: usize, b: usize) -> usize
-    ensures { λ r. ⌜ r ≡ min a b ⌝ }
-{
-    if a < b { a } else { b }
-}
 
 fn mixed(h: u64, b: u8) -> u64
     requires { ⌜ h < 4294967296 ⌝ }
@@ -233,11 +227,11 @@ pub fn link_names(
     ensures { λ _. ⌜ now (owns .exit) ≡ ownsTable (now (text .entry)) (now (elements .entry)) (now (items .entry)) (length (now (owns .entry))) ⌝ }
     ensures { λ _. ⌜ now (twins .exit) ≡ twinsTable (now (text .entry)) (now (elements .entry)) (now (items .entry)) (length (now (twins .entry))) ⌝ }
 {
-    let n = least(items.len() / 8, 1024);
+    let n = lent::least(items.len() / 8, 1024);
     let mut heads = [0u64; 1024];
     let mut next = [0u64; 1024];
     chain_names(text, elements, items, n, &mut heads, &mut next);
-    let rows = least(count, elements.len() / 3);
+    let rows = lent::least(count, elements.len() / 3);
     write_links(text, elements, items, rows, &heads, &next, links);
     let mut own = [0u64; 1024];
     own_links(text, elements, items, n, &heads, &next, &mut own);

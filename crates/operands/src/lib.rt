@@ -6,7 +6,7 @@ use folding::Relation;
 use folding::Sign;
 use integers::Arithmetic;
 ghost use mathlib.Core.Path.{_≡_};
-ghost use Prim.Native.Nat.{_+_, _-_, _≤_, min};
+ghost use Prim.Native.Nat.{_+_, _-_, _≤_};
 ghost use lib.ListN.{length};
 ghost use Rattle.alike.specs.Alike.{cellAt};
 ghost use Rattle.operands.specs.Operands.{operatorOf, signOf, literalIn};
@@ -102,12 +102,6 @@ fn cell(elements: &[u64], e: usize, j: usize) -> u64
     0
 }
 
-fn least(a: usize, b: usize) -> usize
-    ensures { λ r. ⌜ r ≡ min a b ⌝ }
-{
-    if a <= b { a } else { b }
-}
-
 // A literal's outcome: an integer's number; any other kind isn't folded.
 pub fn literal_outcome(text: &[u8], elements: &[u64], e: usize) -> Outcome
     ensures { λ r. ⌜ r ≡ literalIn (now (text .entry)) (now (elements .entry)) e ⌝ }
@@ -115,8 +109,8 @@ pub fn literal_outcome(text: &[u8], elements: &[u64], e: usize) -> Outcome
     if cell(elements, e, 0) != 3 {
         return expressions::wrong_leaf(3);
     }
-    let first = least(cell(elements, e, 1) as usize, text.len());
-    let size = least(cell(elements, e, 2) as usize, text.len() - first);
+    let first = lent::least(cell(elements, e, 1) as usize, text.len());
+    let size = lent::least(cell(elements, e, 2) as usize, text.len() - first);
     let end = first + size;
     expressions::literal_leaf(&text[first..end])
 }

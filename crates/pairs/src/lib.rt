@@ -1,6 +1,5 @@
 // The first pair of own items that share a name, from a number for each name. Every public function takes any table.
 ghost use mathlib.Core.Path.{_≡_};
-ghost use Prim.Native.Nat.{min};
 ghost use Rattle.pairs.specs.Pairs.{pairOf};
 
 pub enum Pair {
@@ -8,17 +7,11 @@ pub enum Pair {
     Neither,
 }
 
-fn least(a: usize, b: usize) -> usize
-    ensures { λ r. ⌜ r ≡ min a b ⌝ }
-{
-    if a < b { a } else { b }
-}
-
 // Of the first n pieces, each with its name's number, 0 for none: smallest earlier piece, then smallest later.
 pub fn first_pair(owns: &[u64], n: usize) -> Pair
     ensures { λ r. ⌜ r ≡ pairOf (now (owns .entry)) n ⌝ }
 {
-    let end = least(n, owns.len());
+    let end = lent::least(n, owns.len());
     let mut i: usize = 0;
     let mut j: usize = 0;
     'pairs: while i < end {

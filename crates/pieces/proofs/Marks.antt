@@ -1,14 +1,14 @@
 -- The ways that a piece is told by its kinds, in the code's terms: each premise is what a call or a test gives. Assumes nothing.
-use mathlib.Core.Path.{_≡_, refl, sym}
+use mathlib.Core.Path.{_≡_, sym}
 use mathlib.Core.Bool.{Bool, true, false, not, _&&_}
-use mathlib.Core.List.{List, [], _∷_}
-use Prim.Native.Nat.{ℕ, zero, suc, _+_, _*_, _≤_, _<_}
+use mathlib.Core.List.{List}
+use Prim.Native.Nat.{ℕ, _+_, _*_, _≤_, _<_}
 use native.Mathlib.Omega.{arith}
 use borrow.Author.Tests.{eq-eqb, ne-eqb, not-true, not-false}
 use mir.Syntax.{w64}
 use mir.Val.{Fits}
 use lib.Dec.{eqb}
-use lib.ListN.{length, getD, drop, length-drop}
+use lib.ListN.{length, getD, drop, length-drop, List·getD-eq-default}
 use lib.Seq.{getD-drop, getD-take, length-take-le}
 use Rattle.classes.proofs.Laws.{by-test}
 use Rattle.pieces.specs.Kinds.{mark, kindsOf, pieceAt, isName, isHeading, behindWord, hasName, endsAt, isClosing, claimMark, markOf}
@@ -25,12 +25,7 @@ module _ (n : ℕ) (t : List ℕ) (from count : ℕ) (r : from + count ≤ n) wh
   piece-kind i h = rw (getD-take, getD-drop) (kinds-at n (from + i) t (omega arith))
 
   pub piece-past : (i : ℕ) → count ≤ i → _≡_ {A = ℕ} 0 (getD (pieceAt n t from count) i 0)
-  piece-past i h = sym (past-end (pieceAt n t from count) i (omega (arith, piece-length)))
-    where
-      past-end : (s : List ℕ) (i : ℕ) → length s ≤ i → getD s i 0 ≡ 0
-      past-end [] i h = refl
-      past-end (x ∷ s) zero h = absurd (omega arith)
-      past-end (x ∷ s) (suc i) h = past-end s i (omega arith)
+  piece-past i h = sym (List·getD-eq-default (pieceAt n t from count) 0 {n = i} (omega (arith, piece-length)))
 
   pub heading-other : (count ≡ 3 → ⊥) → false ≡ isHeading (pieceAt n t from count)
   unfolding isHeading

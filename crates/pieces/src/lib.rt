@@ -63,7 +63,7 @@ fn size_at(elements: &[u64], n: usize, from: usize) -> usize
 pub fn piece_size(elements: &[u64], count: usize, from: usize) -> usize
     ensures { λ r. ⌜ r ≡ pieceSize closesPiece opensPiece (drop from (kindsOf (min count (length (now (elements .entry)) / 3)) (now (elements .entry)))) ⌝ }
 {
-    let n = least(count, elements.len() / 3);
+    let n = lent::least(count, elements.len() / 3);
     if n <= from {
         return 0;
     }
@@ -219,7 +219,7 @@ pub fn mark_pieces(elements: &[u64], count: usize, items: &mut [u64]) -> Marking
 {
     let rows = items.len() / 8;
     lent::clear(items);
-    let n = least(count, elements.len() / 3);
+    let n = lent::least(count, elements.len() / 3);
     let pieces = count_pieces(elements, n);
     if 1024 < pieces {
         return Marking::TooMany;
@@ -229,10 +229,4 @@ pub fn mark_pieces(elements: &[u64], count: usize, items: &mut [u64]) -> Marking
     }
     write_records(elements, n, items);
     Marking::Marked(pieces)
-}
-
-fn least(a: usize, b: usize) -> usize
-    ensures { λ r. ⌜ r ≡ min a b ⌝ }
-{
-    if a <= b { a } else { b }
 }

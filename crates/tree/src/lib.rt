@@ -343,16 +343,7 @@ fn write_out(cells: &[u64], next: &[u64], heads: &[u64], used: usize, tab: &mut 
 fn least(a: usize, b: usize, c: usize) -> usize
     ensures { λ r. ⌜ r ≡ min a (min b c) ⌝ }
 {
-    if a <= b {
-        if a <= c {
-            return a;
-        }
-        return c;
-    }
-    if b <= c {
-        return b;
-    }
-    c
+    lent::least(a, lent::least(b, c))
 }
 
 // Elements to a tree: the first count elements, as far as the table has them and 01's sizes go, as a file. The rows go into `tree`, and

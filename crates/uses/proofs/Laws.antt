@@ -1,10 +1,9 @@
 -- The ways of a name used, in the code's terms: each premise is what a call or a test gives. Assumes nothing.
-use mathlib.Core.Path.{_≡_, refl, sym, ap, _∙_}
-use mathlib.Core.List.{List, [], _∷_}
-use Prim.Native.Nat.{ℕ, zero, suc, _-_, _≤_, _<_}
-use native.Mathlib.Omega.{arith}
+use mathlib.Core.Path.{_≡_}
+use mathlib.Core.List.{List}
+use Prim.Native.Nat.{ℕ, _-_, _≤_, _<_}
 use borrow.Author.Tests.{eq-eqb, ne-eqb, lt-ltb, le-ltb}
-use lib.ListN.{length, getD}
+use lib.ListN.{getD}
 use Rattle.records.specs.Records.{wordAt}
 use Rattle.names.specs.Language.{languageOf}
 use Rattle.values.specs.Values.{languageValue}
@@ -12,11 +11,6 @@ use Rattle.values.specs.Words.{usedValue}
 use Rattle.values.specs.declared.Value.{Value}
 use Rattle.values.specs.declared.Value.the-variants.{Without}
 use Rattle.uses.specs.Uses.{recordValue, ownUse, languageUse, useIn}
-
-pub past-links : (l : List ℕ) (e : ℕ) → length l ≤ e → _≡_ {A = ℕ} 0 (getD l e 0)
-past-links [] e h = refl
-past-links (x ∷ l) zero h = absurd (omega arith)
-past-links (x ∷ l) (suc e) h = past-links l e (omega arith)
 
 pub record-words : (items : List ℕ) (j class state kind low high : ℕ) (r : Value) → class ≡ wordAt items j 0 → state ≡ wordAt items j 4 → kind ≡ wordAt items j 5
     → low ≡ wordAt items j 6 → high ≡ wordAt items j 7 → r ≡ usedValue class state kind low high → r ≡ recordValue items j

@@ -1,7 +1,6 @@
 // What a name comes to where it is used, by the records above and the links of names. Every function takes any tables.
 use values::Value;
 ghost use mathlib.Core.Path.{_≡_};
-ghost use lib.ListN.{getD};
 ghost use Rattle.uses.specs.Uses.{recordValue, useIn};
 
 // What record j comes to for those that use its name.
@@ -16,12 +15,6 @@ fn record_value(items: &[u64], j: usize) -> Value
     values::used_value(class, state, kind, low, high)
 }
 
-fn link_at(links: &[u64], e: usize) -> u64
-    ensures { λ r. ⌜ r ≡ getD (now (links .entry)) e 0 ⌝ }
-{
-    if e < links.len() { links[e] } else { 0 }
-}
-
 // Element e used as a name in piece i.
 pub fn use_of(
     text: &[u8],
@@ -34,7 +27,7 @@ pub fn use_of(
     ensures { λ r. ⌜ r ≡ useIn (now (text .entry)) (now (elements .entry)) (now (items .entry)) (now (links .entry)) i e ⌝ }
 {
     let language = names::language(text, elements, e);
-    let link = link_at(links, e);
+    let link = lent::word_at(links, e);
     if language != 0 {
         if link != 0 {
             return Value::Without(5);

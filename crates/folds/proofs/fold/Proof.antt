@@ -4,7 +4,7 @@ use Rattle.folds.proofs.fold.Tie as tie
 use Rattle.folds.proofs.fold.Reads as reads
 use Rattle.folds.proofs.fold.Lts as lts
 use Rattle.folds.proofs.fold_rows.Reads as fold-rows-reads
-use Rattle.folds.proofs.least.Reads as least-reads
+use Rattle.lent.proofs.least.Reads as least-reads
 use Rattle.folds.proofs.Turns.{folded-whole}
 use borrow.Author.Needs.{needs}
 use native.Mathlib.Omega.{arith}

@@ -4,7 +4,7 @@ use Rattle.items.proofs.complete_items.Tie as tie
 use Rattle.items.proofs.complete_items.Reads as reads
 use Rattle.items.proofs.complete_items.Lts as lts
 use Rattle.items.proofs.complete.Reads as complete-reads
-use Rattle.items.proofs.least.Reads as least-reads
+use Rattle.lent.proofs.least.Reads as least-reads
 use borrow.Author.Needs.{needs}
 use native.Mathlib.Omega.{arith}
 use mathlib.Core.Path.{_≡_, refl, _∙_}

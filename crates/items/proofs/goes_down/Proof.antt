@@ -3,7 +3,7 @@ use Rattle.items.proofs.goes_down.Statement.{statement}
 use Rattle.items.proofs.goes_down.Tie as tie
 use Rattle.items.proofs.goes_down.Reads as reads
 use Rattle.items.proofs.goes_down.Lts as lts
-use Rattle.items.proofs.least.Reads as least-reads
+use Rattle.lent.proofs.least.Reads as least-reads
 use Rattle.items.proofs.minus.Reads as minus-reads
 use Rattle.records.proofs.word.Reads as word-reads
 use borrow.Author.Needs.{needs}

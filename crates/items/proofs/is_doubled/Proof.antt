@@ -4,7 +4,7 @@ use Rattle.items.proofs.is_doubled.Statement.{statement}
 use Rattle.items.proofs.is_doubled.Tie as tie
 use Rattle.items.proofs.is_doubled.Reads as reads
 use Rattle.items.proofs.is_doubled.Lts as lts
-use Rattle.items.proofs.twin_at.Reads as twin-at-reads
+use Rattle.lent.proofs.word_at.Reads as word-at-reads
 use Rattle.names.proofs.language.Reads as language-reads
 use Rattle.records.proofs.is_claim.Reads as is-claim-reads
 use Rattle.records.proofs.word.Reads as word-reads
@@ -19,8 +19,8 @@ is-claim-requires c κs = search needs
 returns : tie.Need-returns
 returns c = search no-claim
 
-twin-at-requires : tie.Need-twin-at-requires
-twin-at-requires c κs = search needs
+word-at-requires : tie.Need-word-at-requires
+word-at-requires c κs = search needs
 
 returns-2 : tie.Need-returns-2
 returns-2 c = search twin-there
@@ -41,7 +41,7 @@ is-doubled-spec =
     word-requires
     is-claim-requires
     returns
-    twin-at-requires
+    word-at-requires
     returns-2
     word-requires-2
     language-requires

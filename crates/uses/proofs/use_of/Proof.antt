@@ -5,7 +5,7 @@ use Rattle.uses.proofs.use_of.Tie as tie
 use Rattle.uses.proofs.use_of.Reads as reads
 use Rattle.uses.proofs.use_of.Lts as lts
 use Rattle.names.proofs.language.Reads as language-reads
-use Rattle.uses.proofs.link_at.Reads as link-at-reads
+use Rattle.lent.proofs.word_at.Reads as word-at-reads
 use Rattle.uses.proofs.record_value.Reads as record-value-reads
 use Rattle.values.proofs.language_value.Reads as language-value-reads
 use Rattle.uses.proofs.Laws.{claimed-too, of-language, no-claim, above, below}
@@ -13,8 +13,8 @@ use Rattle.uses.proofs.Laws.{claimed-too, of-language, no-claim, above,
 language-requires : tie.Need-language-requires
 language-requires c κs = search needs
 
-link-at-requires : tie.Need-link-at-requires
-link-at-requires c κs = search needs
+word-at-requires : tie.Need-word-at-requires
+word-at-requires c κs = search needs
 
 returns : tie.Need-returns
 returns c = search claimed-too
@@ -45,7 +45,7 @@ use-of-spec =
     tie.close
     (tie.spec
     language-requires
-    link-at-requires
+    word-at-requires
     returns
     language-value-requires
     returns-2
