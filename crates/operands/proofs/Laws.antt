@@ -2,12 +2,12 @@
 use mathlib.Core.Path.{_≡_, refl, ap}
 use mathlib.Core.Bool.{Bool, true, false}
 use mathlib.Core.List.{List, [], _∷_}
-use Prim.Native.Nat.{ℕ, zero, suc, _+_, _-_, _*_, _/_, _≤_, _<_, min}
+use Prim.Native.Nat.{ℕ, zero, suc, _+_, _-_, _≤_, _<_, min}
 use native.Mathlib.Omega.{arith}
-use borrow.Author.Tests.{eq-eqb, ne-eqb, lt-ltb, le-ltb, leb-true, leb-false}
+use borrow.Author.Tests.{eq-eqb, ne-eqb, leb-true, leb-false}
 use lib.Dec.{leb}
 use native.Mathlib.Nat.{add-sub-cancel-left, zero-min, min-zero, suc-min-suc}
-use lib.ListN.{length, getD, take, drop, length-drop, drop-of-length-le}
+use lib.ListN.{length, take, drop, length-drop, drop-of-length-le}
 use lib.Seq.{take-nil}
 use Rattle.alike.specs.Alike.{cellAt}
 use Rattle.folding.specs.declared.Operator.the-variants.{Join}
@@ -23,14 +23,6 @@ joins k a0 b0 c0 d0 e0 f0 g0 h0 i0 j0 k0 l0 m0 n0 o0 p0 q0 r0 s0 = rw (ne-eqb k 
 pub pluses : (k : ℕ) → (k ≡ 22 → ⊥) → (k ≡ 33 → ⊥) → (k ≡ 90 → ⊥) → Plus ≡ signOf k
 unfolding signOf
 pluses k a0 b0 c0 = rw (ne-eqb k 22 a0, ne-eqb k 33 b0, ne-eqb k 90 c0)
-
-pub cell-in : (l : List ℕ) (i j : ℕ) → i < length l / 3 → getD l (3 * i + j) 0 ≡ cellAt l i j
-unfolding cellAt
-cell-in l i j h = rw (lt-ltb i (length l / 3) h)
-
-pub cell-out : (l : List ℕ) (i j : ℕ) → length l / 3 ≤ i → _≡_ {A = ℕ} 0 (cellAt l i j)
-unfolding cellAt
-cell-out l i j h = rw (le-ltb i (length l / 3) h)
 
 -- a part within the text, whatever the row says
 cut : (k : ℕ) (l : List ℕ) → take (min k (length l)) l ≡ take k l

@@ -6,9 +6,6 @@ use folding::Relation;
 use folding::Sign;
 use integers::Arithmetic;
 ghost use mathlib.Core.Path.{_≡_};
-ghost use Prim.Native.Nat.{_+_, _-_, _≤_};
-ghost use lib.ListN.{length};
-ghost use Rattle.alike.specs.Alike.{cellAt};
 ghost use Rattle.operands.specs.Operands.{operatorOf, signOf, literalIn};
 
 // The binary operator that an element of a kind spells; `&` where none of the others is meant.
@@ -91,26 +88,15 @@ pub fn sign_of(kind: u64) -> Sign
     Sign::Plus
 }
 
-// Word j of an element's row, 0 where there is no such row.
-fn cell(elements: &[u64], e: usize, j: usize) -> u64
-    requires { ⌜ j ≤ 2 ⌝ }
-    ensures { λ r. ⌜ r ≡ cellAt (now (elements .entry)) e j ⌝ }
-{
-    if e < elements.len() / 3 {
-        return elements[3 * e + j];
-    }
-    0
-}
-
 // A literal's outcome: an integer's number; any other kind isn't folded.
 pub fn literal_outcome(text: &[u8], elements: &[u64], e: usize) -> Outcome
     ensures { λ r. ⌜ r ≡ literalIn (now (text .entry)) (now (elements .entry)) e ⌝ }
 {
-    if cell(elements, e, 0) != 3 {
+    if alike::kind_of(elements, e) != 3 {
         return expressions::wrong_leaf(3);
     }
-    let first = lent::least(cell(elements, e, 1) as usize, text.len());
-    let size = lent::least(cell(elements, e, 2) as usize, text.len() - first);
+    let first = lent::least(alike::first_of(elements, e) as usize, text.len());
+    let size = lent::least(alike::size_of(elements, e) as usize, text.len() - first);
     let end = first + size;
     expressions::literal_leaf(&text[first..end])
 }

@@ -4,8 +4,8 @@ use Rattle.operands.proofs.literal_outcome.Statement.{statement}
 use Rattle.operands.proofs.literal_outcome.Tie as tie
 use Rattle.operands.proofs.Laws.{not-folded, folded}
 
-cell-requires : tie.Need-cell-requires
-cell-requires c κs = search needs
+kind-of-requires : tie.Need-kind-of-requires
+kind-of-requires c κs = search needs
 
 wrong-leaf-requires : tie.Need-wrong-leaf-requires
 wrong-leaf-requires c κs = search needs
@@ -13,14 +13,14 @@ wrong-leaf-requires c κs = search needs
 returns : tie.Need-returns
 returns c = search not-folded
 
-cell-requires-2 : tie.Need-cell-requires-2
-cell-requires-2 c κs = search needs
+first-of-requires : tie.Need-first-of-requires
+first-of-requires c κs = search needs
 
 least-requires : tie.Need-least-requires
 least-requires c κs = search needs
 
-cell-requires-3 : tie.Need-cell-requires-3
-cell-requires-3 c κs = search needs
+size-of-requires : tie.Need-size-of-requires
+size-of-requires c κs = search needs
 
 sub-least : tie.Need-sub-least
 sub-least c = search needs
@@ -50,12 +50,12 @@ pub literal-outcome-spec : {M : Type 1} → statement M
 literal-outcome-spec =
     tie.close
     (tie.spec
-    cell-requires
+    kind-of-requires
     wrong-leaf-requires
     returns
-    cell-requires-2
+    first-of-requires
     least-requires
-    cell-requires-3
+    size-of-requires
     sub-least
     least-requires-2
     add-end
