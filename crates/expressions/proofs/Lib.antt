@@ -1,4 +1,1 @@
-pub mod Walking
-pub mod Edges
-pub mod Sorts
 pub mod Literal

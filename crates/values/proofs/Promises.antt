@@ -15,7 +15,7 @@ use Rattle.folding.specs.declared.Sort.{Sort}
 use Rattle.folding.specs.declared.Sort.the-variants as S
 use Rattle.folding.specs.declared.Outcome.{Outcome}
 use Rattle.folding.specs.Outcomes.{sortOf, settle}
-use Rattle.expressions.proofs.Sorts.{Within, left-kept, right-kept}
+use Rattle.folding.proofs.Sorts.{Within, left-sort, right-sort, left-kept, right-kept}
 use Rattle.values.specs.declared.Value.{Value}
 use Rattle.values.specs.declared.Value.the-variants.{Number, Truth, Range, Truths, Without}
 use Rattle.values.specs.Values.{markSort, withoutOf, heldIn, valueIn, besideMark, constantOf, boundsIn, rangedOf}
@@ -121,13 +121,13 @@ pub mark-wins : (mark : Value) (x : Outcome) (s : ℕ) → markSort mark ≡ S.W
 unfolding constantOf
 mark-wins mark x s e =
     value-stopped mark (sortOf (O.Relation Equal) (markSort mark) (x .sort)) (x .folded) s
-    (subst (λ (m : Sort). Within s (sortOf (O.Relation Equal) m (x .sort))) (sym e) (left-kept (O.Relation Equal) s (x .sort)))
+    (left-sort (O.Relation Equal) (markSort mark) (x .sort) s e)
 
 pub value-wins : (mark : Value) (x : Outcome) (s : ℕ) → x .sort ≡ S.Wrong s → StoppedBy s (constantOf mark x)
 unfolding constantOf
 value-wins mark x s e =
     value-stopped mark (sortOf (O.Relation Equal) (markSort mark) (x .sort)) (x .folded) s
-    (subst (λ (v : Sort). Within s (sortOf (O.Relation Equal) (markSort mark) v)) (sym e) (right-kept (O.Relation Equal) s (markSort mark)))
+    (right-sort (O.Relation Equal) (markSort mark) (x .sort) s e)
 
 bounds-stopped : (mark : Value) (down : Bool) (r : Sort) (f g : Folded) (s : ℕ) → Within s r → StoppedBy s (boundsIn mark down (settle r f) g)
 bounds-stopped mark down S.Number f g s h = absurd h
@@ -139,7 +139,7 @@ unfolding rangedOf
 ranged-mark-wins mark a b down s e =
     let bounds = sortOf (O.Arithmetic Add) (a .sort) (b .sort) in
     bounds-stopped mark down (sortOf (O.Arithmetic Add) (markSort mark) bounds) (a .folded) (b .folded) s
-    (subst (λ (m : Sort). Within s (sortOf (O.Arithmetic Add) m bounds)) (sym e) (left-kept (O.Arithmetic Add) s bounds))
+    (left-sort (O.Arithmetic Add) (markSort mark) bounds s e)
 
 within-right : (m r : Sort) (s : ℕ) → Within s r → Within s (sortOf (O.Arithmetic Add) m r)
 within-right m S.Number s h = absurd h
@@ -156,10 +156,10 @@ module _ (mark : Value) (a b : Outcome) (down : Bool) (s : ℕ) where
       bounds-stopped mark down (sortOf (O.Arithmetic Add) (markSort mark) bounds) (a .folded) (b .folded) s (within-right (markSort mark) bounds s h)
 
   pub first-wins : a .sort ≡ S.Wrong s → StoppedBy s (rangedOf mark a b down)
-  first-wins e = both-stopped (subst (λ (v : Sort). Within s (sortOf (O.Arithmetic Add) v (b .sort))) (sym e) (left-kept (O.Arithmetic Add) s (b .sort)))
+  first-wins e = both-stopped (left-kept (O.Arithmetic Add) a b s e)
 
   pub second-wins : b .sort ≡ S.Wrong s → StoppedBy s (rangedOf mark a b down)
-  second-wins e = both-stopped (subst (λ (v : Sort). Within s (sortOf (O.Arithmetic Add) (a .sort) v)) (sym e) (right-kept (O.Arithmetic Add) s (a .sort)))
+  second-wins e = both-stopped (right-kept (O.Arithmetic Add) a b s e)
 
 -- ---- 6, "integer and truth mixed": a truth for an integer mark, and a number for boolean
 

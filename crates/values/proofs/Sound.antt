@@ -29,7 +29,6 @@ use Rattle.folding.specs.Operators.{decides, logicOf, onWholes, onTruths, after
 use Rattle.folding.specs.Outcomes.{wrongSort, sortOf, signSort, combinedOf, signedOf, settle}
 use Rattle.expressions.specs.Leaves.{wrongLeaf, literalLeaf}
 use Rattle.expressions.proofs.Literal.{literal-sized}
-use Rattle.expressions.specs.Trees.{Tree, leaf, signed, operated, selected, ticked, meaning}
 use Rattle.values.specs.declared.Value.{Value}
 use Rattle.values.specs.declared.Value.the-variants.{Number, Truth, Range, Truths, Without}
 use Rattle.values.specs.Values.{operandOf, markSort, languageValue}
@@ -193,22 +192,6 @@ combined-sound op x y h k = record {
 
 pub signed-sound : (op : Sign) (x : Outcome) → SoundOutcome x → SoundOutcome (signedOf op x)
 signed-sound op x h = record { of-sort = sign-sound op (x .sort) (h .of-sort); of-folded = unary-sound op (x .folded) (h .of-folded) }
-
--- every leaf that counts is sound
-unfoldable pub SoundLeaves : Tree → Type 0
-SoundLeaves (leaf x) = SoundOutcome x
-SoundLeaves (signed o t) = SoundLeaves t
-SoundLeaves (operated o t u) = SoundLeaves t × SoundLeaves u
-SoundLeaves (selected t u) = Unit {0}
-SoundLeaves (ticked t) = Unit {0}
-
-pub meaning-sound : (t : Tree) → SoundLeaves t → SoundOutcome (meaning t)
-unfolding SoundLeaves meaning
-meaning-sound (leaf x) h = h
-meaning-sound (signed o t) h = signed-sound o (meaning t) (meaning-sound t h)
-meaning-sound (operated o t u) h = combined-sound o (meaning t) (meaning u) (meaning-sound t (h .0)) (meaning-sound u (h .1))
-meaning-sound (selected t u) h = wrong-leaf-sound 3 (omega arith)
-meaning-sound (ticked t) h = wrong-leaf-sound 3 (omega arith)
 
 -- ---- values
 
