@@ -12,64 +12,28 @@ ghost use Rattle.operands.specs.Operands.{operatorOf, signOf, literalIn}
 pub fn operator_of(kind: u64) -> Operator
     ensures { λ r. ⌜ r ≡ operatorOf kind ⌝ }
 {
-    if kind == 9 {
-        return Operator::Arithmetic(Arithmetic::Power);
+    match kind {
+        9 => Operator::Arithmetic(Arithmetic::Power),
+        19 => Operator::Arithmetic(Arithmetic::Multiply),
+        24 => Operator::Arithmetic(Arithmetic::Divide),
+        85 => Operator::Arithmetic(Arithmetic::Modulo),
+        112 => Operator::Arithmetic(Arithmetic::Remainder),
+        20 => Operator::Arithmetic(Arithmetic::Add),
+        22 => Operator::Arithmetic(Arithmetic::Subtract),
+        28 => Operator::Relation(Relation::Equal),
+        11 => Operator::Relation(Relation::Unequal),
+        27 => Operator::Relation(Relation::Less),
+        13 => Operator::Relation(Relation::LessEqual),
+        29 => Operator::Relation(Relation::Greater),
+        12 => Operator::Relation(Relation::GreaterEqual),
+        38 => Operator::Logic(Logic::And),
+        95 => Operator::Logic(Logic::Or),
+        86 => Operator::Logic(Logic::Nand),
+        89 => Operator::Logic(Logic::Nor),
+        147 => Operator::Logic(Logic::Xor),
+        146 => Operator::Logic(Logic::Xnor),
+        _ => Operator::Join,
     }
-    if kind == 19 {
-        return Operator::Arithmetic(Arithmetic::Multiply);
-    }
-    if kind == 24 {
-        return Operator::Arithmetic(Arithmetic::Divide);
-    }
-    if kind == 85 {
-        return Operator::Arithmetic(Arithmetic::Modulo);
-    }
-    if kind == 112 {
-        return Operator::Arithmetic(Arithmetic::Remainder);
-    }
-    if kind == 20 {
-        return Operator::Arithmetic(Arithmetic::Add);
-    }
-    if kind == 22 {
-        return Operator::Arithmetic(Arithmetic::Subtract);
-    }
-    if kind == 28 {
-        return Operator::Relation(Relation::Equal);
-    }
-    if kind == 11 {
-        return Operator::Relation(Relation::Unequal);
-    }
-    if kind == 27 {
-        return Operator::Relation(Relation::Less);
-    }
-    if kind == 13 {
-        return Operator::Relation(Relation::LessEqual);
-    }
-    if kind == 29 {
-        return Operator::Relation(Relation::Greater);
-    }
-    if kind == 12 {
-        return Operator::Relation(Relation::GreaterEqual);
-    }
-    if kind == 38 {
-        return Operator::Logic(Logic::And);
-    }
-    if kind == 95 {
-        return Operator::Logic(Logic::Or);
-    }
-    if kind == 86 {
-        return Operator::Logic(Logic::Nand);
-    }
-    if kind == 89 {
-        return Operator::Logic(Logic::Nor);
-    }
-    if kind == 147 {
-        return Operator::Logic(Logic::Xor);
-    }
-    if kind == 146 {
-        return Operator::Logic(Logic::Xnor);
-    }
-    Operator::Join
 }
 
 // The sign, `abs` or `not` that an element of a kind spells; `+` where none of the others is meant.
