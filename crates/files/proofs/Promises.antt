@@ -1,18 +1,24 @@
 -- The promises of the strict reading of a text, proved. Assumes nothing.
-use Prim.Native.Nat.{ℕ}
+use Prim.Native.Nat.{ℕ, _-_, _*_, _≤_}
 use native.Mathlib.Omega.{arith}
-use mathlib.Core.Path.{_≡_, refl, sym, ap, _∙_}
-use mathlib.Core.List.{List}
-use lib.ListN.{replicate}
+use mathlib.Core.Path.{_≡_, refl, sym, ap, _∙_, subst}
+use mathlib.Core.List.{List, _++_}
+use lib.ListN.{length, replicate}
+use Rattle.reading.specs.Rows as elements
 use Rattle.reading.specs.Reading.{readingOf, tableOf}
 use Rattle.reading.specs.declared.Reading.{Reading}
 use Rattle.reading.specs.declared.Reading.the-variants as R
-use Rattle.reading.specs.declared.ElementNumber.{ElementNumber}
-use Rattle.reading.proofs.Answers.{table-length}
-use Rattle.tree.specs.Answers.{elementsIn, readingIn, answerOf}
+use Rattle.reading.proofs.Answers.{table-read, table-length}
+use Rattle.forms.specs.Tree.{State, rowsOf}
+use Rattle.forms.specs.Tree as forms
+use Rattle.tree.specs.Answers.{elementsIn, readingIn, answerOf, wordsOf}
+use Rattle.tree.specs.Answers as answers
 use Rattle.tree.specs.declared.Answer.{Answer}
 use Rattle.tree.specs.declared.Answer.the-variants as A
-use Rattle.tree_promises.proofs.Promises.{zeros-else}
+use Rattle.tree_promises.specs.Due.{NoFileFirst, NameFirst, DepthFirst}
+use Rattle.tree_promises.specs.Promises.{Answered}
+use Rattle.tree_promises.specs.Promises as trees
+use Rattle.tree_promises.proofs.Promises.{accepts, has-rows, no-file-exactly, name-differs-exactly, too-deep-exactly, is-short, zeros-else}
 use Rattle.verdict.specs.Verdict.{verdictOf}
 use Rattle.verdict.specs.declared.Verdict.{Verdict}
 use Rattle.files.specs.declared.Unread.{Unread}
@@ -22,12 +28,15 @@ use Rattle.files.specs.declared.StrictRefusal.the-variants as S
 use Rattle.files.specs.declared.Strict.{Strict}
 use Rattle.files.specs.declared.Strict.the-variants.{Read, Refused}
 use Rattle.files.specs.Strict.{unreadableFrom, byAnswer, treeTable, fileOf, byUnread, elementsAs, byReading, strictOf, kept, elementsAfter, treeByUnread, treeAs, treeByReading, treeAfter}
-use Rattle.files.specs.Promises.{Accepted, ZerosOnRefusal, NoChoice}
+use Rattle.files.specs.Given.{count, Taken, Readable, verdictOn, IsRead, Given}
+use Rattle.files.specs.Promises.{Accepted, RefusedExactly, TablesHold, ZerosOnRefusal, NoChoice}
+use Rattle.files.proofs.Given.{ReadingSays, reading-says, taken-read, refused-reading, all-count, UnreadSays, unread-says, none-unread, first-unread}
+use Rattle.files.proofs.Held.{of-text, of-table, verdict-rows}
 
 pub no-choice : NoChoice
 no-choice text ew tw r r′ e e′ t t′ p q s p′ q′ s′ = (cc, cc, cc)
 
--- what a reading that is refused answers, layer by layer
+-- what a reading answers, layer by layer
 strict-by : (text : List ℕ) (ew tw : ℕ) (o : Reading) → readingOf text ew ≡ o → strictOf text ew tw ≡ byReading o text (tableOf text ew) tw
 unfolding strictOf
 strict-by text ew tw o e = rw e
@@ -69,37 +78,114 @@ unfolding elementsAfter
 zeros-on-refusal text ew tw r e =
     (ap (λ (s : Strict). kept s (tableOf text ew)) e ∙ ap (λ (k : ℕ). replicate k 0) (table-length text ew), tree-zeros text ew tw (readingOf text ew) refl r e)
 
--- an answer that accepts comes from a text whose elements were read, all of them readable, and are a tree
-accepted-file : (text table : List ℕ) (n tw rows : ℕ) (v : Verdict) (a : Answer) → answerOf tw (readingIn text table (elementsIn table n)) ≡ a → fileOf text table n tw ≡ Read rows v → (a ≡ A.Tree rows) × (v ≡ verdictOf (treeTable text table n tw) rows)
-accepted-file text table n tw rows v a p e = go a (sym (file-by text table n tw a p) ∙ e)
-  where
-    clash : {X : Type 0} → _≡_ {A = ℕ} 0 1 → X
-    clash z = absurd (omega arith)
+-- a text whose elements are taken and readable is answered as they are
+module _ (text : List ℕ) (ew tw : ℕ) where
+  readable-as : Readable text ew → strictOf text ew tw ≡ fileOf text (tableOf text ew) (count text) tw
+  readable-as r =
+      strict-by text ew tw (R.Read (record { 0 = count text })) (taken-read text ew tw (r .0))
+      ∙ all-by text (tableOf text ew) (count text) tw U.Nothing (none-unread text ew (r .0) (r .1))
 
-    go : (a : Answer) → byAnswer a (treeTable text table n tw) ≡ Read rows v → (a ≡ A.Tree rows) × (v ≡ verdictOf (treeTable text table n tw) rows)
-    go (A.Tree k) q = let z : k ≡ rows = cc in (ap A.Tree z, let w : verdictOf (treeTable text table n tw) k ≡ v = cc in sym w ∙ ap (verdictOf (treeTable text table n tw)) z)
-    go (A.NoFile k) q = let z : _≡_ {A = ℕ} 0 1 = cc in clash z
-    go (A.NameDiffers k) q = let z : _≡_ {A = ℕ} 0 1 = cc in clash z
-    go (A.TooDeep k) q = let z : _≡_ {A = ℕ} 0 1 = cc in clash z
-    go (A.TableShort k) q = let z : _≡_ {A = ℕ} 0 1 = cc in clash z
+  answered-as : Taken text ew → (a : Answer) → Answered text (tableOf text ew) (count text) tw ≡ a
+      → fileOf text (tableOf text ew) (count text) tw ≡ byAnswer a (treeTable text (tableOf text ew) (count text) tw)
+  answered-as t a e =
+      file-by text (tableOf text ew) (count text) tw a
+      (ap (λ (k : ℕ). answerOf tw (readingIn text (tableOf text ew) k)) (all-count text ew tw t) ∙ e)
 
-accepted-all : (text table : List ℕ) (n tw rows : ℕ) (v : Verdict) (f : Unread) → unreadableFrom 0 n table ≡ f → elementsAs text table n tw ≡ Read rows v → (f ≡ U.Nothing) × (fileOf text table n tw ≡ Read rows v)
-accepted-all text table n tw rows v (U.At k) p e = let q : Refused (S.Unreadable (record { 0 = k })) ≡ Read rows v = sym (all-by text table n tw (U.At k) p) ∙ e in let z : _≡_ {A = ℕ} 0 1 = cc in absurd (omega arith)
-accepted-all text table n tw rows v U.Nothing p e = (refl, sym (all-by text table n tw U.Nothing p) ∙ e)
+  -- the tree table has the file's rows
+  tree-rows : Taken text ew → (s : State) → trees.File text (tableOf text ew) (count text) s → 5 * length (rowsOf s) ≤ tw
+      → treeTable text (tableOf text ew) (count text) tw ≡ wordsOf (rowsOf s) ++ replicate (tw - 5 * length (rowsOf s)) 0
+  unfolding treeTable
+  tree-rows t s f l =
+      ap (λ (k : ℕ). answers.tableOf tw (readingIn text (tableOf text ew) k)) (all-count text ew tw t) ∙ has-rows text (tableOf text ew) (count text) tw s f l
+
+  -- the verdict on the tree table is that on the file's rows
+  verdict-as : Taken text ew → (s : State) → trees.File text (tableOf text ew) (count text) s → (rows : ℕ) → length (rowsOf s) ≡ rows → 5 * rows ≤ tw
+      → verdictOf (treeTable text (tableOf text ew) (count text) tw) rows ≡ verdictOn (rowsOf s)
+  verdict-as t s f rows c l =
+      let m : 5 * length (rowsOf s) ≤ tw = omega arith in
+      ap (verdictOf (treeTable text (tableOf text ew) (count text) tw)) (sym c)
+      ∙ ap (λ (x : List ℕ). verdictOf x (length (rowsOf s))) (tree-rows t s f m)
+      ∙ verdict-rows (rowsOf s) tw m
+
+  -- what an answer says of the text
+  abbrev Says : Strict → Type 0
+  Says (Read rows v) = IsRead text ew tw rows v
+  Says (Refused r) = Given text ew tw r
+
+  file-says : Readable text ew → Says (fileOf text (tableOf text ew) (count text) tw)
+  file-says r = go (Answered text (tableOf text ew) (count text) tw) refl
+    where
+      says : (a : Answer) → Answered text (tableOf text ew) (count text) tw ≡ a → Says (byAnswer a (treeTable text (tableOf text ew) (count text) tw)) → Says (fileOf text (tableOf text ew) (count text) tw)
+      says a e x = subst Says (sym (answered-as (r .0) a e)) x
+
+      go : (a : Answer) → Answered text (tableOf text ew) (count text) tw ≡ a → Says (fileOf text (tableOf text ew) (count text) tw)
+      go (A.Tree rows) e =
+          let f = accepts text (tableOf text ew) (count text) tw rows .0 e in
+          says (A.Tree rows) e (r, (f .0, (of-text text ew (r .0) (λ a w. forms.Reading a w (f .0)) (f .1 .0), f .1 .1, f .1 .2, verdict-as (r .0) (f .0) (f .1 .0) rows (f .1 .1) (f .1 .2))))
+      go (A.NoFile k) e = says (A.NoFile k) e (r, of-text text ew (r .0) (λ a w. NoFileFirst a w k) (no-file-exactly text (tableOf text ew) (count text) tw k .0 e))
+      go (A.NameDiffers k) e = says (A.NameDiffers k) e (r, of-text text ew (r .0) (λ a w. NameFirst a w k) (name-differs-exactly text (tableOf text ew) (count text) tw k .0 e))
+      go (A.TooDeep k) e = says (A.TooDeep k) e (r, of-text text ew (r .0) (λ a w. DepthFirst a w k) (too-deep-exactly text (tableOf text ew) (count text) tw k .0 e))
+      go (A.TableShort k) e =
+          let f = is-short text (tableOf text ew) (count text) tw k .0 e in
+          let l = f .1 .1 .1 in
+          says (A.TableShort k) e (r, f .0, (f .1 .0, (of-text text ew (r .0) (λ a w. forms.Reading a w (f .1 .0)) (f .1 .1 .0), omega arith)))
+
+  elements-say : Taken text ew → (f : Unread) → unreadableFrom 0 (count text) (tableOf text ew) ≡ f → UnreadSays (elements.rowsOf text) f → Says (elementsAs text (tableOf text ew) (count text) tw)
+  elements-say t (U.At k) e u = subst Says (sym (all-by text (tableOf text ew) (count text) tw (U.At k) e)) (t, u)
+  elements-say t U.Nothing e u = subst Says (sym (all-by text (tableOf text ew) (count text) tw U.Nothing e)) (file-says (t, u))
+
+  strict-says : Says (strictOf text ew tw)
+  strict-says = go (readingOf text ew) refl (reading-says text ew tw)
+    where
+      go : (o : Reading) → readingOf text ew ≡ o → ReadingSays text ew tw o → Says (strictOf text ew tw)
+      go (R.Refused r) e g = subst Says (sym (strict-by text ew tw (R.Refused r) e)) g
+      go (R.Read n) e g =
+          subst Says (sym (strict-by text ew tw (R.Read n) e ∙ ap (λ (k : ℕ). elementsAs text (tableOf text ew) k tw) (g .0)))
+          (elements-say (g .1) (unreadableFrom 0 (count text) (tableOf text ew)) refl (unread-says text ew (g .1)))
+
+  read-by : (rows : ℕ) (v : Verdict) → IsRead text ew tw rows v → strictOf text ew tw ≡ Read rows v
+  read-by rows v (r, (s, (f, c, l, w))) =
+      let h = of-table text ew (r .0) (λ a w. forms.Reading a w s) f in
+      readable-as r
+      ∙ answered-as (r .0) (A.Tree rows) (accepts text (tableOf text ew) (count text) tw rows .1 (s, (h, c, l)))
+      ∙ ap (Read rows) (verdict-as (r .0) s h rows c l ∙ sym w)
+
+  refused-by : (r : StrictRefusal) → Given text ew tw r → strictOf text ew tw ≡ Refused r
+  refused-by (S.Elements r) g = strict-by text ew tw (R.Refused r) (refused-reading text ew tw r g)
+  refused-by (S.Unreadable e) g =
+      strict-by text ew tw (R.Read (record { 0 = count text })) (taken-read text ew tw (g .0))
+      ∙ all-by text (tableOf text ew) (count text) tw (U.At (e .0)) (first-unread text ew (g .0) (e .0) (g .1))
+  refused-by (S.NoFile e) g =
+      readable-as (g .0)
+      ∙ answered-as (g .0 .0) (A.NoFile (e .0))
+      (no-file-exactly text (tableOf text ew) (count text) tw (e .0) .1 (of-table text ew (g .0 .0) (λ a w. NoFileFirst a w (e .0)) (g .1)))
+  refused-by (S.NameDiffers e) g =
+      readable-as (g .0)
+      ∙ answered-as (g .0 .0) (A.NameDiffers (e .0))
+      (name-differs-exactly text (tableOf text ew) (count text) tw (e .0) .1 (of-table text ew (g .0 .0) (λ a w. NameFirst a w (e .0)) (g .1)))
+  refused-by (S.TooDeep e) g =
+      readable-as (g .0)
+      ∙ answered-as (g .0 .0) (A.TooDeep (e .0))
+      (too-deep-exactly text (tableOf text ew) (count text) tw (e .0) .1 (of-table text ew (g .0 .0) (λ a w. DepthFirst a w (e .0)) (g .1)))
+  refused-by (S.TreeShort rows) g =
+      let l = g .2 .1 .1 in
+      readable-as (g .0)
+      ∙ answered-as (g .0 .0) (A.TableShort rows)
+      (is-short text (tableOf text ew) (count text) tw rows .1 (g .1, (g .2 .0, (of-table text ew (g .0 .0) (λ a w. forms.Reading a w (g .2 .0)) (g .2 .1 .0), omega arith))))
 
 pub accepted : Accepted
-accepted text ew tw rows v = (there (readingOf text ew) refl, back)
-  where
-    there : (o : Reading) → readingOf text ew ≡ o → strictOf text ew tw ≡ Read rows v → (n : ElementNumber) × ((readingOf text ew ≡ R.Read n) × (unreadableFrom 0 (n .0) (tableOf text ew) ≡ U.Nothing) × (answerOf tw (readingIn text (tableOf text ew) (elementsIn (tableOf text ew) (n .0))) ≡ A.Tree rows) × (v ≡ verdictOf (treeTable text (tableOf text ew) (n .0) tw) rows))
-    there (R.Refused r) o e = let q : Refused (S.Elements r) ≡ Read rows v = sym (strict-by text ew tw (R.Refused r) o) ∙ e in let z : _≡_ {A = ℕ} 0 1 = cc in absurd (omega arith)
-    there (R.Read n) o e =
-        let f = accepted-all text (tableOf text ew) (n .0) tw rows v (unreadableFrom 0 (n .0) (tableOf text ew)) refl (sym (strict-by text ew tw (R.Read n) o) ∙ e) in
-        let g = accepted-file text (tableOf text ew) (n .0) tw rows v (answerOf tw (readingIn text (tableOf text ew) (elementsIn (tableOf text ew) (n .0)))) refl (f .1) in
-        (n, (o, f .0, g .0, g .1))
+accepted text ew tw rows v = ((λ e. subst (Says text ew tw) e (strict-says text ew tw)), read-by text ew tw rows v)
 
-    back : (n : ElementNumber) × ((readingOf text ew ≡ R.Read n) × (unreadableFrom 0 (n .0) (tableOf text ew) ≡ U.Nothing) × (answerOf tw (readingIn text (tableOf text ew) (elementsIn (tableOf text ew) (n .0))) ≡ A.Tree rows) × (v ≡ verdictOf (treeTable text (tableOf text ew) (n .0) tw) rows)) → strictOf text ew tw ≡ Read rows v
-    back h =
-        strict-by text ew tw (R.Read (h .0)) (h .1 .0)
-        ∙ all-by text (tableOf text ew) (h .0 .0) tw U.Nothing (h .1 .1)
-        ∙ file-by text (tableOf text ew) (h .0 .0) tw (A.Tree rows) (h .1 .2)
-        ∙ ap (Read rows) (sym (h .1 .3))
+pub refused-exactly : RefusedExactly
+refused-exactly text ew tw r = ((λ e. subst (Says text ew tw) e (strict-says text ew tw)), refused-by text ew tw r)
+
+pub tables-hold : TablesHold
+unfolding elementsAfter
+tables-hold text ew tw s r f l =
+    let h = of-table text ew (r .0) (λ a w. forms.Reading a w s) f in
+    let e = taken-read text ew tw (r .0) in (
+      ap (λ (x : Strict). kept x (tableOf text ew)) (read-by text ew tw (length (rowsOf s)) (verdictOn (rowsOf s)) (r, (s, (f, refl, l, refl)))) ∙ table-read text ew e,
+      after-by text ew tw (R.Read (record { 0 = count text })) e
+          ∙ tree-by text (tableOf text ew) (count text) tw U.Nothing (none-unread text ew (r .0) (r .1))
+          ∙ tree-rows text ew tw (r .0) s h l,
+    )

@@ -1,33 +1,37 @@
--- What the strict reading of a text promises beside its contract, as statements: proofs/Promises.antt proves each. What a file is, that it
--- has one tree, and that refusal 5's place is exact is promised of elements (tree_promises). Assumes nothing: these are definitions.
-use Prim.Native.Nat.{ℕ}
+-- What the strict reading of a text promises beside its contract, as statements: proofs/Promises.antt proves each. Given.antt says of the
+-- text and the forms when it is read, and when each refusal is given. Assumes nothing: these are definitions.
+use Prim.Native.Nat.{ℕ, _-_, _*_, _≤_}
 use mathlib.Core.Path.{_≡_}
 use mathlib.Core.Logic.{_↔_}
-use mathlib.Core.List.{List}
-use lib.ListN.{replicate}
-use Rattle.reading.specs.Reading.{readingOf, tableOf}
-use Rattle.reading.specs.declared.ElementNumber.{ElementNumber}
-use Rattle.reading.specs.declared.Reading.the-variants as R
-use Rattle.tree.specs.Answers.{elementsIn, readingIn, answerOf}
-use Rattle.tree.specs.declared.Answer.the-variants as A
-use Rattle.verdict.specs.Verdict.{verdictOf}
+use mathlib.Core.List.{List, _++_}
+use lib.ListN.{length, replicate}
+use Rattle.reading.specs.Rows.{rowsOf}
+use Rattle.reading.specs.Table.{cells}
+use Rattle.forms.specs.Tree.{State}
+use Rattle.forms.specs.Tree as forms
+use Rattle.tree.specs.Answers.{wordsOf}
 use Rattle.verdict.specs.declared.Verdict.{Verdict}
-use Rattle.files.specs.declared.Unread.the-variants as U
 use Rattle.files.specs.declared.StrictRefusal.{StrictRefusal}
 use Rattle.files.specs.declared.Strict.{Strict}
 use Rattle.files.specs.declared.Strict.the-variants.{Read, Refused}
-use Rattle.files.specs.Strict.{unreadableFrom, treeTable, strictOf, elementsAfter, treeAfter}
+use Rattle.files.specs.Strict.{strictOf, elementsAfter, treeAfter}
+use Rattle.files.specs.Given.{count, Readable, File, IsRead, Given}
 
--- A text is accepted exactly where its elements are read (so 1, 3, 4 do not refuse it), none is unreadable (2), and they are answered as
--- a tree (so 5, 6, 7 and 8 do not); the verdict is that on its rows.
+-- A text is accepted exactly where its elements are a file by the forms and neither 6, 7 nor the sizes refuse it; the rows are as many as
+-- that file has, and the verdict is that on them.
 abbrev pub Accepted : Type 0
-Accepted =
-    (text : List ℕ) (ew tw rows : ℕ) (v : Verdict)
-    → (strictOf text ew tw ≡ Read rows v)
-    ↔ ((n : ElementNumber) × ((readingOf text ew ≡ R.Read n)
-    × (unreadableFrom 0 (n .0) (tableOf text ew) ≡ U.Nothing)
-    × (answerOf tw (readingIn text (tableOf text ew) (elementsIn (tableOf text ew) (n .0))) ≡ A.Tree rows)
-    × (v ≡ verdictOf (treeTable text (tableOf text ew) (n .0) tw) rows)))
+Accepted = (text : List ℕ) (ew tw rows : ℕ) (v : Verdict) → (strictOf text ew tw ≡ Read rows v) ↔ IsRead text ew tw rows v
+
+-- Each refusal is given exactly where 01's table says, with its place.
+abbrev pub RefusedExactly : Type 0
+RefusedExactly = (text : List ℕ) (ew tw : ℕ) (r : StrictRefusal) → (strictOf text ew tw ≡ Refused r) ↔ Given text ew tw r
+
+-- When a text is read, the element table has its elements and the tree table the rows of the file that it is; unused rows are zeros.
+abbrev pub TablesHold : Type 0
+TablesHold =
+    (text : List ℕ) (ew tw : ℕ) (s : State) → Readable text ew → File text s → 5 * length (forms.rowsOf s) ≤ tw
+    → (elementsAfter text ew tw ≡ cells (rowsOf text) ++ replicate (ew - 3 * count text) 0)
+    × (treeAfter text ew tw ≡ wordsOf (forms.rowsOf s) ++ replicate (tw - 5 * length (forms.rowsOf s)) 0)
 
 -- A refusal leaves every lent table all zeros.
 abbrev pub ZerosOnRefusal : Type 0

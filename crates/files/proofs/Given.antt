@@ -1,0 +1,144 @@
+-- What the first two layers of the strict reading say of the text: the element reader's answer, and the search for an unreadable element.
+-- Each answer has its description, and what is described is answered. Assumes nothing.
+use Prim.Native.Nat.{ℕ, zero, suc, _+_, _-_, _*_, _/_, _<_}
+use mathlib.Core.Path.{_≡_, refl, sym, ap, _∙_, subst}
+use mathlib.Core.Bool.{Bool, true, false}
+use mathlib.Core.List.{List, [], _∷_, _++_}
+use native.Mathlib.Omega.{arith}
+use native.Mathlib.Nat.{lt-of-not-le}
+use borrow.Author.Tests.{lt-ltb, le-ltb, ltb-true, ltb-false, eqb-true, eq-eqb}
+use lib.Dec.{ltb, eqb}
+use lib.ListN.{length, replicate}
+use Rattle.classes.proofs.Laws.{by-test}
+use Rattle.elements.specs.declared.Kind.{Kind}
+use Rattle.elements.specs.declared.Literal.{Literal}
+use Rattle.elements.specs.Kinds.{kindNumber}
+use Rattle.reading.specs.Rows.{Row, rowsOf}
+use Rattle.reading.specs.Table.{cells}
+use Rattle.reading.specs.Reading.{readingOf, tableOf}
+use Rattle.reading.specs.declared.Reading.{Reading}
+use Rattle.reading.specs.declared.Reading.the-variants as R
+use Rattle.reading.specs.declared.Refusal.{Refusal}
+use Rattle.reading.specs.declared.Refusal.the-variants.{TextTooLong, TooManyElements, TableShort}
+use Rattle.reading.proofs.Answers.{table-read, table-length}
+use Rattle.tree.specs.Answers.{elementsIn}
+use Rattle.files.specs.declared.Unread.{Unread}
+use Rattle.files.specs.declared.Unread.the-variants as U
+use Rattle.files.specs.declared.StrictRefusal.the-variants as S
+use Rattle.files.specs.Strict.{unreadableFrom}
+use Rattle.files.specs.Given.{count, Taken, UnreadableIn, FirstUnreadable, NoneUnreadable, Given}
+
+-- the element reader: what its answer says of the text, and the answer by what is said
+module _ (text : List ℕ) (ew tw : ℕ) where
+  abbrev pub ReadingSays : Reading → Type 0
+  ReadingSays (R.Read n) = (n .0 ≡ count text) × Taken text ew
+  ReadingSays (R.Refused r) = Given text ew tw (S.Elements r)
+
+  pub reading-says : ReadingSays (readingOf text ew)
+  unfolding readingOf
+  reading-says =
+      by-test ReadingSays (ltb 65536 (length text)) (λ l. (refl, ltb-true 65536 (length text) l))
+      (λ g. by-test ReadingSays (ltb 8192 (count text)) (λ l. (refl, ltb-false 65536 (length text) g, ltb-true 8192 (count text) l))
+      (λ h. by-test ReadingSays (ltb (ew / 3) (count text))
+      (λ l. (refl, ltb-false 65536 (length text) g, ltb-false 8192 (count text) h, omega (arith, ltb-true (ew / 3) (count text) l)))
+      (λ l. (refl, (ltb-false 65536 (length text) g, ltb-false 8192 (count text) h, omega (arith, ltb-false (ew / 3) (count text) l))))))
+
+  pub taken-read : Taken text ew → readingOf text ew ≡ R.Read (record { 0 = count text })
+  unfolding readingOf
+  taken-read t =
+      let l = t .2 in
+      simp (le-ltb 65536 (length text) (t .0), le-ltb 8192 (count text) (t .1), le-ltb (ew / 3) (count text) (omega arith))
+
+  pub refused-reading : (r : Refusal) → Given text ew tw (S.Elements r) → readingOf text ew ≡ R.Refused r
+  unfolding readingOf
+  refused-reading (TextTooLong p) g = rw (lt-ltb 65536 (length text) (g .1)) (ap (λ (k : ℕ). R.Refused (TextTooLong (record { 0 = k }))) (sym (g .0)))
+  refused-reading (TooManyElements e) g =
+      rw (le-ltb 65536 (length text) (g .1), lt-ltb 8192 (count text) (g .2)) (ap (λ (k : ℕ). R.Refused (TooManyElements (record { 0 = k }))) (sym (g .0)))
+  refused-reading (TableShort e) g =
+      let l = g .3 in
+      rw (le-ltb 65536 (length text) (g .1), le-ltb 8192 (count text) (g .2), lt-ltb (ew / 3) (count text) (omega arith))
+      (ap (λ (k : ℕ). R.Refused (TableShort (record { 0 = k }))) (sym (g .0)))
+
+  -- all the elements count
+  pub all-count : Taken text ew → elementsIn (tableOf text ew) (count text) ≡ count text
+  all-count t =
+      let l = t .1 in
+      let m = t .2 in
+      let z = table-length text ew in
+      omega arith
+
+unreadable-kind : (k : Kind) → kindNumber k ≡ 7 → k ≡ Kind.Unreadable
+unreadable-kind Kind.Identifier e = absurd (omega arith)
+unreadable-kind Kind.Extended e = absurd (omega arith)
+unreadable-kind (Kind.Literal Literal.Integer) e = absurd (omega arith)
+unreadable-kind (Kind.Literal Literal.Real) e = absurd (omega arith)
+unreadable-kind (Kind.Literal Literal.Character) e = absurd (omega arith)
+unreadable-kind (Kind.Literal Literal.String) e = absurd (omega arith)
+unreadable-kind Kind.Unreadable e = refl
+unreadable-kind (Kind.Delimiter n) e = absurd (omega arith)
+unreadable-kind (Kind.Reserved n) e = absurd (omega arith)
+
+-- the search for an unreadable element among rows of which the first is number i
+abbrev SearchSays : ℕ → List Row → Unread → Type 0
+SearchSays i rs (U.At k) = (m : ℕ) × ((k ≡ i + m) × FirstUnreadable rs m)
+SearchSays i rs U.Nothing = NoneUnreadable rs
+
+found-later : (i : ℕ) (r : Row) (rs : List Row) (f : Unread) → (r .kind ≡ Kind.Unreadable → ⊥) → SearchSays (suc i) rs f → SearchSays i (r ∷ rs) f
+found-later i r rs (U.At k) d s =
+    let p = s .1 .0 in
+    (suc (s .0), (omega arith, (s .1 .1 .0, λ j l. before j (omega arith))))
+  where
+    before : (j : ℕ) → j < suc (s .0) → UnreadableIn (r ∷ rs) j → ⊥
+    before zero l u = d u
+    before (suc j) l u = s .1 .1 .1 j (omega arith) u
+found-later i r rs U.Nothing d s = none
+  where
+    none : NoneUnreadable (r ∷ rs)
+    none zero u = d u
+    none (suc e) u = s e u
+
+search-says : (rs : List Row) (i : ℕ) (l : List ℕ) → SearchSays i rs (unreadableFrom i (length rs) (cells rs ++ l))
+unfolding unreadableFrom cells
+search-says [] i l = λ e u. u
+search-says (r ∷ rs) i l = go (eqb (kindNumber (r .kind)) 7) refl (search-says rs (suc i) l)
+  where
+    go : (b : Bool) → eqb (kindNumber (r .kind)) 7 ≡ b → SearchSays (suc i) rs (unreadableFrom (suc i) (length rs) (cells rs ++ l))
+        → SearchSays i (r ∷ rs) (elim b [ true ↦ U.At i | false ↦ unreadableFrom (suc i) (length rs) (cells rs ++ l) ])
+    go true e s = (0, (omega arith, (unreadable-kind (r .kind) (eqb-true (kindNumber (r .kind)) 7 e), λ j m. absurd (omega arith))))
+    go false e s =
+        found-later i r rs (unreadableFrom (suc i) (length rs) (cells rs ++ l))
+        (λ u. let z : _≡_ {A = ℕ} 0 1 = (let y : eqb (kindNumber (r .kind)) 7 ≡ true = eq-eqb (kindNumber (r .kind)) 7 (ap kindNumber u) in cc) in omega arith)
+        s
+
+-- what the search among a text's elements says, and where it ends by what is said
+abbrev pub UnreadSays : List Row → Unread → Type 0
+UnreadSays rs (U.At k) = FirstUnreadable rs k
+UnreadSays rs U.Nothing = NoneUnreadable rs
+
+module _ (text : List ℕ) (ew : ℕ) (t : Taken text ew) where
+  pub unread-says : UnreadSays (rowsOf text) (unreadableFrom 0 (count text) (tableOf text ew))
+  unread-says =
+      rw (table-read text ew (taken-read text ew 0 t))
+      (from (unreadableFrom 0 (count text) (cells (rowsOf text) ++ replicate (ew - 3 * count text) 0)) (search-says (rowsOf text) 0 (replicate (ew - 3 * count text) 0)))
+    where
+      from : (f : Unread) → SearchSays 0 (rowsOf text) f → UnreadSays (rowsOf text) f
+      from (U.At k) s = let z : s .0 ≡ k = (let p = s .1 .0 in omega arith) in subst (FirstUnreadable (rowsOf text)) z (s .1 .1)
+      from U.Nothing s = s
+
+  pub none-unread : NoneUnreadable (rowsOf text) → unreadableFrom 0 (count text) (tableOf text ew) ≡ U.Nothing
+  none-unread d = go (unreadableFrom 0 (count text) (tableOf text ew)) unread-says
+    where
+      go : (f : Unread) → UnreadSays (rowsOf text) f → f ≡ U.Nothing
+      go (U.At k) s = absurd (d k (s .0))
+      go U.Nothing s = refl
+
+  pub first-unread : (e : ℕ) → FirstUnreadable (rowsOf text) e → unreadableFrom 0 (count text) (tableOf text ew) ≡ U.At e
+  first-unread e d = go (unreadableFrom 0 (count text) (tableOf text ew)) unread-says
+    where
+      go : (f : Unread) → UnreadSays (rowsOf text) f → f ≡ U.At e
+      go (U.At k) s =
+          let a : e < suc k = lt-of-not-le (λ l. d .1 k (omega arith) (s .0)) in
+          let b : k < suc e = lt-of-not-le (λ l. s .1 e (omega arith) (d .0)) in
+          let z : k ≡ e = omega arith in
+          ap U.At z
+      go U.Nothing s = absurd (s e (d .0))

@@ -1,0 +1,95 @@
+-- What the two lent tables hold: the element table the text's elements, so that what the forms ask of it is asked of the text; the tree table
+-- a file's rows, so that the verdict on it is that on them. Assumes nothing.
+use Prim.Native.Nat.{ℕ, zero, suc, _+_, _-_, _*_, _/_, _≤_, min}
+use mathlib.Core.Path.{_≡_, refl, sym, ap, _∙_, subst₂, fun-ext}
+use mathlib.Core.Bool.{Bool, true, false}
+use mathlib.Core.List.{List, [], _∷_, _++_}
+use native.Mathlib.Omega.{arith}
+use borrow.Author.Tests.{ltb-false}
+use lib.Dec.{ltb}
+use lib.ListN.{length, getD, replicate, length-append, length-replicate, List·getD-eq-default}
+use Rattle.elements.specs.Kinds.{kindNumber}
+use Rattle.reading.specs.Rows.{Row, rowsOf}
+use Rattle.reading.specs.Table.{cells}
+use Rattle.reading.specs.Reading.{tableOf}
+use Rattle.reading.proofs.Answers.{table-read}
+use Rattle.reading.proofs.TableLaws.{length-cells}
+use Rattle.alike.specs.Alike.{cellAt, spelledSame, sameName}
+use Rattle.forms.specs.Kinds.{terminalOf}
+use Rattle.forms.specs.Tree as forms
+use Rattle.tree.specs.Answers.{terminalsOf, wordsOf}
+use Rattle.verdict.specs.Verdict.{verdictFrom, formsIn, verdictOf}
+use Rattle.files.specs.Given.{count, Taken, kindsOf, Elements, alike, formsOf, verdictOn}
+use Rattle.files.proofs.Given.{taken-read}
+
+-- zeros behind rows change none of the words
+zeros-at : (z i : ℕ) → _≡_ {A = ℕ} (getD (replicate z 0) i 0) 0
+zeros-at zero i = refl
+zeros-at (suc z) zero = refl
+zeros-at (suc z) (suc i) = zeros-at z i
+
+padded-at : (l : List ℕ) (z k : ℕ) → getD (l ++ replicate z 0) k 0 ≡ getD l k 0
+padded-at [] z k = zeros-at z k
+padded-at (x ∷ l) z zero = refl
+padded-at (x ∷ l) z (suc k) = padded-at l z k
+
+-- a word of a table that has the words of l, which are whole rows, and then perhaps zeros
+cell-as : (l t : List ℕ) (m i j : ℕ) → length l ≡ 3 * m → 3 * m ≤ length t → ((k : ℕ) → getD t k 0 ≡ getD l k 0) → cellAt t i j ≡ getD l (3 * i + j) 0
+unfolding cellAt
+cell-as l t m i j e h g = go (ltb i (length t / 3)) refl
+  where
+    go : (b : Bool) → ltb i (length t / 3) ≡ b → cellAt t i j ≡ getD l (3 * i + j) 0
+    go true q = rw q (g (3 * i + j))
+    go false q = let x = ltb-false i (length t / 3) q in rw q (sym (List·getD-eq-default l 0 (omega arith)))
+
+module _ (text l : List ℕ) (m z : ℕ) (e : length l ≡ 3 * m) where
+  cell-padded : (i j : ℕ) → cellAt (l ++ replicate z 0) i j ≡ cellAt l i j
+  cell-padded i j =
+      let a = length-append l (replicate {A = ℕ} z 0) in
+      cell-as l (l ++ replicate z 0) m i j e (omega arith) (padded-at l z) ∙ sym (cell-as l l m i j e (omega arith) (λ k. refl))
+
+  same-padded : (a b : ℕ) → sameName text (l ++ replicate z 0) a b ≡ sameName text l a b
+  unfolding sameName spelledSame
+  same-padded a b = rw (cell-padded a 0, cell-padded b 0, cell-padded a 1, cell-padded b 1, cell-padded a 2, cell-padded b 2)
+
+terminals-rows : (rs : List Row) (l : List ℕ) → terminalsOf (length rs) (cells rs ++ l) ≡ kindsOf rs
+unfolding terminalsOf cells
+terminals-rows [] l = refl
+terminals-rows (r ∷ rs) l = ap (λ (x : List ℕ). terminalOf (kindNumber (r .kind)) ∷ x) (terminals-rows rs l)
+
+-- the element table has the text's elements: what they are to the forms, and which are alike
+module _ (text : List ℕ) (ew : ℕ) (t : Taken text ew) where
+  table-elements : terminalsOf (count text) (tableOf text ew) ≡ Elements text
+  table-elements = rw (table-read text ew (taken-read text ew 0 t)) (terminals-rows (rowsOf text) (replicate (ew - 3 * count text) 0))
+
+  table-alike : sameName text (tableOf text ew) ≡ alike text
+  table-alike =
+      rw (table-read text ew (taken-read text ew 0 t))
+      (fun-ext (λ a. fun-ext (same-padded text (cells (rowsOf text)) (count text) (ew - 3 * count text) (length-cells (rowsOf text)) a)))
+
+  -- so that what holds of one holds of the other
+  pub of-text : (P : (ℕ → ℕ → Bool) → List ℕ → Type 0) → P (sameName text (tableOf text ew)) (terminalsOf (count text) (tableOf text ew)) → P (alike text) (Elements text)
+  of-text P x = subst₂ P table-alike table-elements x
+
+  pub of-table : (P : (ℕ → ℕ → Bool) → List ℕ → Type 0) → P (alike text) (Elements text) → P (sameName text (tableOf text ew)) (terminalsOf (count text) (tableOf text ew))
+  of-table P x = subst₂ P (sym table-alike) (sym table-elements) x
+
+words-size : (rs : List forms.Row) → length (wordsOf rs) ≡ 5 * length rs
+words-size [] = refl
+words-size (r ∷ rs) = omega (arith, words-size rs)
+
+-- the verdict on a tree table that has these rows and then zeros
+forms-in : (rs : List forms.Row) (l : List ℕ) → formsIn (length rs) (wordsOf rs ++ l) ≡ formsOf rs
+unfolding formsIn
+forms-in [] l = refl
+forms-in (r ∷ rs) l = ap (λ (x : List ℕ). r .form ∷ x) (forms-in rs l)
+
+pub verdict-rows : (rs : List forms.Row) (room : ℕ) → 5 * length rs ≤ room → verdictOf (wordsOf rs ++ replicate (room - 5 * length rs) 0) (length rs) ≡ verdictOn rs
+unfolding verdictOf
+verdict-rows rs room l =
+    let a = length-append (wordsOf rs) (replicate {A = ℕ} (room - 5 * length rs) 0) in
+    let b = length-replicate {A = ℕ} (room - 5 * length rs) 0 in
+    let w = words-size rs in
+    let z : min (length rs) (length (wordsOf rs ++ replicate {A = ℕ} (room - 5 * length rs) 0) / 5) ≡ length rs = omega arith in
+    ap (λ (n : ℕ). verdictFrom 0 0 (formsIn n (wordsOf rs ++ replicate (room - 5 * length rs) 0))) z
+    ∙ ap (verdictFrom 0 0) (forms-in rs (replicate (room - 5 * length rs) 0))

@@ -1,0 +1,91 @@
+-- When a text is read and when each of refusals 1 to 8 is given, in the words and the order of 01's table ("Refusals and their order"), said
+-- of the text and the forms. `elementWords` and `treeWords` are how many words the two lent tables have. Assumes nothing: these are
+-- definitions.
+use Prim.Native.Nat.{ℕ, zero, suc, _*_, _/_, _≤_, _<_}
+use mathlib.Core.Path.{_≡_}
+use mathlib.Core.Bool.{Bool}
+use mathlib.Core.List.{List, [], _∷_}
+use lib.ListN.{length}
+use Rattle.elements.specs.Kinds.{kindNumber}
+use Rattle.elements.specs.declared.Kind.{Kind}
+use Rattle.reading.specs.Rows.{Row, rowsOf}
+use Rattle.reading.specs.Table.{cells}
+use Rattle.reading.specs.Reading.{mostBytes, mostElements}
+use Rattle.reading.specs.declared.Refusal.the-variants.{TextTooLong, TooManyElements, TableShort}
+use Rattle.alike.specs.Alike.{sameName}
+use Rattle.forms.specs.Kinds.{terminalOf}
+use Rattle.forms.specs.Tree.{State, Reading}
+use Rattle.forms.specs.Tree as forms
+use Rattle.tree_promises.specs.Due.{NoFileFirst, NameFirst, DepthFirst}
+use Rattle.verdict.specs.Verdict.{verdictFrom}
+use Rattle.verdict.specs.declared.Verdict.{Verdict}
+use Rattle.files.specs.declared.StrictRefusal.{StrictRefusal}
+use Rattle.files.specs.declared.StrictRefusal.the-variants as S
+
+-- how many elements a text has
+abbrev pub count : List ℕ → ℕ
+count text = length (rowsOf text)
+
+-- the text's elements are taken: none of 1, 3, 4 refuses it
+abbrev pub Taken : List ℕ → ℕ → Type 0
+Taken text elementWords = (length text ≤ mostBytes) × (count text ≤ mostElements) × (3 * count text ≤ elementWords)
+
+-- element e of these is there and is unreadable
+abbrev pub UnreadableIn : List Row → ℕ → Type 0
+UnreadableIn [] e = ⊥
+UnreadableIn (r ∷ rs) zero = r .kind ≡ Kind.Unreadable
+UnreadableIn (r ∷ rs) (suc e) = UnreadableIn rs e
+
+-- 2, "an unreadable element, the first"
+abbrev pub FirstUnreadable : List Row → ℕ → Type 0
+FirstUnreadable rs e = UnreadableIn rs e × ((j : ℕ) → j < e → UnreadableIn rs j → ⊥)
+
+abbrev pub NoneUnreadable : List Row → Type 0
+NoneUnreadable rs = (e : ℕ) → UnreadableIn rs e → ⊥
+
+-- the text's elements are taken and none is unreadable: none of 1, 3, 4, 2 refuses it
+abbrev pub Readable : List ℕ → ℕ → Type 0
+Readable text elementWords = Taken text elementWords × NoneUnreadable (rowsOf text)
+
+-- what these elements are to the forms
+abbrev pub kindsOf : List Row → List ℕ
+kindsOf [] = []
+kindsOf (r ∷ rs) = terminalOf (kindNumber (r .kind)) ∷ kindsOf rs
+
+-- what the text's elements are to the forms, and whether two of them are the same name
+abbrev pub Elements : List ℕ → List ℕ
+Elements text = kindsOf (rowsOf text)
+
+abbrev pub alike : List ℕ → ℕ → ℕ → Bool
+alike text = sameName text (cells (rowsOf text))
+
+-- the text is a file by the forms, whose closing names agree and which never has more than 32 open; s is what it gives
+abbrev pub File : List ℕ → State → Type 0
+File text s = Reading (alike text) (Elements text) s
+
+-- the forms of a tree's rows, and the verdict on them
+abbrev pub formsOf : List forms.Row → List ℕ
+formsOf [] = []
+formsOf (r ∷ rs) = r .form ∷ formsOf rs
+
+abbrev pub verdictOn : List forms.Row → Verdict
+verdictOn rs = verdictFrom 0 0 (formsOf rs)
+
+-- the text is read: it is a file, and the tree table has room for its rows, of which there are so many; v is the verdict on them
+abbrev pub IsRead : List ℕ → ℕ → ℕ → ℕ → Verdict → Type 0
+IsRead text elementWords treeWords rows v =
+    Readable text elementWords
+    × ((s : State) × (File text s × (length (forms.rowsOf s) ≡ rows) × (5 * rows ≤ treeWords) × (v ≡ verdictOn (forms.rowsOf s))))
+
+-- 01's table: when each refusal is given, and its place. Each is given where those above it are not; of 5, 6, 7 the first element decides.
+abbrev pub Given : List ℕ → ℕ → ℕ → StrictRefusal → Type 0
+Given text elementWords treeWords (S.Elements (TextTooLong p)) = (p .0 ≡ mostBytes) × (mostBytes < length text)
+Given text elementWords treeWords (S.Elements (TooManyElements e)) = (e .0 ≡ mostElements) × (length text ≤ mostBytes) × (mostElements < count text)
+Given text elementWords treeWords (S.Elements (TableShort e)) =
+    (e .0 ≡ elementWords / 3) × (length text ≤ mostBytes) × (count text ≤ mostElements) × (elementWords < 3 * count text)
+Given text elementWords treeWords (S.Unreadable e) = Taken text elementWords × FirstUnreadable (rowsOf text) (e .0)
+Given text elementWords treeWords (S.NoFile e) = Readable text elementWords × NoFileFirst (alike text) (Elements text) (e .0)
+Given text elementWords treeWords (S.NameDiffers e) = Readable text elementWords × NameFirst (alike text) (Elements text) (e .0)
+Given text elementWords treeWords (S.TooDeep e) = Readable text elementWords × DepthFirst (alike text) (Elements text) (e .0)
+Given text elementWords treeWords (S.TreeShort rows) =
+    Readable text elementWords × (rows ≡ treeWords / 5) × ((s : State) × (File text s × (treeWords < 5 * length (forms.rowsOf s))))
