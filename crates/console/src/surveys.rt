@@ -5,6 +5,7 @@ use crate::words;
 use packages::Outcome;
 use packages::Summary;
 use pairs::Pair;
+use reading::ElementNumber;
 use records::Tally;
 
 // "a negative one with a leading `-`": a word of two's complement.
@@ -18,12 +19,10 @@ fn signed(word: u64) {
 }
 
 // "Names print as spelled": the bytes of an element, none where the tables point outside.
-fn spelled(text: &[u8], elements: &[u64], element: usize) {
-    if elements.len() / 3 <= element {
-        return;
-    }
-    let first = elements[element * 3 + 1] as usize;
-    let size = elements[element * 3 + 2] as usize;
+fn spelled(text: &[u8], elements: &[u64], element: ElementNumber) {
+    let size = alike::size_of(elements, element.0) as usize;
+    let place = reading::place_of(elements, element);
+    let first = place.0;
     if text.len() < first {
         return;
     }
@@ -43,7 +42,7 @@ fn claim(text: &[u8], elements: &[u64], class: u64, name: u64) {
             return;
         },
     }
-    spelled(text, elements, name as usize);
+    spelled(text, elements, ElementNumber(name as usize));
 }
 
 // "states by their word"
