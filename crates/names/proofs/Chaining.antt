@@ -1,6 +1,6 @@
 -- The chains, a record at a time from the last to the first, and a search along one. Assumes nothing.
 use mathlib.Core.Path.{_≡_, refl, sym, ap, _∙_, subst}
-use mathlib.Core.Bool.{Bool, true, false, not, _&&_, false≢true}
+use mathlib.Core.Bool.{Bool, true, false, _&&_, _||_, false≢true}
 use mathlib.Core.List.{List}
 use Prim.Native.Nat.{ℕ, zero, suc, _+_, _-_, _≤_, _<_}
 use native.Mathlib.Decide.{ℕ-discrete}
@@ -8,15 +8,16 @@ use native.Mathlib.Omega.{arith}
 use lib.Dec.{eqb}
 use lib.ListN.{length, getD, set}
 use lib.Seq.{getD-set-same, getD-set-other}
-use borrow.Author.Tests.{eq-eqb, ne-eqb, eqb-false, not-true}
+use borrow.Author.Tests.{eq-eqb, ne-eqb, eqb-false}
 use Rattle.alike.specs.Alike.{cellAt, sameName}
 use Rattle.alike.proofs.Laws.{both-left, both-right}
 use Rattle.alike.proofs.Sameness.{same-kindless}
 use Rattle.records.specs.Records.{wordAt, isClaim}
-use Rattle.names.specs.Names.{recordsIn, firstFrom, claimsElement, linkOf}
+use Rattle.names.specs.Names.{recordsIn, firstFrom, claimsElement, linkOf, below}
 use Rattle.names.specs.Chains.{bucketOf, inBucket, Chained}
 use Rattle.names.proofs.Firsts.{first-found, first-hit, first-miss, first-end, search-over, search-inside, search-in, search-hit, search-turn}
 use Rattle.names.proofs.Hashing.{same-bucket}
+use Rattle.names.proofs.Tables.{word-below}
 
 pub chain-none : (p : ℕ → ℕ → Bool) (n : ℕ) (heads next : List ℕ) → ((b : ℕ) → getD heads b 0 ≡ 0) → Chained p n n heads next
 chain-none p n heads next h = record {
@@ -85,6 +86,14 @@ left-less : (q : ℕ → Bool) (n j g : ℕ) → j < n → g ≡ firstFrom q (j 
 left-less q n j zero l e = omega arith
 left-less q n j (suc k) l e = let w = first-found q (j + 1) (n - (j + 1)) k (sym e) in let a = w .0 in let b = w .1 in omega arith
 
+or-left : (a b : Bool) → (a || b) ≡ false → a ≡ false
+or-left true b h = absurd (false≢true (sym h))
+or-left false b h = refl
+
+or-right : (a b : Bool) → (a || b) ≡ false → b ≡ false
+or-right true b h = absurd (false≢true (sym h))
+or-right false b h = h
+
 module _ (text table items : List ℕ) (e : ℕ) where
   abbrev claims : ℕ → Bool
   claims = claimsElement text table items e
@@ -100,7 +109,7 @@ module _ (text table items : List ℕ) (e : ℕ) where
       rw x (eq-eqb (bucketOf text table (wordAt items k 3)) (bucketOf text table e) (same-bucket text table (wordAt items k 3) e y))
 
   -- no claims of what is no name
-  pub search-not : (kind : ℕ) → kind ≡ cellAt table e 0 → (not (eqb kind 1) && not (eqb kind 2)) ≡ true → 0 ≡ linkOf text table items e
+  search-not : (kind : ℕ) → kind ≡ cellAt table e 0 → (eqb kind 1 || eqb kind 2) ≡ false → 0 ≡ linkOf text table items e
   unfolding linkOf claimsElement
   search-not kind k h = sym (go (linkOf text table items e) refl)
     where
@@ -109,9 +118,12 @@ module _ (text table items : List ℕ) (e : ℕ) where
       go (suc f) g =
           let w = first-found (claimsElement text table items e) 0 (recordsIn items) f g in
           absurd (same-kindless text table (wordAt items f 3) e
-          (λ z. eqb-false kind 1 (not-true (eqb kind 1) (both-left (not (eqb kind 1)) (not (eqb kind 2)) h)) (k ∙ z))
-          (λ z. eqb-false kind 2 (not-true (eqb kind 2) (both-right (not (eqb kind 1)) (not (eqb kind 2)) h)) (k ∙ z))
+          (λ z. eqb-false kind 1 (or-left (eqb kind 1) (eqb kind 2) h) (k ∙ z))
+          (λ z. eqb-false kind 2 (or-right (eqb kind 1) (eqb kind 2) h) (k ∙ z))
           (both-right (isClaim (wordAt items f 0)) (sameName text table (wordAt items f 3) e) (w .2)))
+
+  pub link-not : (rows kind : ℕ) → e < rows → kind ≡ cellAt table e 0 → (eqb kind 1 || eqb kind 2) ≡ false → 0 ≡ below (linkOf text table items) rows e
+  link-not rows kind l k h = word-below (linkOf text table items) rows e 0 l (search-not kind k h)
 
   -- what is left of the search at h
   pub record Searching (h : ℕ) : Type 0 where

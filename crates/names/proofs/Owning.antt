@@ -2,19 +2,26 @@
 use mathlib.Core.Path.{_≡_, refl, sym, ap, _∙_}
 use mathlib.Core.Bool.{Bool, true, false, cond, _&&_, false≢true}
 use mathlib.Core.List.{List}
-use Prim.Native.Nat.{ℕ, suc, _<_}
+use Prim.Native.Nat.{ℕ, suc, _<_, min}
 use native.Mathlib.Omega.{arith}
+use lib.ListN.{length, getD}
 use Rattle.alike.specs.Alike.{sameName}
 use Rattle.alike.proofs.Laws.{both-left, both-right}
 use Rattle.alike.proofs.Sameness.{same-flips, same-goes-on}
 use Rattle.records.specs.Records.{wordAt, isClaim}
-use Rattle.names.specs.Names.{recordsIn, claimsElement, linkOf, ownOf, share}
+use Rattle.names.specs.Names.{recordsIn, claimsElement, linkOf, ownOf, share, filled}
+use Rattle.names.proofs.Tables.{filled-at}
 use Rattle.names.proofs.Firsts.{first-found, first-none, first-same}
 
 module _ (text table items : List ℕ) (i class : ℕ) (x : Bool) (u : class ≡ wordAt items i 0) (v : x ≡ isClaim class) where
   pub own-claim : (e r : ℕ) → x ≡ true → e ≡ wordAt items i 3 → r ≡ linkOf text table items e → r ≡ ownOf text table items i
   unfolding ownOf
   own-claim e r h w q = rw (← u, ← v, h, ← w) q
+
+  -- the links reach the name's element
+  pub own-linked : (rows e m : ℕ) (links : List ℕ) → x ≡ true → e ≡ wordAt items i 3 → links ≡ filled (linkOf text table items) rows (length links) → m ≡ min rows (length links) → e < m → getD links e 0 ≡ ownOf text table items i
+  own-linked rows e m links h w f q l =
+      own-claim e (getD links e 0) h w (ap (λ (t : List ℕ). getD t e 0) f ∙ filled-at (linkOf text table items) rows (length links) e (omega arith) (omega arith))
 
   pub own-none : x ≡ false → 0 ≡ ownOf text table items i
   unfolding ownOf

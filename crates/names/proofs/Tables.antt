@@ -91,3 +91,7 @@ all-zero n t e k = rw e (zeros n k)
 
 pub zeros-long : (n : ℕ) (t : List ℕ) → t ≡ replicate n 0 → length t ≡ n
 zeros-long n t e = rw e (length-replicate n 0)
+
+-- filled, told by its own length
+pub still-filled : (f : ℕ → ℕ) (n m : ℕ) (t : List ℕ) → t ≡ filled f n m → t ≡ filled f n (length t)
+still-filled f n m t e = e ∙ ap (filled f n) (sym (ap length e ∙ filled-length f n m))

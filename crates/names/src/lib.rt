@@ -78,10 +78,6 @@ fn find(
     requires { ⌜ Chained (inBucket (now text) (now elements) (now items)) (recordsIn (now items)) 0 (now heads) (now next) ⌝ }
     ensures { λ r. ⌜ r ≡ linkOf (now (text .entry)) (now (elements .entry)) (now (items .entry)) e ⌝ }
 {
-    let kind = alike::kind_of(elements, e);
-    if (kind != 1) & (kind != 2) {
-        return 0;
-    }
     let mut h = heads[bucket(text, elements, e)];
     while h != 0 {
         let j = (h - 1) as usize;
@@ -93,6 +89,7 @@ fn find(
     0
 }
 
+// Element e's link: only a name has one.
 fn link_at(
     text: &[u8],
     elements: &[u64],
@@ -106,7 +103,10 @@ fn link_at(
     ensures { λ r. ⌜ r ≡ below (linkOf (now (text .entry)) (now (elements .entry)) (now (items .entry))) rows e ⌝ }
 {
     if e < rows {
-        return find(text, elements, items, heads, next, e);
+        let kind = alike::kind_of(elements, e);
+        if (kind == 1) | (kind == 2) {
+            return find(text, elements, items, heads, next, e);
+        }
     }
     0
 }
@@ -130,26 +130,26 @@ fn write_links(
     }
 }
 
+// A claim's name is an element, and linked already where the links reach it.
 fn own_link(
     text: &[u8],
     elements: &[u64],
     items: &[u64],
+    rows: usize,
     heads: &[u64; 1024],
     next: &[u64; 1024],
+    links: &[u64],
     i: usize,
 ) -> u64
-    requires { ⌜ Chained (inBucket (now text) (now elements) (now items)) (recordsIn (now items)) 0 (now heads) (now next) ⌝ }
+    requires { ⌜ Chained (inBucket (now text) (now elements) (now items)) (recordsIn (now items)) 0 (now heads) (now next) × (now links ≡ filled (linkOf (now text) (now elements) (now items)) rows (length (now links))) ⌝ }
     ensures { λ r. ⌜ r ≡ ownOf (now (text .entry)) (now (elements .entry)) (now (items .entry)) i ⌝ }
 {
     if records::is_claim(records::word(items, i, 0)) {
-        return find(
-            text,
-            elements,
-            items,
-            heads,
-            next,
-            records::word(items, i, 3) as usize,
-        );
+        let e = records::word(items, i, 3) as usize;
+        if e < lent::least(rows, links.len()) {
+            return links[e];
+        }
+        return find(text, elements, items, heads, next, e);
     }
     0
 }
@@ -159,16 +159,18 @@ fn own_links(
     elements: &[u64],
     items: &[u64],
     n: usize,
+    rows: usize,
     heads: &[u64; 1024],
     next: &[u64; 1024],
+    links: &[u64],
     own: &mut [u64; 1024],
 )
-    requires { ⌜ (n ≤ 1024) × Chained (inBucket (now text) (now elements) (now items)) (recordsIn (now items)) 0 (now heads) (now next) × (now own ≡ replicate 1024 0) ⌝ }
+    requires { ⌜ (n ≤ 1024) × Chained (inBucket (now text) (now elements) (now items)) (recordsIn (now items)) 0 (now heads) (now next) × (now own ≡ replicate 1024 0) × (now links ≡ filled (linkOf (now text) (now elements) (now items)) rows (length (now links))) ⌝ }
     ensures { λ _. ⌜ ((i : ℕ) → i < n → getD (now (own .exit)) i 0 ≡ ownOf (now (text .entry)) (now (elements .entry)) (now (items .entry)) i) ⌝ }
 {
     let mut i: usize = 0;
     while i < n {
-        own[i] = own_link(text, elements, items, heads, next, i);
+        own[i] = own_link(text, elements, items, rows, heads, next, links, i);
         i += 1;
     }
 }
@@ -234,7 +236,17 @@ pub fn link_names(
     let rows = lent::least(count, elements.len() / 3);
     write_links(text, elements, items, rows, &heads, &next, links);
     let mut own = [0u64; 1024];
-    own_links(text, elements, items, n, &heads, &next, &mut own);
+    own_links(
+        text,
+        elements,
+        items,
+        n,
+        rows,
+        &heads,
+        &next,
+        links,
+        &mut own,
+    );
     let mut marks = [0u64; 1024];
     let any = mark_twins(&own, n, &mut marks);
     write_words(&own, n, owns);

@@ -10,16 +10,16 @@ use Rattle.names.proofs.own_links.Statement.{statement}
 use Rattle.names.proofs.own_links.Tie as tie
 
 abbrev Inv-loop : tie.InvT-loop
-Inv-loop text elements items n heads next own₀ i₀ own i = (i ≤ n) × (length own ≡ 1024) × Written (ownOf text elements items) own i
+Inv-loop text elements items n rows heads next links own₀ i₀ own i = (i ≤ n) × (length own ≡ 1024) × Written (ownOf text elements items) own i
 
 abbrev μ-loop : tie.MeasureT-loop
-μ-loop text elements items n heads next own₀ i₀ own i = n - i
+μ-loop text elements items n rows heads next links own₀ i₀ own i = n - i
 
 loop-holds : tie.Need-loop-holds Inv-loop μ-loop
-loop-holds c = (search needs, zeros-long 1024 _ (c .before .before .before .pre .2), λ k h. absurd (omega arith))
+loop-holds c = (search needs, zeros-long 1024 _ (c .before .before .before .before .pre .2), λ k h. absurd (omega arith))
 
 own-link-requires : tie.Need-own-link-requires Inv-loop μ-loop
-own-link-requires c κs = c .before .before .before .before .before .pre .1
+own-link-requires c κs = let r = c .before .before .before .before .before .before .pre in (r .1, r .3)
 
 mul-own : tie.Need-mul-own Inv-loop μ-loop
 mul-own c = search needs
@@ -35,7 +35,7 @@ loop-less c = search needs
 
 loop-again : tie.Need-loop-again Inv-loop μ-loop
 loop-again c = let l = c .before .before .loop in
-    (search needs, simp length-set (l .inv .1), word-written _ (l .own) (l .i) _ (l .inv .2) (omega (arith, c .before .before .before .before .before .before .pre .0, l .inv .1)) (c .own-link .ensures))
+    (search needs, simp length-set (l .inv .1), word-written _ (l .own) (l .i) _ (l .inv .2) (omega (arith, c .before .before .before .before .before .before .before .pre .0, l .inv .1)) (c .own-link .ensures))
 
 returns : tie.Need-returns Inv-loop μ-loop
 returns c = λ k l. c .before .loop .inv .2 k (omega arith)
