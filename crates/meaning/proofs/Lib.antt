@@ -10,3 +10,6 @@ pub mod Claims
 pub mod Sameness
 pub mod Doubles
 pub mod Uses
+pub mod States
+pub mod Counted
+pub mod Promises
