@@ -1,4 +1,5 @@
--- Expressions, names used and pieces come to what is sound, so that a claim's value fits its record. Assumes nothing.
+-- What folding keeps is kept by expressions; names used and pieces come to what is sound, so that a claim's value fits its record. Assumes
+-- nothing.
 use mathlib.Core.Path.{_≡_, refl, sym, subst}
 use mathlib.Core.Logic.{inl, inr}
 use mathlib.Core.Bool.{Bool, true, false, cond, _&&_, _||_}
@@ -12,11 +13,12 @@ use Rattle.records.specs.Records.{isClaim}
 use Rattle.tree.specs.Items.{rowsOfPiece}
 use Rattle.folding.specs.declared.Outcome.{Outcome}
 use Rattle.operands.specs.Operands.{operatorOf, signOf, literalBy}
+use Rattle.values.specs.Values.{languageValue}
 use Rattle.values.specs.Words.{leanOf}
 use Rattle.values.specs.declared.Value.{Value}
 use Rattle.values.specs.declared.Value.the-variants.{Without}
-use Rattle.values.proofs.Sound.{SoundOutcome, Sound, wrong-leaf-sound, literal-sound, combined-sound, signed-sound, operand-sound, language-sound, choose-sound}
-use Rattle.values.proofs.Laws.{FitsConstant, FitsSubtype, Fits, constant-sound, subtype-sound, lean-sound, constant-fits, subtype-fits, ranged-fits}
+use Rattle.values.proofs.Sound.{Keeps, small, SoundOutcome, Sound, wrong-leaf-sound, literal-sound, combined-sound, signed-sound, operand-sound, lean-sound, language-sound, choose-sound}
+use Rattle.values.proofs.Laws.{Constant, Subtype, Fits, fits-sound, constant-fits, subtype-fits, ranged-fits}
 use Rattle.folds.specs.Expressions.{behind, rowOutcome, outcomeIn}
 use Rattle.items.specs.Items.{anyDown}
 use Rattle.worded.specs.Elements.{Element, Piece, at, kinds}
@@ -27,53 +29,55 @@ use Rattle.meaning.proofs.Good.{GoodDone, Good}
 clash : {A : Type 0} → _≡_ {A = ℕ} 0 1 → A
 clash z = absurd (omega arith)
 
--- ---- expressions
+-- ---- expressions, and what is kept of them
 
-choose-outcome : (t : Bool) (x y : Outcome) → SoundOutcome x → SoundOutcome y → SoundOutcome (cond t x y)
-choose-outcome true x y h k = h
-choose-outcome false x y h k = k
+module _ (K : Keeps) where
+  choose-outcome : (t : Bool) (x y : Outcome) → SoundOutcome K x → SoundOutcome K y → SoundOutcome K (cond t x y)
+  choose-outcome true x y h k = h
+  choose-outcome false x y h k = k
 
-pub literal-by-sound : (kind : ℕ) (bytes : List ℕ) → SoundOutcome (literalBy kind bytes)
-unfolding literalBy
-literal-by-sound kind bytes = choose-outcome (eqb kind 3) _ _ (literal-sound bytes) (wrong-leaf-sound 3 (omega arith))
+  pub literal-by-sound : (kind : ℕ) (bytes : List ℕ) → SoundOutcome K (literalBy kind bytes)
+  unfolding literalBy
+  literal-by-sound kind bytes = choose-outcome (eqb kind 3) _ _ (literal-sound K bytes) (wrong-leaf-sound K 3 (K .three))
 
-module _ (name literal : ℕ → Outcome) (kind : ℕ → ℕ) (n : (i : ℕ) → SoundOutcome (name i)) (l : (i : ℕ) → SoundOutcome (literal i)) where
-  row-sound : (r : Row) (x y : Outcome) → SoundOutcome x → SoundOutcome y → SoundOutcome (rowOutcome name literal kind r x y)
-  unfolding rowOutcome
-  row-sound r x y h k =
-      choose-outcome (eqb (r .form) 24) _ _ (n (r .first))
-      (choose-outcome (eqb (r .form) 27) _ _ (l (r .first))
-      (choose-outcome (eqb (r .form) 28) _ _ (signed-sound (signOf (kind (r .operator))) x h)
-      (choose-outcome (eqb (r .form) 29) _ _ (combined-sound (operatorOf (kind (r .operator))) x y h k) (wrong-leaf-sound 3 (omega arith)))))
+  module _ (name literal : ℕ → Outcome) (kind : ℕ → ℕ) (n : (i : ℕ) → SoundOutcome K (name i)) (l : (i : ℕ) → SoundOutcome K (literal i)) where
+    row-sound : (r : Row) (x y : Outcome) → SoundOutcome K x → SoundOutcome K y → SoundOutcome K (rowOutcome name literal kind r x y)
+    unfolding rowOutcome
+    row-sound r x y h k =
+        choose-outcome (eqb (r .form) 24) _ _ (n (r .first))
+        (choose-outcome (eqb (r .form) 27) _ _ (l (r .first))
+        (choose-outcome (eqb (r .form) 28) _ _ (signed-sound K (signOf (kind (r .operator))) x h)
+        (choose-outcome (eqb (r .form) 29) _ _ (combined-sound K (operatorOf (kind (r .operator))) x y h k) (wrong-leaf-sound K 3 (K .three)))))
 
-  pub outcome-sound : (f : ℕ) (rs : List Row) → SoundOutcome (outcomeIn name literal kind f rs)
-  unfolding outcomeIn
-  outcome-sound zero rs = wrong-leaf-sound 3 (omega arith)
-  outcome-sound (suc f) [] = wrong-leaf-sound 3 (omega arith)
-  outcome-sound (suc f) (r ∷ rs) = row-sound r (outcomeIn name literal kind f rs) (outcomeIn name literal kind f (behind rs)) (outcome-sound f rs) (outcome-sound f (behind rs))
+    pub outcome-sound : (f : ℕ) (rs : List Row) → SoundOutcome K (outcomeIn name literal kind f rs)
+    unfolding outcomeIn
+    outcome-sound zero rs = wrong-leaf-sound K 3 (K .three)
+    outcome-sound (suc f) [] = wrong-leaf-sound K 3 (K .three)
+    outcome-sound (suc f) (r ∷ rs) = row-sound r (outcomeIn name literal kind f rs) (outcomeIn name literal kind f (behind rs)) (outcome-sound f rs) (outcome-sound f (behind rs))
 
--- names that come to what is sound
-abbrev pub SoundUse : (Element → Value) → Type 0
-SoundUse used = (x : Element) → Sound (used x)
+  -- names that come to what is sound
+  abbrev pub SoundUse : (Element → Value) → Type 0
+  SoundUse used = (x : Element) → Sound K (used x)
 
-module _ (p : Piece) (used : Element → Value) (u : SoundUse used) where
-  pub valued-sound : (rs : List Row) → SoundOutcome (valued p used rs)
-  unfolding valued
-  valued-sound rs = outcome-sound _ _ _ (λ i. operand-sound (used (at p i)) (u (at p i))) (λ i. literal-by-sound (at p i .kind) (at p i .bytes)) _ rs
+  module _ (p : Piece) (used : Element → Value) (u : SoundUse used) where
+    pub valued-sound : (rs : List Row) → SoundOutcome K (valued p used rs)
+    unfolding valued
+    valued-sound rs = outcome-sound _ _ _ (λ i. operand-sound K (used (at p i)) (u (at p i))) (λ i. literal-by-sound (at p i .kind) (at p i .bytes)) _ rs
 
-  bounded-fits : (mark : Value) → Sound mark → (rs : List Row) → FitsSubtype (bounded p used mark rs)
-  bounded-fits mark m [] = subtype-fits mark m
-  bounded-fits mark m (range ∷ rs) = ranged-fits mark (valued p used rs) (valued p used (behind rs)) (anyDown (kinds p)) m (valued-sound rs) (valued-sound (behind rs))
+    pub bounded-fits : (mark : Value) → Sound K mark → (rs : List Row) → Subtype K (bounded p used mark rs)
+    bounded-fits mark m [] = subtype-fits K mark m
+    bounded-fits mark m (range ∷ rs) = ranged-fits K mark (valued p used rs) (valued p used (behind rs)) (anyDown (kinds p)) m (valued-sound rs) (valued-sound (behind rs))
 
-  formed-constant : classOf p ≡ 3 → (rs : List Row) → FitsConstant (formed p used rs)
+module _ (p : Piece) (used : Element → Value) (u : SoundUse small used) where
+  formed-constant : classOf p ≡ 3 → (rs : List Row) → Constant small (formed p used rs)
   formed-constant c [] = omega arith
   formed-constant c (item ∷ []) = omega arith
-  formed-constant c (item ∷ mark ∷ rs) = rw c (constant-fits (used (at p (mark .first))) (valued p used rs) (u (at p (mark .first))) (valued-sound rs))
+  formed-constant c (item ∷ mark ∷ rs) = rw c (constant-fits small (used (at p (mark .first))) (valued p used rs) (u (at p (mark .first))) (valued-sound small p used u rs))
 
-  formed-subtype : classOf p ≡ 4 → (rs : List Row) → FitsSubtype (formed p used rs)
+  formed-subtype : classOf p ≡ 4 → (rs : List Row) → Subtype small (formed p used rs)
   formed-subtype c [] = omega arith
   formed-subtype c (item ∷ []) = omega arith
-  formed-subtype c (item ∷ mark ∷ rs) = rw c (bounded-fits (used (at p (mark .first))) (u (at p (mark .first))) rs)
+  formed-subtype c (item ∷ mark ∷ rs) = rw c (bounded-fits small p used u (used (at p (mark .first))) (u (at p (mark .first))) rs)
 
 -- ---- names used
 
@@ -89,38 +93,32 @@ is-claim c e P x y = go (eqb c 3) (eqb c 4) refl refl e
     go false true q r e = subst P (sym (eqb-true c 4 r)) y
     go false false q r e = let z : _≡_ {A = ℕ} 0 1 = cc in clash z
 
-fits-sound : (class : ℕ) (v : Value) → Fits class v → Sound v
-fits-sound class v (inl f) = constant-sound v (f .1)
-fits-sound class v (inr f) = subtype-sound v (f .1)
-
 claim-class : (x : Element) (p : Piece) → claims x p ≡ true → isClaim (classOf p) ≡ true
 unfolding claims
 claim-class x p e = both-left (isClaim (classOf p)) _ e
 
-first-sound : (all : List Piece) (ds : List Done) → Good all ds → (x : Element) → Sound (firstAbove x ds)
+first-sound : (all : List Piece) (ds : List Done) → Good all ds → (x : Element) → Sound small (leanOf (firstAbove x ds))
 unfolding firstAbove
-first-sound all [] g x = language-sound (language x)
+first-sound all [] g x = lean-sound small (languageValue (language x)) (language-sound (language x))
 first-sound all (d ∷ ds) g x = go (claims x (d .piece)) refl (first-sound all ds (g .1) x)
   where
-    go : (b : Bool) → claims x (d .piece) ≡ b → Sound (firstAbove x ds) → Sound (elim b [ true ↦ d .value | false ↦ firstAbove x ds ])
+    go : (b : Bool) → claims x (d .piece) ≡ b → Sound small (leanOf (firstAbove x ds)) → Sound small (leanOf (elim b [ true ↦ d .value | false ↦ firstAbove x ds ]))
     go true e h = fits-sound (classOf (d .piece)) (d .value) (g .0 (claim-class x (d .piece) e) .0)
     go false e h = h
 
-pub use-sound : (all : List Piece) (ds : List Done) → Good all ds → SoundUse (useOf all ds)
+pub use-sound : (all : List Piece) (ds : List Done) → Good all ds → SoundUse small (useOf all ds)
 unfolding useOf
 use-sound all ds g x =
-    choose-sound (claimedAbove x ds) _ _
-    (choose-sound (doubled all x) (Without 5) _ (omega arith) (lean-sound (firstAbove x ds) (first-sound all ds g x)))
-    (omega arith)
+    choose-sound small (claimedAbove x ds) _ _ (choose-sound small (doubled all x) (Without 5) _ (omega arith) (first-sound all ds g x)) (omega arith)
 
 -- ---- pieces
 
-unless-constant : (d : Bool) (rs : List Row) (v : Value) → FitsConstant v → FitsConstant (unlessDoubled d rs v)
+unless-constant : (d : Bool) (rs : List Row) (v : Value) → Constant small v → Constant small (unlessDoubled d rs v)
 unless-constant d [] v h = omega arith
 unless-constant true (r ∷ rs) v h = omega arith
 unless-constant false (r ∷ rs) v h = h
 
-unless-subtype : (d : Bool) (rs : List Row) (v : Value) → FitsSubtype v → FitsSubtype (unlessDoubled d rs v)
+unless-subtype : (d : Bool) (rs : List Row) (v : Value) → Subtype small v → Subtype small (unlessDoubled d rs v)
 unless-subtype d [] v h = omega arith
 unless-subtype true (r ∷ rs) v h = omega arith
 unless-subtype false (r ∷ rs) v h = h
@@ -131,11 +129,11 @@ unless-lean true (r ∷ rs) v e = refl
 unless-lean false (r ∷ rs) v e = let z : _≡_ {A = ℕ} 0 1 = cc in clash z
 
 module _ (all : List Piece) (ds : List Done) (g : Good all ds) (p : Piece) where
-  pub constant-value : classOf p ≡ 3 → FitsConstant (valueOf all ds p)
+  pub constant-value : classOf p ≡ 3 → Constant small (valueOf all ds p)
   unfolding valueOf
   constant-value c = unless-constant (ownDoubled all p) (rowsOfPiece (kinds p)) _ (formed-constant p (useOf all ds) (use-sound all ds g) c (rowsOfPiece (kinds p)))
 
-  pub subtype-value : classOf p ≡ 4 → FitsSubtype (valueOf all ds p)
+  pub subtype-value : classOf p ≡ 4 → Subtype small (valueOf all ds p)
   unfolding valueOf
   subtype-value c = unless-subtype (ownDoubled all p) (rowsOfPiece (kinds p)) _ (formed-subtype p (useOf all ds) (use-sound all ds g) c (rowsOfPiece (kinds p)))
 
