@@ -8,7 +8,8 @@ use lib.Dec.{leb, eqb}
 use lib.ListN.{length, getD}
 use borrow.Author.Tests.{lt-ltb, le-ltb, le-leb, lt-leb, eq-eqb, ne-eqb, leb-true, leb-false}
 use Rattle.classes.specs.Bytes.{lower}
-use Rattle.alike.specs.Alike.{counts, agree, cellAt, within, spelledSame, byKind, sameName}
+use Rattle.alike.specs.Alike.{counts, agree, spelledSame, byKind, sameName}
+use Rattle.places.specs.Places.{cellAt, within}
 
 pub counts-basic : (t : Bool) (b r : ℕ) → t ≡ true → r ≡ lower b → r ≡ counts t b
 counts-basic true b r e h = h
@@ -52,24 +53,6 @@ agree-start t s x y n = go (x + 0) (y + 0) (n - 0) (omega arith) (omega arith) (
     go : (u v w : ℕ) → u ≡ x → v ≡ y → w ≡ n → agree t s u v w ≡ agree t s x y n
     go u v w a b c = rw (a, b, c)
 
-pub cell-in : (l : List ℕ) (i j : ℕ) → i < length l / 3 → getD l (3 * i + j) 0 ≡ cellAt l i j
-unfolding cellAt
-cell-in l i j h = rw (lt-ltb i (length l / 3) h)
-
-pub cell-out : (l : List ℕ) (i j : ℕ) → length l / 3 ≤ i → 0 ≡ cellAt l i j
-unfolding cellAt
-cell-out l i j h = rw (le-ltb i (length l / 3) h)
-
-pub stands-no : (s : List ℕ) (x n : ℕ) → length s < x → false ≡ within s x n
-stands-no s x n h = sym (lt-leb (x + n) (length s) (omega arith))
-
-pub stands-if : (s : List ℕ) (x n : ℕ) → x ≤ length s → leb n (length s - x) ≡ within s x n
-stands-if s x n h = go (leb n (length s - x)) refl
-  where
-    go : (b : Bool) → leb n (length s - x) ≡ b → b ≡ within s x n
-    go true e = sym (le-leb (x + n) (length s) (omega (arith, leb-true n (length s - x) e)))
-    go false e = sym (lt-leb (x + n) (length s) (omega (arith, leb-false n (length s - x) e)))
-
 module _ (t : Bool) (s l : List ℕ) (a b : ℕ) where
   pub spelled-size : (n m : ℕ) → n ≡ cellAt l a 2 → m ≡ cellAt l b 2 → (n ≡ m → ⊥) → false ≡ spelledSame t s l a b
   unfolding spelledSame
@@ -94,9 +77,6 @@ both-left false q e = e
 pub both-right : (p q : Bool) → p && q ≡ true → q ≡ true
 both-right true q e = e
 both-right false q e = let z : _≡_ {A = ℕ} 0 1 = cc in absurd (omega arith)
-
-pub within-is : (s : List ℕ) (x n : ℕ) (p : Bool) → p ≡ within s x n → p ≡ true → x + n ≤ length s
-within-is s x n p e h = leb-true (x + n) (length s) (sym e ∙ h)
 
 module _ (s l : List ℕ) (a b : ℕ) where
   pub same-kinds : (p q : ℕ) → p ≡ cellAt l a 0 → q ≡ cellAt l b 0 → (p ≡ q → ⊥) → false ≡ sameName s l a b

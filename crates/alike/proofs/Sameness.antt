@@ -7,7 +7,8 @@ use native.Mathlib.Omega.{arith}
 use lib.Dec.{eqb}
 use lib.ListN.{length, getD}
 use borrow.Author.Tests.{eq-eqb, eqb-true, le-leb, leb-true}
-use Rattle.alike.specs.Alike.{counts, agree, cellAt, within, spelledSame, byKind, sameName}
+use Rattle.alike.specs.Alike.{counts, agree, spelledSame, byKind, sameName}
+use Rattle.places.specs.Places.{cellAt, within}
 use Rattle.alike.proofs.Laws.{both-left, both-right}
 
 module _ (t : Bool) (s : List ℕ) where

@@ -10,7 +10,8 @@ use borrow.Author.Tests.{eq-eqb, ne-eqb, le-leb, lt-leb, leb-true}
 use lib.Dec.{eqb}
 use lib.ListN.{length, getD, take, drop, length-drop, drop-of-length-le}
 use lib.Seq.{drop-cons, length-take-le}
-use Rattle.alike.specs.Alike.{counts, cellAt, within}
+use Rattle.alike.specs.Alike.{counts}
+use Rattle.places.specs.Places.{cellAt, within}
 use Rattle.alike.specs.Spelling.{spelt, spelledAs}
 
 pub unlike : (basic : Bool) (a b : List ℕ) → (length a ≡ length b → ⊥) → false ≡ spelt basic a b

@@ -1,11 +1,12 @@
 -- When two elements are the same name (01, "Elements": identifiers ignore case; extended ones keep it and equal no basic identifier).
 -- Elements are rows of the element table: kind, first byte, length in bytes. Assumes nothing: these are definitions.
-use Prim.Native.Nat.{ℕ, zero, suc, _+_, _*_, _/_}
+use Prim.Native.Nat.{ℕ, zero, suc}
 use mathlib.Core.Bool.{Bool, true, false, cond, _&&_}
 use mathlib.Core.List.{List}
-use lib.Dec.{ltb, leb, eqb}
-use lib.ListN.{length, getD}
+use lib.Dec.{eqb}
+use lib.ListN.{getD}
 use Rattle.classes.specs.Bytes.{lower}
+use Rattle.places.specs.Places.{cellAt, within}
 
 -- a byte as it counts in a name, basic or not
 abbrev pub counts : Bool → ℕ → ℕ
@@ -16,14 +17,6 @@ counts false b = b
 unfoldable pub agree : Bool → List ℕ → ℕ → ℕ → ℕ → Bool
 agree basic s x y zero = true
 agree basic s x y (suc n) = eqb (counts basic (getD s x 0)) (counts basic (getD s y 0)) && agree basic s (suc x) (suc y) n
-
--- word j of row i of a table of rows of three, 0 where there is no such row
-unfoldable pub cellAt : List ℕ → ℕ → ℕ → ℕ
-cellAt table i j = cond (ltb i (length table / 3)) (getD table (3 * i + j) 0) 0
-
--- the n bytes from x stand in the text
-abbrev pub within : List ℕ → ℕ → ℕ → Bool
-within s x n = leb (x + n) (length s)
 
 -- two elements are spelled the same
 unfoldable pub spelledSame : Bool → List ℕ → List ℕ → ℕ → ℕ → Bool

@@ -4,7 +4,8 @@ use mathlib.Core.Bool.{Bool, true, false, cond, _&&_}
 use mathlib.Core.List.{List, [], _∷_}
 use lib.Dec.{eqb}
 use lib.ListN.{take, drop}
-use Rattle.alike.specs.Alike.{counts, cellAt, within}
+use Rattle.alike.specs.Alike.{counts}
+use Rattle.places.specs.Places.{cellAt, within}
 
 -- two stretches of bytes count the same in a name, basic or not
 unfoldable pub spelt : Bool → List ℕ → List ℕ → Bool

@@ -3,7 +3,7 @@ ghost use mathlib.Core.Path.{_≡_};
 ghost use mathlib.Core.Bool.{_&&_};
 ghost use Prim.Native.Nat.{ℕ, _+_, _-_, _≤_, _<_};
 ghost use lib.ListN.{length, getD};
-ghost use Rattle.alike.specs.Alike.{counts, agree, cellAt, within, spelledSame, sameName};
+ghost use Rattle.alike.specs.Alike.{counts, agree, spelledSame, sameName};
 ghost use Rattle.alike.specs.Spelling.{spelt, spelledAs};
 
 // A byte as it counts in a name, basic or not.
@@ -33,61 +33,18 @@ fn agrees(s: &[u8], x: usize, y: usize, n: usize, basic: bool) -> bool
     true
 }
 
-// Word j of row i, 0 where there is no such row.
-fn cell(table: &[u64], i: usize, j: usize) -> u64
-    requires { ⌜ j < 3 ⌝ }
-    ensures { λ r. ⌜ r ≡ cellAt (now (table .entry)) i j ⌝ }
-{
-    if i < table.len() / 3 {
-        return table[3 * i + j];
-    }
-    0
-}
-
-// The kind of element i, 0 where there is none.
-pub fn kind_of(table: &[u64], i: usize) -> u64
-    ensures { λ r. ⌜ r ≡ cellAt (now (table .entry)) i 0 ⌝ }
-{
-    cell(table, i, 0)
-}
-
-// Where element i begins.
-pub fn first_of(table: &[u64], i: usize) -> u64
-    ensures { λ r. ⌜ r ≡ cellAt (now (table .entry)) i 1 ⌝ }
-{
-    cell(table, i, 1)
-}
-
-// How many bytes element i has.
-pub fn size_of(table: &[u64], i: usize) -> u64
-    ensures { λ r. ⌜ r ≡ cellAt (now (table .entry)) i 2 ⌝ }
-{
-    cell(table, i, 2)
-}
-
-// The n bytes from x stand in the text.
-pub fn stands(s: &[u8], x: u64, n: u64) -> bool
-    ensures { λ r. ⌜ r ≡ within (now (s .entry)) x n ⌝ }
-{
-    let size = s.len() as u64;
-    if size < x {
-        return false;
-    }
-    n <= size - x
-}
-
 fn spelled_same(s: &[u8], table: &[u64], a: usize, b: usize, basic: bool) -> bool
     ensures { λ r. ⌜ r ≡ spelledSame basic (now (s .entry)) (now (table .entry)) a b ⌝ }
 {
-    let n = cell(table, a, 2);
-    let m = cell(table, b, 2);
+    let n = places::size_of(table, a);
+    let m = places::size_of(table, b);
     if n != m {
         return false;
     }
-    let x = cell(table, a, 1);
-    let y = cell(table, b, 1);
-    let p = stands(s, x, n);
-    let q = stands(s, y, n);
+    let x = places::first_of(table, a);
+    let y = places::first_of(table, b);
+    let p = places::stands(s, x, n);
+    let q = places::stands(s, y, n);
     if p & q {
         return agrees(s, x as usize, y as usize, n as usize, basic);
     }
@@ -98,8 +55,8 @@ fn spelled_same(s: &[u8], table: &[u64], a: usize, b: usize, basic: bool) -> boo
 pub fn same_name(s: &[u8], table: &[u64], a: usize, b: usize) -> bool
     ensures { λ r. ⌜ r ≡ sameName (now (s .entry)) (now (table .entry)) a b ⌝ }
 {
-    let p = cell(table, a, 0);
-    let q = cell(table, b, 0);
+    let p = places::kind_of(table, a);
+    let q = places::kind_of(table, b);
     if p != q {
         return false;
     }
@@ -132,8 +89,8 @@ fn spells(basic: bool, a: &[u8], b: &[u8]) -> bool
 pub fn spelled_as(basic: bool, text: &[u8], elements: &[u64], e: usize, name: &[u8]) -> bool
     ensures { λ r. ⌜ r ≡ spelledAs basic (now (text .entry)) (now (elements .entry)) e (now (name .entry)) ⌝ }
 {
-    let first = cell(elements, e, 1) as usize;
-    let n = cell(elements, e, 2) as usize;
+    let first = places::first_of(elements, e) as usize;
+    let n = places::size_of(elements, e) as usize;
     if text.len() < first {
         return false;
     }

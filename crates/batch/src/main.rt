@@ -53,7 +53,7 @@ fn one(head: &mut [u8], text: &mut [u8], table: &mut [u64], others: &mut [u64]) 
     let Got::Bytes(k) = console::read_text(STDIN_FILENO, &mut text[..size]) else {
         return false;
     };
-    show(head, console::front(text, k), table, others);
+    show(head, lent::front(text, k), table, others);
     console::words(b".\n");
     true
 }

@@ -8,7 +8,6 @@ use verdict::Verdict;
 pub mod surveys; // what is printed of a survey
 
 ghost use mathlib.Core.Path.{_≡_};
-ghost use lib.ListN.{take};
 
 // How many bytes were read, or that a read failed.
 pub enum Got {
@@ -31,16 +30,6 @@ pub fn read_text(fd: i32, text: &mut [u8]) -> Got {
         n += k;
     }
     Got::Bytes(n)
-}
-
-// The first bytes, all of them where there are fewer.
-pub fn front(s: &[u8], n: usize) -> &[u8]
-    ensures { λ r. ⌜ now r ≡ take n (now (s .entry)) ⌝ }
-{
-    if n <= s.len() {
-        return &s[..n];
-    }
-    s
 }
 
 // One line on standard error that names what is wrong.
@@ -123,7 +112,7 @@ pub fn elements(text: &[u8], table: &mut [u64], rows: usize) {
             element_lines(table, count);
         },
         Reading::Refused(r) => {
-            refused(reading::refusal_number(r), reading::refusal_place(r));
+            refused(refusals::refusal_number(r), refusals::refusal_place(r));
         },
     }
 }
@@ -180,7 +169,7 @@ pub fn tree(text: &[u8], table: &mut [u64], rows: usize, trees: &mut [u64], tree
             row_lines(trees, count);
         },
         Strict::Refused(r) => {
-            refused(files::strict_number(r), files::strict_place(r));
+            refused(refusals::strict_number(r), refusals::strict_place(r));
         },
     }
 }

@@ -5,7 +5,7 @@ use crate::words;
 use packages::Outcome;
 use packages::Summary;
 use pairs::Pair;
-use reading::ElementNumber;
+use places::ElementNumber;
 use records::Tally;
 
 // "a negative one with a leading `-`": a word of two's complement.
@@ -20,8 +20,8 @@ fn signed(word: u64) {
 
 // "Names print as spelled": the bytes of an element, none where the tables point outside.
 fn spelled(text: &[u8], elements: &[u64], element: ElementNumber) {
-    let size = alike::size_of(elements, element.0) as usize;
-    let place = reading::place_of(elements, element);
+    let size = places::size_of(elements, element.0) as usize;
+    let place = places::place_of(elements, element);
     let first = place.0;
     if text.len() < first {
         return;
@@ -234,7 +234,7 @@ pub fn survey(
     match outcome {
         Outcome::Done(summary) => show(text, table, items, summary, tally, shown),
         Outcome::Refused(r) => {
-            refused(packages::survey_number(r), packages::survey_place(r));
+            refused(refusals::survey_number(r), refusals::survey_place(r));
         },
     }
 }

@@ -18,13 +18,13 @@ use Rattle.reading.specs.Table.{cells}
 use Rattle.reading.specs.Reading.{readingOf, tableOf}
 use Rattle.reading.specs.declared.Reading.{Reading}
 use Rattle.reading.specs.declared.Reading.the-variants as R
-use Rattle.reading.specs.declared.Refusal.{Refusal}
-use Rattle.reading.specs.declared.Refusal.the-variants.{TextTooLong, TooManyElements, TableShort}
+use Rattle.refusals.specs.declared.Refusal.{Refusal}
+use Rattle.refusals.specs.declared.Refusal.the-variants.{TextTooLong, TooManyElements, TableShort}
 use Rattle.reading.proofs.Answers.{table-read, table-length}
 use Rattle.tree.specs.Answers.{elementsIn}
 use Rattle.files.specs.declared.Unread.{Unread}
 use Rattle.files.specs.declared.Unread.the-variants as U
-use Rattle.files.specs.declared.StrictRefusal.the-variants as S
+use Rattle.refusals.specs.declared.StrictRefusal.the-variants as S
 use Rattle.files.specs.Strict.{unreadableFrom}
 use Rattle.files.specs.Given.{count, Taken, UnreadableIn, FirstUnreadable, NoneUnreadable, Given}
 

@@ -14,7 +14,8 @@ use Rattle.reading.specs.Table.{cells}
 use Rattle.reading.specs.Reading.{tableOf}
 use Rattle.reading.proofs.Answers.{table-read}
 use Rattle.reading.proofs.TableLaws.{length-cells}
-use Rattle.alike.specs.Alike.{cellAt, spelledSame, sameName}
+use Rattle.alike.specs.Alike.{spelledSame, sameName}
+use Rattle.places.specs.Places.{cellAt}
 use Rattle.forms.specs.Kinds.{terminalOf}
 use Rattle.forms.specs.Tree as forms
 use Rattle.tree.specs.Answers.{terminalsOf, wordsOf}

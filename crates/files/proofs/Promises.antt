@@ -23,8 +23,8 @@ use Rattle.verdict.specs.Verdict.{verdictOf}
 use Rattle.verdict.specs.declared.Verdict.{Verdict}
 use Rattle.files.specs.declared.Unread.{Unread}
 use Rattle.files.specs.declared.Unread.the-variants as U
-use Rattle.files.specs.declared.StrictRefusal.{StrictRefusal}
-use Rattle.files.specs.declared.StrictRefusal.the-variants as S
+use Rattle.refusals.specs.declared.StrictRefusal.{StrictRefusal}
+use Rattle.refusals.specs.declared.StrictRefusal.the-variants as S
 use Rattle.files.specs.declared.Strict.{Strict}
 use Rattle.files.specs.declared.Strict.the-variants.{Read, Refused}
 use Rattle.files.specs.Strict.{unreadableFrom, byAnswer, treeTable, fileOf, byUnread, elementsAs, byReading, strictOf, kept, elementsAfter, treeByUnread, treeAs, treeByReading, treeAfter}

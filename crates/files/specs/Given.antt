@@ -11,7 +11,7 @@ use Rattle.elements.specs.declared.Kind.{Kind}
 use Rattle.reading.specs.Rows.{Row, rowsOf}
 use Rattle.reading.specs.Table.{cells}
 use Rattle.reading.specs.Reading.{mostBytes, mostElements}
-use Rattle.reading.specs.declared.Refusal.the-variants.{TextTooLong, TooManyElements, TableShort}
+use Rattle.refusals.specs.declared.Refusal.the-variants.{TextTooLong, TooManyElements, TableShort}
 use Rattle.alike.specs.Alike.{sameName}
 use Rattle.forms.specs.Kinds.{terminalOf}
 use Rattle.forms.specs.Tree.{State, Reading}
@@ -19,8 +19,8 @@ use Rattle.forms.specs.Tree as forms
 use Rattle.tree_promises.specs.Due.{NoFileFirst, NameFirst, DepthFirst}
 use Rattle.verdict.specs.Verdict.{verdictFrom}
 use Rattle.verdict.specs.declared.Verdict.{Verdict}
-use Rattle.files.specs.declared.StrictRefusal.{StrictRefusal}
-use Rattle.files.specs.declared.StrictRefusal.the-variants as S
+use Rattle.refusals.specs.declared.StrictRefusal.{StrictRefusal}
+use Rattle.refusals.specs.declared.StrictRefusal.the-variants as S
 
 -- how many elements a text has
 abbrev pub count : List ℕ → ℕ

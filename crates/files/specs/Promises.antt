@@ -11,7 +11,7 @@ use Rattle.forms.specs.Tree.{State}
 use Rattle.forms.specs.Tree as forms
 use Rattle.tree.specs.Answers.{wordsOf}
 use Rattle.verdict.specs.declared.Verdict.{Verdict}
-use Rattle.files.specs.declared.StrictRefusal.{StrictRefusal}
+use Rattle.refusals.specs.declared.StrictRefusal.{StrictRefusal}
 use Rattle.files.specs.declared.Strict.{Strict}
 use Rattle.files.specs.declared.Strict.the-variants.{Read, Refused}
 use Rattle.files.specs.Strict.{strictOf, elementsAfter, treeAfter}

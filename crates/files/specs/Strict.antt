@@ -5,7 +5,7 @@ use mathlib.Core.Bool.{Bool, true, false}
 use mathlib.Core.List.{List}
 use lib.Dec.{eqb}
 use lib.ListN.{length, getD, drop, replicate}
-use Rattle.reading.specs.Reading.{readingOf, refusalNumber, refusalPlace}
+use Rattle.reading.specs.Reading.{readingOf}
 use Rattle.reading.specs.Reading as elements
 use Rattle.reading.specs.declared.Reading.{Reading}
 use Rattle.reading.specs.declared.Reading.the-variants as R
@@ -16,8 +16,8 @@ use Rattle.tree.specs.declared.Answer.the-variants as A
 use Rattle.verdict.specs.Verdict.{verdictOf}
 use Rattle.files.specs.declared.Unread.{Unread}
 use Rattle.files.specs.declared.Unread.the-variants as U
-use Rattle.files.specs.declared.StrictRefusal.{StrictRefusal}
-use Rattle.files.specs.declared.StrictRefusal.the-variants as S
+use Rattle.refusals.specs.declared.StrictRefusal.{StrictRefusal}
+use Rattle.refusals.specs.declared.StrictRefusal.the-variants as S
 use Rattle.files.specs.declared.Strict.{Strict}
 use Rattle.files.specs.declared.Strict.the-variants.{Read, Refused}
 
@@ -25,23 +25,6 @@ use Rattle.files.specs.declared.Strict.the-variants.{Read, Refused}
 unfoldable pub unreadableFrom : ℕ → ℕ → List ℕ → Unread
 unreadableFrom i zero table = U.Nothing
 unreadableFrom i (suc n) table = elim (eqb (getD table 0 0) 7) [ true ↦ U.At i | false ↦ unreadableFrom (suc i) n (drop 3 table) ]
-
--- the numbers of the refusals, and their places
-abbrev pub strictNumber : StrictRefusal → ℕ
-strictNumber (S.Elements r) = refusalNumber r
-strictNumber (S.Unreadable e) = 2
-strictNumber (S.NoFile e) = 5
-strictNumber (S.NameDiffers e) = 6
-strictNumber (S.TooDeep e) = 7
-strictNumber (S.TreeShort rows) = 8
-
-abbrev pub strictPlace : StrictRefusal → ℕ
-strictPlace (S.Elements r) = refusalPlace r
-strictPlace (S.Unreadable e) = e .0
-strictPlace (S.NoFile e) = e .0
-strictPlace (S.NameDiffers e) = e .0
-strictPlace (S.TooDeep e) = e .0
-strictPlace (S.TreeShort rows) = rows
 
 -- the words of a tree table of so many words, once n elements of an element table were read as a file
 unfoldable pub treeTable : List ℕ → List ℕ → ℕ → ℕ → List ℕ

@@ -1,59 +1,23 @@
 // The strict reading of a text: elements, tree and verdict, with two lent tables. Any bytes and any tables may be given.
-use reading::ElementNumber;
+use places::ElementNumber;
 use reading::Reading;
-use reading::Refusal;
+use refusals::StrictRefusal;
 use tree::Answer;
 use verdict::Verdict;
 ghost use mathlib.Core.Path.{_≡_};
 ghost use Prim.Native.Nat.{_+_, _*_, _≤_};
 ghost use lib.ListN.{length};
-ghost use Rattle.files.specs.Strict.{unreadableFrom, strictNumber, strictPlace, elementsAs, fileOf, treeTable, kept, treeAs, strictOf, elementsAfter, treeAfter};
+ghost use Rattle.files.specs.Strict.{unreadableFrom, elementsAs, fileOf, treeTable, kept, treeAs, strictOf, elementsAfter, treeAfter};
 
 pub enum Unread {
     At(usize),
     Nothing,
 }
 
-// 01's refusals 1 to 8. A tree table is short by rows, the others have the place of an element or a byte.
-pub enum StrictRefusal {
-    Elements(Refusal),
-    Unreadable(ElementNumber),
-    NoFile(ElementNumber),
-    NameDiffers(ElementNumber),
-    TooDeep(ElementNumber),
-    TreeShort(usize),
-}
-
 // How many rows the tree has, and the verdict on them.
 pub enum Strict {
     Read(usize, Verdict),
     Refused(StrictRefusal),
-}
-
-pub fn strict_number(r: StrictRefusal) -> u64
-    ensures { λ n. ⌜ n ≡ strictNumber r ⌝ }
-{
-    match r {
-        StrictRefusal::Elements(e) => reading::refusal_number(e),
-        StrictRefusal::Unreadable(_) => 2,
-        StrictRefusal::NoFile(_) => 5,
-        StrictRefusal::NameDiffers(_) => 6,
-        StrictRefusal::TooDeep(_) => 7,
-        StrictRefusal::TreeShort(_) => 8,
-    }
-}
-
-pub fn strict_place(r: StrictRefusal) -> usize
-    ensures { λ n. ⌜ n ≡ strictPlace r ⌝ }
-{
-    match r {
-        StrictRefusal::Elements(e) => reading::refusal_place(e),
-        StrictRefusal::Unreadable(k) => k.0,
-        StrictRefusal::NoFile(k) => k.0,
-        StrictRefusal::NameDiffers(k) => k.0,
-        StrictRefusal::TooDeep(k) => k.0,
-        StrictRefusal::TreeShort(n) => n,
-    }
 }
 
 // The first unreadable of a table's elements.

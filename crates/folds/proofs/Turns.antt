@@ -9,7 +9,7 @@ use borrow.Author.Tests.{eq-eqb, ne-eqb, eqb-true, eqb-false, lt-ltb, le-ltb, lt
 use lib.Dec.{eqb, ltb}
 use lib.ListN.{length, getD, drop, set, drop-of-length-le, length-set}
 use lib.Seq.{drop-drop, getD-set-same, getD-set-other}
-use Rattle.alike.specs.Alike.{cellAt}
+use Rattle.places.specs.Places.{cellAt}
 use Rattle.records.specs.Records.{wordAt}
 use Rattle.forms.specs.Tree.{Row}
 use Rattle.integers.specs.declared.Folded.{Folded}

@@ -4,7 +4,7 @@ use mathlib.Core.Bool.{cond}
 use mathlib.Core.List.{List}
 use lib.Dec.{ltb, leb}
 use lib.ListN.{length, getD}
-use Rattle.alike.specs.Alike.{cellAt}
+use Rattle.places.specs.Places.{cellAt}
 use Rattle.records.specs.Records.{wordAt}
 use Rattle.forms.specs.Tree.{Row}
 use Rattle.folding.specs.declared.Outcome.{Outcome}

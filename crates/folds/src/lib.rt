@@ -8,7 +8,7 @@ ghost use mathlib.Core.Path.{_≡_};
 ghost use Prim.Native.Nat.{ℕ, _+_, _-_, _*_, _/_, _≤_, _<_};
 ghost use lib.ListN.{length, getD, drop};
 ghost use lib.Seq.{sets};
-ghost use Rattle.alike.specs.Alike.{cellAt};
+ghost use Rattle.places.specs.Places.{cellAt};
 ghost use Rattle.records.specs.Records.{wordAt};
 ghost use Rattle.values.specs.Words.{truthWord};
 ghost use Rattle.folds.specs.Expressions.{behind};

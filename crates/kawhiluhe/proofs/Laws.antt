@@ -1,19 +1,19 @@
 -- The answers as numbers, in the code's terms: each premise is what a match or a call gives. Assumes nothing.
 use Prim.Native.Nat.{ℕ}
 use mathlib.Core.Path.{_≡_, sym, ap}
-use Rattle.reading.specs.Reading.{refusalNumber, refusalPlace}
-use Rattle.reading.specs.declared.ElementNumber.{ElementNumber}
-use Rattle.reading.specs.declared.Refusal.{Refusal}
+use Rattle.refusals.specs.Refusals.{refusalNumber, refusalPlace}
+use Rattle.places.specs.declared.ElementNumber.{ElementNumber}
+use Rattle.refusals.specs.declared.Refusal.{Refusal}
 use Rattle.reading.specs.declared.Reading.{Reading}
 use Rattle.reading.specs.declared.Reading.the-variants as R
-use Rattle.files.specs.Strict.{strictNumber, strictPlace}
-use Rattle.files.specs.declared.StrictRefusal.{StrictRefusal}
+use Rattle.refusals.specs.Refusals.{strictNumber, strictPlace}
+use Rattle.refusals.specs.declared.StrictRefusal.{StrictRefusal}
 use Rattle.files.specs.declared.Strict.{Strict}
 use Rattle.files.specs.declared.Strict.the-variants as S
 use Rattle.verdict.specs.declared.Verdict.{Verdict}
 use Rattle.verdict.specs.declared.Verdict.the-variants.{Passes, NotSupported}
-use Rattle.packages.specs.Refusals.{surveyNumber, surveyPlace}
-use Rattle.packages.specs.declared.SurveyRefusal.{SurveyRefusal}
+use Rattle.refusals.specs.Refusals.{surveyNumber, surveyPlace}
+use Rattle.refusals.specs.declared.SurveyRefusal.{SurveyRefusal}
 use Rattle.packages.specs.declared.Summary.{Summary}
 use Rattle.packages.specs.declared.Outcome.the-variants as O
 use Rattle.packages.specs.declared.Survey.{Survey}

@@ -2,16 +2,16 @@
 use Prim.Native.Nat.{ℕ}
 use mathlib.Core.Bool.{Bool, true, false}
 use mathlib.Core.List.{List}
-use Rattle.reading.specs.Reading.{refusalNumber, refusalPlace}
+use Rattle.refusals.specs.Refusals.{refusalNumber, refusalPlace}
 use Rattle.reading.specs.declared.Reading.{Reading}
 use Rattle.reading.specs.declared.Reading.the-variants as R
-use Rattle.files.specs.Strict.{strictNumber, strictPlace}
+use Rattle.refusals.specs.Refusals.{strictNumber, strictPlace}
 use Rattle.files.specs.declared.Strict.{Strict}
 use Rattle.files.specs.declared.Strict.the-variants as S
 use Rattle.verdict.specs.declared.Verdict.the-variants.{Passes, NotSupported}
 use Rattle.pairs.specs.declared.Pair.{Pair}
 use Rattle.pairs.specs.declared.Pair.the-variants.{Both, Neither}
-use Rattle.packages.specs.Refusals.{surveyNumber, surveyPlace}
+use Rattle.refusals.specs.Refusals.{surveyNumber, surveyPlace}
 use Rattle.packages.specs.declared.Outcome.{Outcome}
 use Rattle.packages.specs.declared.Outcome.the-variants.{Done, Refused}
 use Rattle.packages.specs.declared.Survey.{Survey}

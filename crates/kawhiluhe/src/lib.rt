@@ -61,8 +61,8 @@ fn element_numbers(r: Reading) -> Elements
             elements: e.0 as u64,
         },
         Reading::Refused(x) => Elements {
-            refusal: reading::refusal_number(x),
-            place: reading::refusal_place(x) as u64,
+            refusal: refusals::refusal_number(x),
+            place: refusals::refusal_place(x) as u64,
             elements: 0,
         },
     }
@@ -89,8 +89,8 @@ fn strict_numbers(x: Strict) -> Judged
             Verdict::NotSupported(row) => rows_judged(rows as u64, 0, row as u64),
         },
         Strict::Refused(r) => Judged {
-            refusal: files::strict_number(r),
-            place: files::strict_place(r) as u64,
+            refusal: refusals::strict_number(r),
+            place: refusals::strict_place(r) as u64,
             rows: 0,
             passes: 0,
             row: 0,
@@ -152,8 +152,8 @@ fn survey_numbers(x: Survey) -> Surveyed
             }
         }
         Outcome::Refused(r) => Surveyed {
-            refusal: packages::survey_number(r),
-            place: packages::survey_place(r) as u64,
+            refusal: refusals::survey_number(r),
+            place: refusals::survey_place(r) as u64,
             pieces: 0,
             frame: 0,
             whole: 0,

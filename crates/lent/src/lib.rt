@@ -1,8 +1,8 @@
 // What every lent table has in common: it can be made all zeros, a word of it is read with 0 past its end, and how much of it counts is the
-// least of two numbers. Every function takes any table and any numbers.
+// least of two numbers; and the front of lent bytes. Every function takes any table and any numbers.
 ghost use mathlib.Core.Path.{_≡_};
 ghost use Prim.Native.Nat.{min};
-ghost use lib.ListN.{length, getD, replicate};
+ghost use lib.ListN.{length, getD, take, replicate};
 
 pub fn clear(t: &mut [u64])
     ensures { λ _. ⌜ now (t .exit) ≡ replicate (length (now (t .entry))) 0 ⌝ }
@@ -26,4 +26,14 @@ pub fn least(a: usize, b: usize) -> usize
     ensures { λ r. ⌜ r ≡ min a b ⌝ }
 {
     if a <= b { a } else { b }
+}
+
+// The first bytes, all of them where there are fewer.
+pub fn front(s: &[u8], n: usize) -> &[u8]
+    ensures { λ r. ⌜ now r ≡ take n (now (s .entry)) ⌝ }
+{
+    if n <= s.len() {
+        return &s[..n];
+    }
+    s
 }

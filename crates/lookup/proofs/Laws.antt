@@ -6,7 +6,8 @@ use Prim.Native.Nat.{ℕ, zero, suc, _+_, _-_, _/_, _≤_, _<_}
 use native.Mathlib.Numerals.{add-one}
 use native.Mathlib.Omega.{arith}
 use lib.ListN.{length}
-use Rattle.alike.specs.Alike.{cellAt, byKind}
+use Rattle.alike.specs.Alike.{byKind}
+use Rattle.places.specs.Places.{cellAt}
 use Rattle.records.specs.Records.{wordAt, isClaim}
 use Rattle.alike.specs.Spelling.{spelledAs}
 use Rattle.lookup.specs.Lookup.{isNamed, claimsName, firstFrom, foundOf}

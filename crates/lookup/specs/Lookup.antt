@@ -3,7 +3,8 @@ use Prim.Native.Nat.{ℕ, zero, suc, _/_}
 use mathlib.Core.Bool.{Bool, true, false, _&&_}
 use mathlib.Core.List.{List}
 use lib.ListN.{length}
-use Rattle.alike.specs.Alike.{cellAt, byKind}
+use Rattle.alike.specs.Alike.{byKind}
+use Rattle.places.specs.Places.{cellAt}
 use Rattle.alike.specs.Spelling.{spelledAs}
 use Rattle.records.specs.Records.{wordAt, isClaim}
 use Rattle.lookup.specs.declared.Found.{Found}

@@ -26,7 +26,7 @@ pub enum Found {
 fn named(text: &[u8], elements: &[u64], e: usize, name: &[u8]) -> bool
     ensures { λ r. ⌜ r ≡ isNamed (now (text .entry)) (now (elements .entry)) e (now (name .entry)) ⌝ }
 {
-    let k = alike::kind_of(elements, e);
+    let k = places::kind_of(elements, e);
     if k == 1 {
         return alike::spelled_as(true, text, elements, e, name);
     }

@@ -7,7 +7,8 @@ use native.Mathlib.Omega.{arith}
 use lib.Dec.{eqb}
 use lib.ListN.{length, getD}
 use borrow.Author.Tests.{le-leb, leb-true}
-use Rattle.alike.specs.Alike.{counts, agree, cellAt, within, byKind, sameName}
+use Rattle.alike.specs.Alike.{counts, agree, byKind, sameName}
+use Rattle.places.specs.Places.{cellAt, within}
 use Rattle.alike.proofs.Sameness.{agree-opens, same-opens}
 use Rattle.names.specs.Chains.{mixedWith, hashFrom, chainOf, bucketOf}
 

@@ -6,7 +6,7 @@ use Prim.Native.Nat.{ℕ}
 use native.Mathlib.Omega.{arith}
 use lib.ListN.{length}
 use borrow.Author.Tests.{eq-eqb, ne-eqb}
-use Rattle.alike.specs.Alike.{cellAt}
+use Rattle.places.specs.Places.{cellAt}
 use Rattle.alike.specs.Spelling.{spelledAs}
 use Rattle.alike.proofs.Spelling.{spelled-sized}
 use Rattle.names.specs.Language.{integerName, naturalName, positiveName, booleanName, trueName, falseName, sevenOf, languageOf}

@@ -6,7 +6,8 @@ use mathlib.Core.Bool.{Bool, true, cond, _&&_}
 use mathlib.Core.List.{List}
 use lib.Dec.{eqb}
 use lib.ListN.{getD}
-use Rattle.alike.specs.Alike.{counts, cellAt, within}
+use Rattle.alike.specs.Alike.{counts}
+use Rattle.places.specs.Places.{cellAt, within}
 use Rattle.records.specs.Records.{wordAt, isClaim}
 use Rattle.names.specs.Names.{firstFrom}
 

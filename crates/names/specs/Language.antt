@@ -3,7 +3,7 @@ use Prim.Native.Nat.{ℕ, suc}
 use mathlib.Core.Bool.{Bool, true, cond}
 use mathlib.Core.List.{List, [], _∷_}
 use lib.Dec.{eqb}
-use Rattle.alike.specs.Alike.{cellAt}
+use Rattle.places.specs.Places.{cellAt}
 use Rattle.alike.specs.Spelling.{spelledAs}
 
 -- the six names, in bytes

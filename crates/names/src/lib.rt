@@ -33,10 +33,10 @@ fn hashed(text: &[u8], from: usize, n: usize, basic: bool) -> u64
 fn bucket(text: &[u8], elements: &[u64], e: usize) -> usize
     ensures { λ r. ⌜ (r ≡ bucketOf (now (text .entry)) (now (elements .entry)) e) × (r < 1024) ⌝ }
 {
-    let first = alike::first_of(elements, e);
-    let n = alike::size_of(elements, e);
-    if alike::stands(text, first, n) {
-        let kind = alike::kind_of(elements, e);
+    let first = places::first_of(elements, e);
+    let n = places::size_of(elements, e);
+    if places::stands(text, first, n) {
+        let kind = places::kind_of(elements, e);
         let h = hashed(text, first as usize, n as usize, kind == 1);
         return (h / 4194304) as usize;
     }
@@ -103,7 +103,7 @@ fn link_at(
     ensures { λ r. ⌜ r ≡ below (linkOf (now (text .entry)) (now (elements .entry)) (now (items .entry))) rows e ⌝ }
 {
     if e < rows {
-        let kind = alike::kind_of(elements, e);
+        let kind = places::kind_of(elements, e);
         if (kind == 1) | (kind == 2) {
             return find(text, elements, items, heads, next, e);
         }
@@ -282,10 +282,10 @@ fn seven(text: &[u8], elements: &[u64], e: usize) -> u64
 pub fn language(text: &[u8], elements: &[u64], e: usize) -> u64
     ensures { λ r. ⌜ r ≡ languageOf (now (text .entry)) (now (elements .entry)) e ⌝ }
 {
-    if alike::kind_of(elements, e) != 1 {
+    if places::kind_of(elements, e) != 1 {
         return 0;
     }
-    let size = alike::size_of(elements, e);
+    let size = places::size_of(elements, e);
     match size {
         4 => told(text, elements, e, b"true", 5),
         5 => told(text, elements, e, b"false", 6),

@@ -9,7 +9,7 @@ use lib.Dec.{leb}
 use native.Mathlib.Nat.{add-sub-cancel-left, zero-min, min-zero, suc-min-suc}
 use lib.ListN.{length, take, drop, length-drop, drop-of-length-le}
 use lib.Seq.{take-nil}
-use Rattle.alike.specs.Alike.{cellAt}
+use Rattle.places.specs.Places.{cellAt}
 use Rattle.folding.specs.declared.Operator.the-variants.{Join}
 use Rattle.folding.specs.declared.Sign.the-variants.{Plus}
 use Rattle.folding.specs.declared.Outcome.{Outcome}

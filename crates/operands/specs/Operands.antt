@@ -4,7 +4,7 @@ use mathlib.Core.Bool.{cond}
 use mathlib.Core.List.{List}
 use lib.Dec.{eqb}
 use lib.ListN.{take, drop}
-use Rattle.alike.specs.Alike.{cellAt}
+use Rattle.places.specs.Places.{cellAt}
 use Rattle.integers.specs.declared.Arithmetic.the-variants.{Add, Subtract, Multiply, Divide, Remainder, Modulo, Power}
 use Rattle.folding.specs.declared.Relation.the-variants.{Equal, Unequal, Less, LessEqual, Greater, GreaterEqual}
 use Rattle.folding.specs.declared.Logic.the-variants.{And, Or, Nand, Nor, Xor, Xnor}

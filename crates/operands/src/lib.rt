@@ -56,11 +56,11 @@ pub fn sign_of(kind: u64) -> Sign
 pub fn literal_outcome(text: &[u8], elements: &[u64], e: usize) -> Outcome
     ensures { λ r. ⌜ r ≡ literalIn (now (text .entry)) (now (elements .entry)) e ⌝ }
 {
-    if alike::kind_of(elements, e) != 3 {
+    if places::kind_of(elements, e) != 3 {
         return expressions::wrong_leaf(3);
     }
-    let first = lent::least(alike::first_of(elements, e) as usize, text.len());
-    let size = lent::least(alike::size_of(elements, e) as usize, text.len() - first);
+    let first = lent::least(places::first_of(elements, e) as usize, text.len());
+    let size = lent::least(places::size_of(elements, e) as usize, text.len() - first);
     let end = first + size;
     expressions::literal_leaf(&text[first..end])
 }

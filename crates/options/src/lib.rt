@@ -34,7 +34,7 @@ fn asked_by(word: &[u8], other: &[u8], rows: &[u8]) -> Asked {
     if arguments::same_bytes(word, rows) {
         return Asked::OtherRows;
     }
-    if arguments::same_bytes(console::front(word, 2), b"--") {
+    if arguments::same_bytes(lent::front(word, 2), b"--") {
         return Asked::Unknown;
     }
     Asked::File

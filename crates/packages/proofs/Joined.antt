@@ -13,8 +13,8 @@ use Rattle.reading.specs.Reading.{readingOf}
 use Rattle.reading.specs.Reading as elements
 use Rattle.reading.specs.declared.Reading.{Reading}
 use Rattle.reading.specs.declared.Reading.the-variants as R
-use Rattle.reading.specs.declared.Refusal.{Refusal}
-use Rattle.reading.specs.declared.ElementNumber.{ElementNumber}
+use Rattle.refusals.specs.declared.Refusal.{Refusal}
+use Rattle.places.specs.declared.ElementNumber.{ElementNumber}
 use Rattle.reading.proofs.TableLaws.{length-cells}
 use Rattle.reading.proofs.Answers.{table-read, table-refused, table-length, read-count, read-few}
 use Rattle.pieces.specs.Kinds.{kindsOf}
@@ -36,15 +36,14 @@ use Rattle.meaning.proofs.Records.{pendings, piecesDone, pieces-pending, pieces
 use Rattle.meaning.proofs.Places.{tableOf}
 use Rattle.meaning.proofs.Stages.{completed-all}
 use Rattle.packages.proofs.Told.{told-all, pairs-same}
-use Rattle.packages.specs.Refusals.{refusedBy}
-use Rattle.packages.specs.Tables.{pairBy, summedOf, itemsCompleted, itemsSurvey, piecesSurvey, piecesItems, kept}
+use Rattle.packages.specs.Tables.{refusedBy, pairBy, summedOf, itemsCompleted, itemsSurvey, piecesSurvey, piecesItems, kept}
 use Rattle.packages.specs.Tables as tables
 use Rattle.packages.specs.Survey.{itemTable, marking, summary, left, surveyOf, elementsAfter, itemsAfter}
 use Rattle.packages.specs.Survey as survey
 use Rattle.packages.specs.declared.Survey.{Survey}
 use Rattle.packages.specs.declared.Outcome.{Outcome}
 use Rattle.packages.specs.declared.Outcome.the-variants.{Done, Refused}
-use Rattle.packages.specs.declared.SurveyRefusal.the-variants.{Elements}
+use Rattle.refusals.specs.declared.SurveyRefusal.the-variants.{Elements}
 
 each-length : (ps : List Piece) → length (kindsEach ps) ≡ length ps
 unfolding kindsEach

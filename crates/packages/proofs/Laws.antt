@@ -16,11 +16,10 @@ use Rattle.pairs.specs.declared.Pair.the-variants.{Neither}
 use Rattle.names.specs.Names.{linksTable, ownsTable, twinsTable, anyTwin}
 use Rattle.tree.specs.Items.{itemRows}
 use Rattle.items.specs.Items.{completed}
-use Rattle.packages.specs.Refusals.{refusedBy}
-use Rattle.packages.specs.Tables.{pairBy, summedOf, itemsCompleted, itemsSurvey, byMarking, piecesSurvey, itemsByMarking, piecesItems, kept}
+use Rattle.packages.specs.Tables.{refusedBy, pairBy, summedOf, itemsCompleted, itemsSurvey, byMarking, piecesSurvey, itemsByMarking, piecesItems, kept}
 use Rattle.packages.specs.declared.Survey.{Survey}
 use Rattle.packages.specs.declared.Outcome.the-variants.{Done, Refused}
-use Rattle.packages.specs.declared.SurveyRefusal.the-variants.{TooMany, ItemsShort}
+use Rattle.refusals.specs.declared.SurveyRefusal.the-variants.{TooMany, ItemsShort}
 
 pub pair-there : (any : Bool) (owns : List ℕ) (n : ℕ) (r : Pair) → any ≡ true → r ≡ pairOf owns n → r ≡ pairBy any owns n
 pair-there any owns n r h z = rw h z

@@ -18,14 +18,13 @@ use Rattle.reading.specs.Reading as elements
 use Rattle.reading.specs.declared.Reading.{Reading}
 use Rattle.reading.specs.declared.Reading.the-variants as R
 use Rattle.worded.specs.Elements.{piecesOf}
-use Rattle.packages.specs.Tables.{summedOf}
+use Rattle.packages.specs.Tables.{refusedBy, summedOf}
 use Rattle.packages.specs.Survey.{itemTable, marking, summary, byMarking, byReading, surveyOf, elementsAfter, itemsAfter}
-use Rattle.packages.specs.Refusals.{refusedBy}
 use Rattle.packages.specs.Promises.{NoChoice, ZerosOnRefusal, Taken, Surveyed, ElementsExactly, TooManyExactly, ItemsShortExactly, SaysOfRecords}
 use Rattle.packages.specs.declared.Survey.{Survey}
 use Rattle.packages.specs.declared.Summary.{Summary}
-use Rattle.packages.specs.declared.SurveyRefusal.{SurveyRefusal}
-use Rattle.packages.specs.declared.SurveyRefusal.the-variants.{Elements, TooMany, ItemsShort}
+use Rattle.refusals.specs.declared.SurveyRefusal.{SurveyRefusal}
+use Rattle.refusals.specs.declared.SurveyRefusal.the-variants.{Elements, TooMany, ItemsShort}
 use Rattle.packages.specs.declared.Outcome.{Outcome}
 use Rattle.packages.specs.declared.Outcome.the-variants.{Done, Refused}
 use Rattle.packages.proofs.Joined.{marked-room}

@@ -1,4 +1,3 @@
-pub mod Refusals
 pub mod Tables
 pub mod Survey
 pub mod Promises

@@ -10,17 +10,17 @@ use Rattle.records.specs.Frames.{frameGood}
 use Rattle.names.specs.Names.{sharedPair}
 use Rattle.reading.specs.Reading.{readingOf}
 use Rattle.reading.specs.Reading as elements
-use Rattle.reading.specs.declared.ElementNumber.{ElementNumber}
+use Rattle.places.specs.declared.ElementNumber.{ElementNumber}
 use Rattle.reading.specs.declared.Reading.the-variants as R
-use Rattle.reading.specs.declared.Refusal.{Refusal}
+use Rattle.refusals.specs.declared.Refusal.{Refusal}
 use Rattle.worded.specs.Elements.{piecesOf}
+use Rattle.packages.specs.Tables.{refusedBy}
 use Rattle.packages.specs.Survey.{surveyOf, elementsAfter, itemsAfter, itemTable}
-use Rattle.packages.specs.Refusals.{refusedBy}
 use Rattle.packages.specs.declared.Survey.{Survey}
 use Rattle.packages.specs.declared.Summary.{Summary}
 use Rattle.packages.specs.declared.Outcome.the-variants.{Done, Refused}
-use Rattle.packages.specs.declared.SurveyRefusal.{SurveyRefusal}
-use Rattle.packages.specs.declared.SurveyRefusal.the-variants.{Elements, TooMany, ItemsShort}
+use Rattle.refusals.specs.declared.SurveyRefusal.{SurveyRefusal}
+use Rattle.refusals.specs.declared.SurveyRefusal.the-variants.{Elements, TooMany, ItemsShort}
 
 -- Any two permitted answers coincide: what `read_survey` ensures leaves no choice.
 abbrev pub NoChoice : Type 0

@@ -14,12 +14,11 @@ use Rattle.pieces.specs.declared.Marking.the-variants as M
 use Rattle.names.specs.Names.{sharedPair}
 use Rattle.worded.specs.Elements.{piecesOf}
 use Rattle.meaning.specs.Items.{recordsOf}
-use Rattle.packages.specs.Refusals.{refusedBy}
-use Rattle.packages.specs.Tables.{summedOf}
+use Rattle.packages.specs.Tables.{refusedBy, summedOf}
 use Rattle.packages.specs.declared.Outcome.{Outcome}
 use Rattle.packages.specs.declared.Outcome.the-variants.{Done, Refused}
 use Rattle.packages.specs.declared.Survey.{Survey}
-use Rattle.packages.specs.declared.SurveyRefusal.the-variants.{Elements, TooMany, ItemsShort}
+use Rattle.refusals.specs.declared.SurveyRefusal.the-variants.{Elements, TooMany, ItemsShort}
 
 -- the item table of a text: "one record to a piece", and zeros behind
 unfoldable pub itemTable : List ℕ → ℕ → List ℕ

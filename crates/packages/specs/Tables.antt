@@ -14,11 +14,15 @@ use Rattle.pairs.specs.declared.Pair.the-variants.{Neither}
 use Rattle.names.specs.Names.{linksTable, ownsTable, twinsTable, anyTwin}
 use Rattle.tree.specs.Items.{itemRows}
 use Rattle.items.specs.Items.{completed}
-use Rattle.packages.specs.Refusals.{refusedBy}
 use Rattle.packages.specs.declared.Survey.{Survey}
 use Rattle.packages.specs.declared.Outcome.{Outcome}
 use Rattle.packages.specs.declared.Outcome.the-variants.{Done, Refused}
-use Rattle.packages.specs.declared.SurveyRefusal.the-variants.{TooMany, ItemsShort}
+use Rattle.refusals.specs.declared.SurveyRefusal.{SurveyRefusal}
+use Rattle.refusals.specs.declared.SurveyRefusal.the-variants.{TooMany, ItemsShort}
+
+-- a refused survey has no item in any state
+abbrev pub refusedBy : SurveyRefusal → Survey
+refusedBy r = record { outcome = Refused r; tally = record { counts = replicate 11 0 } }
 
 abbrev pub pairBy : Bool → List ℕ → ℕ → Pair
 pairBy any owns n = cond any (pairOf owns n) Neither

@@ -2,20 +2,12 @@
 use pairs::Pair;
 use pieces::Marking;
 use reading::Reading;
-use reading::Refusal;
 use records::Tally;
+use refusals::SurveyRefusal;
 ghost use mathlib.Core.Path.{_≡_};
 ghost use lib.ListN.{length};
-ghost use Rattle.packages.specs.Refusals.{surveyNumber, surveyPlace, refusedBy};
-ghost use Rattle.packages.specs.Tables.{pairBy, summedOf, itemsSurvey, itemsCompleted, kept, piecesSurvey, piecesItems};
+ghost use Rattle.packages.specs.Tables.{refusedBy, pairBy, summedOf, itemsSurvey, itemsCompleted, kept, piecesSurvey, piecesItems};
 ghost use Rattle.packages.specs.Survey.{surveyOf, elementsAfter, itemsAfter};
-
-// 01's refusals of the survey: 1, 3, 4 as the elements' own; 9; 10 with the records that the table has.
-pub enum SurveyRefusal {
-    Elements(Refusal),
-    TooMany,
-    ItemsShort(usize),
-}
 
 // What the survey says of a package as a whole, its tally aside.
 pub struct Summary {
@@ -34,26 +26,6 @@ pub enum Outcome {
 pub struct Survey {
     pub outcome: Outcome,
     pub tally: Tally,
-}
-
-pub fn survey_number(r: SurveyRefusal) -> u64
-    ensures { λ n. ⌜ n ≡ surveyNumber r ⌝ }
-{
-    match r {
-        SurveyRefusal::Elements(e) => reading::refusal_number(e),
-        SurveyRefusal::TooMany => 9,
-        SurveyRefusal::ItemsShort(_) => 10,
-    }
-}
-
-pub fn survey_place(r: SurveyRefusal) -> usize
-    ensures { λ n. ⌜ n ≡ surveyPlace r ⌝ }
-{
-    match r {
-        SurveyRefusal::Elements(e) => reading::refusal_place(e),
-        SurveyRefusal::TooMany => 1024,
-        SurveyRefusal::ItemsShort(n) => n,
-    }
 }
 
 // A refusal: its tally is all zeros.

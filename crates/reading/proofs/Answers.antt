@@ -10,9 +10,9 @@ use Rattle.classes.proofs.Laws.{by-test}
 use lib.ListN.{length, replicate, length-append, length-replicate}
 use Rattle.reading.specs.Rows.{rowsOf}
 use Rattle.reading.specs.Table.{cells, puts}
-use Rattle.reading.specs.declared.ElementNumber.{ElementNumber}
-use Rattle.reading.specs.declared.Refusal.{Refusal}
-use Rattle.reading.specs.declared.Refusal.the-variants.{TextTooLong, TooManyElements, TableShort}
+use Rattle.places.specs.declared.ElementNumber.{ElementNumber}
+use Rattle.refusals.specs.declared.Refusal.{Refusal}
+use Rattle.refusals.specs.declared.Refusal.the-variants.{TextTooLong, TooManyElements, TableShort}
 use Rattle.reading.specs.declared.Reading.{Reading}
 use Rattle.reading.specs.declared.Reading.the-variants.{Read, Refused}
 use Rattle.reading.specs.Reading.{readingOf, tableBy, tableOf}

@@ -7,10 +7,10 @@ use lib.Dec.{ltb}
 use lib.ListN.{length, replicate}
 use Rattle.reading.specs.Rows.{rowsOf}
 use Rattle.reading.specs.Table.{cells}
-use Rattle.reading.specs.declared.BytePlace.{BytePlace}
-use Rattle.reading.specs.declared.ElementNumber.{ElementNumber}
-use Rattle.reading.specs.declared.Refusal.{Refusal}
-use Rattle.reading.specs.declared.Refusal.the-variants.{TextTooLong, TooManyElements, TableShort}
+use Rattle.places.specs.declared.BytePlace.{BytePlace}
+use Rattle.places.specs.declared.ElementNumber.{ElementNumber}
+use Rattle.refusals.specs.declared.Refusal.{Refusal}
+use Rattle.refusals.specs.declared.Refusal.the-variants.{TextTooLong, TooManyElements, TableShort}
 use Rattle.reading.specs.declared.Reading.{Reading}
 use Rattle.reading.specs.declared.Reading.the-variants.{Read, Refused}
 
@@ -20,17 +20,6 @@ mostBytes = 65536
 
 abbrev pub mostElements : ℕ
 mostElements = 8192
-
--- a refusal's number in 01, and its place
-abbrev pub refusalNumber : Refusal → ℕ
-refusalNumber (TextTooLong p) = 1
-refusalNumber (TooManyElements e) = 3
-refusalNumber (TableShort e) = 4
-
-abbrev pub refusalPlace : Refusal → ℕ
-refusalPlace (TextTooLong p) = p .0
-refusalPlace (TooManyElements e) = e .0
-refusalPlace (TableShort e) = e .0
 
 -- 1: text too long; 3: more than 8,192 elements; 4: element table short, "rows it has". "They are tested in this order"
 unfoldable pub readingOf : List ℕ → ℕ → Reading

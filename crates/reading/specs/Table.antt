@@ -1,10 +1,10 @@
 -- The element table: three words to a row. The code puts each row as it is found, where the table has room. Request 13 (packed rows)
--- changes `cells`, `put` and `firstOf`. Assumes nothing.
+-- changes `cells` and `put`. Assumes nothing.
 use Prim.Native.Nat.{ℕ, suc, _+_, _*_, _/_}
 use mathlib.Core.Bool.{cond}
 use mathlib.Core.List.{List, [], _∷_}
 use lib.Dec.{ltb}
-use lib.ListN.{length, getD, set}
+use lib.ListN.{length, set}
 use Rattle.elements.specs.Kinds.{kindNumber}
 use Rattle.reading.specs.Rows.{Row}
 
@@ -22,7 +22,3 @@ put t n kind first size =
 unfoldable pub puts : List ℕ → ℕ → List Row → List ℕ
 puts t n [] = t
 puts t n (r ∷ rs) = puts (put t n (kindNumber (r .kind)) (r .first) (r .size)) (suc n) rs
-
--- the byte place of an element, through the table alone; 0 for a number that the table does not have
-unfoldable pub firstOf : List ℕ → ℕ → ℕ
-firstOf t n = cond (ltb n (length t / 3)) (getD t (n * 3 + 1) 0) 0

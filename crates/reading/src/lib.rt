@@ -1,5 +1,8 @@
 // Reads a text's elements into a table that the caller lends, line by line, in one pass. Any bytes and any table may be given.
 use elements::Found;
+use places::BytePlace;
+use places::ElementNumber;
+use refusals::Refusal;
 ghost use mathlib.Core.Path.{_≡_};
 ghost use mathlib.Core.Bool.{false};
 ghost use Prim.Native.Nat.{_+_, _≤_};
@@ -7,56 +10,12 @@ ghost use lib.ListN.{length};
 ghost use Rattle.classes.specs.Runs.{count};
 ghost use Rattle.reading.specs.Rows.{lineRows, rowsOf};
 ghost use Rattle.reading.specs.Lines.{inLine};
-ghost use Rattle.reading.specs.Table.{put, puts, firstOf};
-ghost use Rattle.reading.specs.Reading.{refusalNumber, refusalPlace, readingOf, tableOf};
-
-// A place in the text, counted in bytes.
-pub struct BytePlace(pub usize);
-
-// A number of an element, or a count of elements.
-pub struct ElementNumber(pub usize);
-
-pub enum Refusal {
-    TextTooLong(BytePlace),
-    TooManyElements(ElementNumber),
-    TableShort(ElementNumber),
-}
+ghost use Rattle.reading.specs.Table.{put, puts};
+ghost use Rattle.reading.specs.Reading.{readingOf, tableOf};
 
 pub enum Reading {
     Read(ElementNumber),
     Refused(Refusal),
-}
-
-pub fn refusal_number(r: Refusal) -> u64
-    ensures { λ n. ⌜ n ≡ refusalNumber r ⌝ }
-{
-    match r {
-        Refusal::TextTooLong(_) => 1,
-        Refusal::TooManyElements(_) => 3,
-        Refusal::TableShort(_) => 4,
-    }
-}
-
-pub fn refusal_place(r: Refusal) -> usize
-    ensures { λ n. ⌜ n ≡ refusalPlace r ⌝ }
-{
-    match r {
-        Refusal::TextTooLong(p) => p.0,
-        Refusal::TooManyElements(e) => e.0,
-        Refusal::TableShort(e) => e.0,
-    }
-}
-
-// The byte place of an element: the only way from one counting to the other.
-pub fn place_of(t: &[u64], e: ElementNumber) -> BytePlace
-    ensures { λ r. ⌜ r .0 ≡ firstOf (now (t .entry)) (e .0) ⌝ }
-{
-    let n = e.0;
-    if n < t.len() / 3 {
-        let w = n * 3 + 1;
-        return BytePlace(t[w] as usize);
-    }
-    BytePlace(0)
 }
 
 // Puts a row at its number, where the table has room for it.

@@ -8,7 +8,8 @@ use borrow.Author.Tests.{le-leb, eqb-true, eqb-false}
 use lib.Dec.{eqb}
 use lib.ListN.{length, getD, take, drop, replicate, length-drop}
 use lib.Seq.{drop-cons, length-take-le}
-use Rattle.alike.specs.Alike.{counts, agree, cellAt, spelledSame, sameName}
+use Rattle.alike.specs.Alike.{counts, agree, spelledSame, sameName}
+use Rattle.places.specs.Places.{cellAt}
 use Rattle.alike.specs.Spelling.{spelt}
 use Rattle.alike.proofs.Spelling.{unlike}
 use Rattle.reading.specs.Rows.{rowsOf}

@@ -5,7 +5,7 @@ use mathlib.Core.List.{List, [], _∷_}
 use lib.ListN.{getD, take, drop}
 use Rattle.elements.specs.Kinds.{kindNumber}
 use Rattle.reading.specs.Rows.{Row, rowsOf}
-use Rattle.alike.specs.Alike.{cellAt}
+use Rattle.places.specs.Places.{cellAt}
 use Rattle.operands.specs.Operands.{bytesAt}
 use Rattle.pieces.specs.Cutting.{cut}
 use Rattle.pieces.specs.Kinds.{closesPiece, opensPiece}

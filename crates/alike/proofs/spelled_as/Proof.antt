@@ -4,11 +4,11 @@ use Rattle.alike.proofs.Spelling.{spelled-past, spelled-long, spelled-t
 use Rattle.alike.proofs.spelled_as.Statement.{statement}
 use Rattle.alike.proofs.spelled_as.Tie as tie
 
-cell-requires : tie.Need-cell-requires
-cell-requires c κs = search needs
+first-of-requires : tie.Need-first-of-requires
+first-of-requires c κs = search needs
 
-cell-requires-2 : tie.Need-cell-requires-2
-cell-requires-2 c κs = search needs
+size-of-requires : tie.Need-size-of-requires
+size-of-requires c κs = search needs
 
 returns : tie.Need-returns
 returns c = search spelled-past
@@ -41,8 +41,8 @@ pub spelled-as-spec : {M : Type 1} → statement M
 spelled-as-spec =
     tie.close
     (tie.spec
-    cell-requires
-    cell-requires-2
+    first-of-requires
+    size-of-requires
     returns
     sub-if2
     returns-2

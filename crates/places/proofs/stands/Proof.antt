@@ -1,7 +1,7 @@
--- `alike::stands` meets its contract. The bytes stand in the text where the first does and the rest have room. Assumes nothing.
-use Rattle.alike.proofs.Laws.{stands-no, stands-if}
-use Rattle.alike.proofs.stands.Statement.{statement}
-use Rattle.alike.proofs.stands.Tie as tie
+-- `places::stands` meets its contract. The bytes stand in the text where the first does and the rest have room. Assumes nothing.
+use Rattle.places.proofs.Laws.{stands-no, stands-if}
+use Rattle.places.proofs.stands.Statement.{statement}
+use Rattle.places.proofs.stands.Tie as tie
 
 returns : tie.Need-returns
 returns c = stands-no (c .before .args .s .now) (c .before .args .x) (c .before .args .n) (c .if1 .taken)

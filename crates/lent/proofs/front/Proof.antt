@@ -3,8 +3,8 @@ use lib.Seq.{length-take-le, take-all}
 use native.Mathlib.Omega.{arith}
 use mathlib.Core.Path.{sym}
 use borrow.Author.Needs.{needs}
-use Rattle.console.proofs.front.Statement.{statement}
-use Rattle.console.proofs.front.Tie as tie
+use Rattle.lent.proofs.front.Statement.{statement}
+use Rattle.lent.proofs.front.Tie as tie
 
 slice-aggregate-result : tie.Need-slice-aggregate-result
 slice-aggregate-result c = sym (length-take-le (c .before .before .args .n) (c .before .before .args .s .now) (omega arith))

@@ -1,8 +1,8 @@
--- `alike::cell` meets its contract. A word of a row that the table has, and 0 of one that it has not. Assumes nothing.
-use Rattle.alike.proofs.Laws.{cell-in, cell-out}
+-- `places::cell` meets its contract. A word of a row that the table has, and 0 of one that it has not. Assumes nothing.
+use Rattle.places.proofs.Laws.{cell-in, cell-out}
 use borrow.Author.Needs.{needs}
-use Rattle.alike.proofs.cell.Statement.{statement}
-use Rattle.alike.proofs.cell.Tie as tie
+use Rattle.places.proofs.cell.Statement.{statement}
+use Rattle.places.proofs.cell.Tie as tie
 
 mul-result : tie.Need-mul-result
 mul-result c = search needs
