@@ -25,7 +25,7 @@ use Rattle.operands.specs.Operands.{literalBy}
 use Rattle.folds.specs.Expressions.{behind, rowOutcome, outcomeIn, outcomeOf}
 use Rattle.items.specs.Items.{anyDown}
 use Rattle.records.specs.Records.{isClaim}
-use Rattle.values.specs.Values.{operandOf, constantOf, rangedOf}
+use Rattle.marks.specs.Marks.{operandOf, constantOf, rangedOf}
 use Rattle.values.specs.declared.Value.{Value}
 use Rattle.worded.specs.Elements.{Element, Piece, at, kinds}
 use Rattle.worded.specs.Names.{sameAs}

@@ -25,7 +25,8 @@ use Rattle.tree.specs.Items.{readingOfPiece, rowsOfPiece}
 use Rattle.integers.specs.Integers.{sizedOf, dividedOf, toSign, powerOf}
 use Rattle.literals.specs.Literals as literals
 use Rattle.operands.specs.Operands.{operatorOf, signOf, literalBy}
-use Rattle.values.specs.Values.{constantOf, rangedOf, languageValue}
+use Rattle.values.specs.Values.{languageValue}
+use Rattle.marks.specs.Marks.{constantOf, rangedOf}
 use Rattle.folds.specs.Expressions.{rowOutcome, outcomeIn}
 use Rattle.worded.specs.Elements.{Element, at, kinds, elementsOf, piecesOf}
 use Rattle.worded.specs.Names.{sameAs}

@@ -20,7 +20,8 @@ use Rattle.tree.specs.Items.{readingOfPiece, rowsOfPiece}
 use Rattle.integers.specs.Integers.{sizedOf, dividedOf, toSign, powerOf}
 use Rattle.literals.specs.Literals.{digitIn, spelled, leading, digitsPlace, exponentOf, numberIn, isBased, valueOf as literalValue, literalOf}
 use Rattle.operands.specs.Operands.{operatorOf, signOf, literalBy}
-use Rattle.values.specs.Values.{constantOf, languageValue}
+use Rattle.values.specs.Values.{languageValue}
+use Rattle.marks.specs.Marks.{constantOf}
 use Rattle.folds.specs.Expressions.{rowOutcome, outcomeIn}
 use Rattle.meaning.specs.Names.{claims, claimsIn, claimedAbove, firstAbove, useOf}
 use Rattle.meaning.specs.Items.{valued, valueOf, donesFrom, donesOf, recordOf, recordsFrom, recordsOf}

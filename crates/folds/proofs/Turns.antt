@@ -20,7 +20,7 @@ use Rattle.folding.specs.declared.Outcome.{Outcome}
 use Rattle.folding.specs.Outcomes.{combinedOf, signedOf}
 use Rattle.expressions.specs.Leaves.{wrongLeaf}
 use Rattle.operands.specs.Operands.{operatorOf, signOf, literalIn}
-use Rattle.values.specs.Values.{operandOf}
+use Rattle.marks.specs.Marks.{operandOf}
 use Rattle.values.specs.declared.Value.{Value}
 use Rattle.uses.specs.Uses.{useIn}
 use Rattle.folds.specs.Expressions.{behind, rowOutcome, outcomeOf}

@@ -9,7 +9,7 @@ use Rattle.records.specs.Records.{wordAt}
 use Rattle.forms.specs.Tree.{Row}
 use Rattle.folding.specs.declared.Outcome.{Outcome}
 use Rattle.operands.specs.Operands.{literalIn}
-use Rattle.values.specs.Values.{operandOf}
+use Rattle.marks.specs.Marks.{operandOf}
 use Rattle.values.specs.declared.Value.{Value}
 use Rattle.uses.specs.Uses.{useIn}
 use Rattle.folds.specs.Expressions.{rowOutcome, outcomeOf}

@@ -61,7 +61,7 @@ fn name_outcome(
 ) -> Outcome
     ensures { λ r. ⌜ r ≡ nameIn (now (text .entry)) (now (elements .entry)) (now (items .entry)) (now (links .entry)) i j ⌝ }
 {
-    values::operand(name_value(text, elements, items, links, i, j))
+    marks::operand(name_value(text, elements, items, links, i, j))
 }
 
 fn literal_outcome(text: &[u8], elements: &[u64], items: &[u64], i: usize, j: u64) -> Outcome

@@ -17,7 +17,7 @@ use Rattle.records.specs.Records.{wordAt, isItem, isClaim}
 use Rattle.names.specs.Language.{languageOf}
 use Rattle.folding.specs.declared.Outcome.{Outcome}
 use Rattle.folds.specs.Folds.{nameValue, foldOf}
-use Rattle.values.specs.Values.{constantOf, subtypeOf, rangedOf}
+use Rattle.marks.specs.Marks.{constantOf, subtypeOf, rangedOf}
 use Rattle.values.specs.Words.{stateOf, kindOf, lowOf, highOf}
 use Rattle.values.specs.declared.Value.{Value}
 use Rattle.values.specs.declared.Value.the-variants.{Without}

@@ -115,13 +115,13 @@ fn bounded(
     ensures { λ r. ⌜ r ≡ boundedAt (now (text .entry)) (now (elements .entry)) (now (items .entry)) (now (links .entry)) i (now (rows .entry)) m mark ⌝ }
 {
     if m == 2 {
-        return values::subtype_value(mark);
+        return marks::subtype_value(mark);
     }
     let b = second_bound(items, i, rows, m);
     let x = expression(text, elements, items, links, i, rows, 3, m);
     let y = expression(text, elements, items, links, i, rows, b, m);
     let down = goes_down(elements, items, i);
-    values::ranged_value(mark, x, y, down)
+    marks::ranged_value(mark, x, y, down)
 }
 
 // The mark of piece i, the name of its second row.
@@ -160,7 +160,7 @@ fn formed(
     let mark = mark_value(text, elements, items, links, i, rows);
     if records::word(items, i, 0) == 3 {
         let x = expression(text, elements, items, links, i, rows, 2, m);
-        return values::constant_value(mark, x);
+        return marks::constant_value(mark, x);
     }
     bounded(text, elements, items, links, i, rows, m, mark)
 }

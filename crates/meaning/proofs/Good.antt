@@ -6,7 +6,7 @@ use mathlib.Core.List.{List, [], _∷_}
 use Rattle.records.specs.Records.{isClaim}
 use Rattle.values.specs.Words.{leanOf}
 use Rattle.values.specs.declared.Value.the-variants.{Without}
-use Rattle.values.proofs.Laws.{Fits}
+use Rattle.marks.proofs.Laws.{Fits}
 use Rattle.worded.specs.Elements.{Piece}
 use Rattle.meaning.specs.Names.{classOf, ownDoubled, Done}
 

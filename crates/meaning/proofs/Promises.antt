@@ -20,7 +20,7 @@ use Rattle.worded.specs.Elements.{Piece, at, kinds}
 use Rattle.meaning.specs.Names.{ownDoubled, Done, useOf}
 use Rattle.meaning.specs.Items.{formed, unlessDoubled, valueOf}
 use Rattle.meaning.specs.Promises.{Fits, BrokenExactly, DoubledExactly, LaterElse, StatesKnown, AllCounted}
-use Rattle.values.proofs.Sound.{Between}
+use Rattle.marks.proofs.Sound.{Between}
 use Rattle.meaning.proofs.States.{Late, marked-late}
 use Rattle.meaning.proofs.Counted.{all-counted-by}
 

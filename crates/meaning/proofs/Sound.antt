@@ -17,8 +17,8 @@ use Rattle.values.specs.Values.{languageValue}
 use Rattle.values.specs.Words.{leanOf}
 use Rattle.values.specs.declared.Value.{Value}
 use Rattle.values.specs.declared.Value.the-variants.{Without}
-use Rattle.values.proofs.Sound.{Keeps, small, SoundOutcome, Sound, wrong-leaf-sound, literal-sound, combined-sound, signed-sound, operand-sound, lean-sound, language-sound, choose-sound}
-use Rattle.values.proofs.Laws.{Constant, Subtype, Fits, fits-sound, constant-fits, subtype-fits, ranged-fits}
+use Rattle.marks.proofs.Sound.{Keeps, small, SoundOutcome, Sound, wrong-leaf-sound, literal-sound, combined-sound, signed-sound, operand-sound, lean-sound, language-sound, choose-sound}
+use Rattle.marks.proofs.Laws.{Constant, Subtype, Fits, fits-sound, constant-fits, subtype-fits, ranged-fits}
 use Rattle.folds.specs.Expressions.{behind, rowOutcome, outcomeIn}
 use Rattle.items.specs.Items.{anyDown}
 use Rattle.worded.specs.Elements.{Element, Piece, at, kinds}

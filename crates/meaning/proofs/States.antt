@@ -7,10 +7,10 @@ use lib.Dec.{eqb}
 use Rattle.forms.specs.Tree.{Row}
 use Rattle.values.specs.declared.Value.{Value}
 use Rattle.values.specs.declared.Value.the-variants.{Number, Truth, Range, Truths, Without}
-use Rattle.values.specs.Values.{constantOf}
+use Rattle.marks.specs.Marks.{constantOf}
 use Rattle.values.specs.Words.{leanOf}
-use Rattle.values.proofs.Sound.{Between, late, Sound, choose-sound}
-use Rattle.values.proofs.Laws.{Constant, Subtype, constant-fits}
+use Rattle.marks.proofs.Sound.{Between, late, Sound, choose-sound}
+use Rattle.marks.proofs.Laws.{Constant, Subtype, constant-fits}
 use Rattle.worded.specs.Elements.{Element, Piece}
 use Rattle.meaning.specs.Names.{classOf, doubled, Done, claimedAbove, firstAbove, useOf}
 use Rattle.meaning.specs.Items.{valued, bounded, marked}

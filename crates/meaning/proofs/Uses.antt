@@ -18,7 +18,7 @@ use Rattle.values.specs.Values.{languageValue}
 use Rattle.values.specs.Words.{stateOf, kindOf, lowOf, highOf, leanOf}
 use Rattle.values.specs.declared.Value.{Value}
 use Rattle.values.specs.declared.Value.the-variants.{Without}
-use Rattle.values.proofs.Laws.{Fits, used-lean}
+use Rattle.marks.proofs.Laws.{Fits, used-lean}
 use Rattle.uses.specs.Uses.{recordValue, useIn}
 use Rattle.uses.proofs.Laws.{claimed-too, of-language, no-claim, above, below}
 use Rattle.worded.specs.Elements.{Element, Piece, at, piecesOf}

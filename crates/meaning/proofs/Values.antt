@@ -15,7 +15,7 @@ use Rattle.tree.specs.Answers.{wordsOf}
 use Rattle.tree.specs.Items.{rowsOfPiece, itemRows}
 use Rattle.tree.proofs.Pieces.{rows-few}
 use Rattle.operands.specs.Operands.{literalBy}
-use Rattle.values.specs.Values.{operandOf}
+use Rattle.marks.specs.Marks.{operandOf}
 use Rattle.values.specs.declared.Value.{Value}
 use Rattle.values.specs.declared.Value.the-variants.{Without}
 use Rattle.uses.specs.Uses.{useIn}

@@ -12,7 +12,7 @@ use Rattle.tree.specs.Items.{rowsOfPiece}
 use Rattle.folding.specs.declared.Outcome.{Outcome}
 use Rattle.operands.specs.Operands.{literalBy}
 use Rattle.items.specs.Items.{anyDown}
-use Rattle.values.specs.Values.{operandOf, constantOf, subtypeOf, rangedOf}
+use Rattle.marks.specs.Marks.{operandOf, constantOf, subtypeOf, rangedOf}
 use Rattle.values.specs.Words.{stateOf, kindOf, lowOf, highOf}
 use Rattle.values.specs.declared.Value.{Value}
 use Rattle.values.specs.declared.Value.the-variants.{Without}

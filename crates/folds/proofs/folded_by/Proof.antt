@@ -8,7 +8,7 @@ use Rattle.values.proofs.number.Reads as number-reads
 use Rattle.folds.proofs.Stored.{whole-by, truth-by, stopped-by}
 use mir.Syntax.{w32}
 use mir.ValLaws.{toZ-ofZ}
-use Rattle.values.proofs.Sound.{number-fits}
+use Rattle.values.proofs.Laws.{number-fits}
 use mathlib.Core.Path.{ap}
 use Rattle.integers.specs.declared.Folded.the-variants.{Whole}
 use Rattle.folds.specs.Stored.{foldedBy}

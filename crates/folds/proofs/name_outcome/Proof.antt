@@ -5,7 +5,7 @@ use Rattle.folds.proofs.name_outcome.Tie as tie
 use Rattle.folds.proofs.name_outcome.Reads as reads
 use Rattle.folds.proofs.name_outcome.Lts as lts
 use Rattle.folds.proofs.name_value.Reads as name-value-reads
-use Rattle.values.proofs.operand.Reads as operand-reads
+use Rattle.marks.proofs.operand.Reads as operand-reads
 use Rattle.folds.proofs.Turns.{name-there}
 
 name-value-requires : tie.Need-name-value-requires

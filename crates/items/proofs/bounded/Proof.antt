@@ -7,8 +7,8 @@ use Rattle.items.proofs.bounded.Lts as lts
 use Rattle.items.proofs.expression.Reads as expression-reads
 use Rattle.items.proofs.goes_down.Reads as goes-down-reads
 use Rattle.items.proofs.second_bound.Reads as second-bound-reads
-use Rattle.values.proofs.ranged_value.Reads as ranged-value-reads
-use Rattle.values.proofs.subtype_value.Reads as subtype-value-reads
+use Rattle.marks.proofs.ranged_value.Reads as ranged-value-reads
+use Rattle.marks.proofs.subtype_value.Reads as subtype-value-reads
 use Rattle.items.proofs.Laws.{unbounded, ranged}
 use native.Mathlib.Omega.{arith}
 use Rattle.items.proofs.Laws.{range-le}

@@ -8,7 +8,7 @@ use Rattle.items.proofs.bounded.Reads as bounded-reads
 use Rattle.items.proofs.expression.Reads as expression-reads
 use Rattle.items.proofs.mark_value.Reads as mark-value-reads
 use Rattle.records.proofs.word.Reads as word-reads
-use Rattle.values.proofs.constant_value.Reads as constant-value-reads
+use Rattle.marks.proofs.constant_value.Reads as constant-value-reads
 use Rattle.items.proofs.Laws.{formed-not, is-constant, is-subtype}
 
 returns : tie.Need-returns
