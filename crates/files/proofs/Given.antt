@@ -1,5 +1,5 @@
--- What the first two layers of the strict reading say of the text: the element reader's answer, and the search for an unreadable element.
--- Each answer has its description, and what is described is answered. Assumes nothing.
+-- What the search for an unreadable element says of the text: each answer has its description, and what is described is answered. Assumes
+-- nothing.
 use Prim.Native.Nat.{ℕ, zero, suc, _+_, _-_, _*_, _/_, _<_}
 use mathlib.Core.Path.{_≡_, refl, sym, ap, _∙_, subst}
 use mathlib.Core.Bool.{Bool, true, false}
@@ -20,45 +20,16 @@ use Rattle.reading.specs.declared.Reading.{Reading}
 use Rattle.reading.specs.declared.Reading.the-variants as R
 use Rattle.refusals.specs.declared.Refusal.{Refusal}
 use Rattle.refusals.specs.declared.Refusal.the-variants.{TextTooLong, TooManyElements, TableShort}
-use Rattle.reading.proofs.Answers.{table-read, table-length}
+use Rattle.reading.specs.Given.{count, Taken}
+use Rattle.reading.proofs.Answers.{taken-read, table-read, table-length}
 use Rattle.tree.specs.Answers.{elementsIn}
 use Rattle.files.specs.declared.Unread.{Unread}
 use Rattle.files.specs.declared.Unread.the-variants as U
 use Rattle.refusals.specs.declared.StrictRefusal.the-variants as S
 use Rattle.files.specs.Strict.{unreadableFrom}
-use Rattle.files.specs.Given.{count, Taken, UnreadableIn, FirstUnreadable, NoneUnreadable, Given}
+use Rattle.files.specs.Given.{UnreadableIn, FirstUnreadable, NoneUnreadable}
 
--- the element reader: what its answer says of the text, and the answer by what is said
-module _ (text : List ℕ) (ew tw : ℕ) where
-  abbrev pub ReadingSays : Reading → Type 0
-  ReadingSays (R.Read n) = (n .0 ≡ count text) × Taken text ew
-  ReadingSays (R.Refused r) = Given text ew tw (S.Elements r)
-
-  pub reading-says : ReadingSays (readingOf text ew)
-  unfolding readingOf
-  reading-says =
-      by-test ReadingSays (ltb 65536 (length text)) (λ l. (refl, ltb-true 65536 (length text) l))
-      (λ g. by-test ReadingSays (ltb 8192 (count text)) (λ l. (refl, ltb-false 65536 (length text) g, ltb-true 8192 (count text) l))
-      (λ h. by-test ReadingSays (ltb (ew / 3) (count text))
-      (λ l. (refl, ltb-false 65536 (length text) g, ltb-false 8192 (count text) h, omega (arith, ltb-true (ew / 3) (count text) l)))
-      (λ l. (refl, (ltb-false 65536 (length text) g, ltb-false 8192 (count text) h, omega (arith, ltb-false (ew / 3) (count text) l))))))
-
-  pub taken-read : Taken text ew → readingOf text ew ≡ R.Read (record { 0 = count text })
-  unfolding readingOf
-  taken-read t =
-      let l = t .2 in
-      simp (le-ltb 65536 (length text) (t .0), le-ltb 8192 (count text) (t .1), le-ltb (ew / 3) (count text) (omega arith))
-
-  pub refused-reading : (r : Refusal) → Given text ew tw (S.Elements r) → readingOf text ew ≡ R.Refused r
-  unfolding readingOf
-  refused-reading (TextTooLong p) g = rw (lt-ltb 65536 (length text) (g .1)) (ap (λ (k : ℕ). R.Refused (TextTooLong (record { 0 = k }))) (sym (g .0)))
-  refused-reading (TooManyElements e) g =
-      rw (le-ltb 65536 (length text) (g .1), lt-ltb 8192 (count text) (g .2)) (ap (λ (k : ℕ). R.Refused (TooManyElements (record { 0 = k }))) (sym (g .0)))
-  refused-reading (TableShort e) g =
-      let l = g .3 in
-      rw (le-ltb 65536 (length text) (g .1), le-ltb 8192 (count text) (g .2), lt-ltb (ew / 3) (count text) (omega arith))
-      (ap (λ (k : ℕ). R.Refused (TableShort (record { 0 = k }))) (sym (g .0)))
-
+module _ (text : List ℕ) (ew : ℕ) where
   -- all the elements count
   pub all-count : Taken text ew → elementsIn (tableOf text ew) (count text) ≡ count text
   all-count t =
@@ -118,7 +89,7 @@ UnreadSays rs U.Nothing = NoneUnreadable rs
 module _ (text : List ℕ) (ew : ℕ) (t : Taken text ew) where
   pub unread-says : UnreadSays (rowsOf text) (unreadableFrom 0 (count text) (tableOf text ew))
   unread-says =
-      rw (table-read text ew (taken-read text ew 0 t))
+      rw (table-read text ew (taken-read text ew t))
       (from (unreadableFrom 0 (count text) (cells (rowsOf text) ++ replicate (ew - 3 * count text) 0)) (search-says (rowsOf text) 0 (replicate (ew - 3 * count text) 0)))
     where
       from : (f : Unread) → SearchSays 0 (rowsOf text) f → UnreadSays (rowsOf text) f

@@ -20,8 +20,9 @@ use Rattle.forms.specs.Kinds.{terminalOf}
 use Rattle.forms.specs.Tree as forms
 use Rattle.tree.specs.Answers.{terminalsOf, wordsOf}
 use Rattle.verdict.specs.Verdict.{verdictFrom, formsIn, verdictOf}
-use Rattle.files.specs.Given.{count, Taken, kindsOf, Elements, alike, formsOf, verdictOn}
-use Rattle.files.proofs.Given.{taken-read}
+use Rattle.reading.specs.Given.{count, Taken}
+use Rattle.files.specs.Given.{kindsOf, Elements, alike, formsOf, verdictOn}
+use Rattle.reading.proofs.Answers.{taken-read}
 
 -- zeros behind rows change none of the words
 zeros-at : (z i : ℕ) → _≡_ {A = ℕ} (getD (replicate z 0) i 0) 0
@@ -61,11 +62,11 @@ terminals-rows (r ∷ rs) l = ap (λ (x : List ℕ). terminalOf (kindNumber (r .
 -- the element table has the text's elements: what they are to the forms, and which are alike
 module _ (text : List ℕ) (ew : ℕ) (t : Taken text ew) where
   table-elements : terminalsOf (count text) (tableOf text ew) ≡ Elements text
-  table-elements = rw (table-read text ew (taken-read text ew 0 t)) (terminals-rows (rowsOf text) (replicate (ew - 3 * count text) 0))
+  table-elements = rw (table-read text ew (taken-read text ew t)) (terminals-rows (rowsOf text) (replicate (ew - 3 * count text) 0))
 
   table-alike : sameName text (tableOf text ew) ≡ alike text
   table-alike =
-      rw (table-read text ew (taken-read text ew 0 t))
+      rw (table-read text ew (taken-read text ew t))
       (fun-ext (λ a. fun-ext (same-padded text (cells (rowsOf text)) (count text) (ew - 3 * count text) (length-cells (rowsOf text)) a)))
 
   -- so that what holds of one holds of the other

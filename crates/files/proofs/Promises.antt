@@ -28,9 +28,11 @@ use Rattle.refusals.specs.declared.StrictRefusal.the-variants as S
 use Rattle.files.specs.declared.Strict.{Strict}
 use Rattle.files.specs.declared.Strict.the-variants.{Read, Refused}
 use Rattle.files.specs.Strict.{unreadableFrom, byAnswer, treeTable, fileOf, byUnread, elementsAs, byReading, strictOf, kept, elementsAfter, treeByUnread, treeAs, treeByReading, treeAfter}
-use Rattle.files.specs.Given.{count, Taken, Readable, verdictOn, IsRead, Given}
+use Rattle.reading.specs.Given.{count, Taken}
+use Rattle.files.specs.Given.{Readable, verdictOn, IsRead, Given}
 use Rattle.files.specs.Promises.{Accepted, RefusedExactly, TablesHold, ZerosOnRefusal, NoChoice}
-use Rattle.files.proofs.Given.{ReadingSays, reading-says, taken-read, refused-reading, all-count, UnreadSays, unread-says, none-unread, first-unread}
+use Rattle.reading.proofs.Answers.{ReadingSays, reading-says, taken-read, refused-reading}
+use Rattle.files.proofs.Given.{all-count, UnreadSays, unread-says, none-unread, first-unread}
 use Rattle.files.proofs.Held.{of-text, of-table, verdict-rows}
 
 pub no-choice : NoChoice
@@ -82,21 +84,21 @@ zeros-on-refusal text ew tw r e =
 module _ (text : List ℕ) (ew tw : ℕ) where
   readable-as : Readable text ew → strictOf text ew tw ≡ fileOf text (tableOf text ew) (count text) tw
   readable-as r =
-      strict-by text ew tw (R.Read (record { 0 = count text })) (taken-read text ew tw (r .0))
+      strict-by text ew tw (R.Read (record { 0 = count text })) (taken-read text ew (r .0))
       ∙ all-by text (tableOf text ew) (count text) tw U.Nothing (none-unread text ew (r .0) (r .1))
 
   answered-as : Taken text ew → (a : Answer) → Answered text (tableOf text ew) (count text) tw ≡ a
       → fileOf text (tableOf text ew) (count text) tw ≡ byAnswer a (treeTable text (tableOf text ew) (count text) tw)
   answered-as t a e =
       file-by text (tableOf text ew) (count text) tw a
-      (ap (λ (k : ℕ). answerOf tw (readingIn text (tableOf text ew) k)) (all-count text ew tw t) ∙ e)
+      (ap (λ (k : ℕ). answerOf tw (readingIn text (tableOf text ew) k)) (all-count text ew t) ∙ e)
 
   -- the tree table has the file's rows
   tree-rows : Taken text ew → (s : State) → trees.File text (tableOf text ew) (count text) s → 5 * length (rowsOf s) ≤ tw
       → treeTable text (tableOf text ew) (count text) tw ≡ wordsOf (rowsOf s) ++ replicate (tw - 5 * length (rowsOf s)) 0
   unfolding treeTable
   tree-rows t s f l =
-      ap (λ (k : ℕ). answers.tableOf tw (readingIn text (tableOf text ew) k)) (all-count text ew tw t) ∙ has-rows text (tableOf text ew) (count text) tw s f l
+      ap (λ (k : ℕ). answers.tableOf tw (readingIn text (tableOf text ew) k)) (all-count text ew t) ∙ has-rows text (tableOf text ew) (count text) tw s f l
 
   -- the verdict on the tree table is that on the file's rows
   verdict-as : Taken text ew → (s : State) → trees.File text (tableOf text ew) (count text) s → (rows : ℕ) → length (rowsOf s) ≡ rows → 5 * rows ≤ tw
@@ -135,9 +137,9 @@ module _ (text : List ℕ) (ew tw : ℕ) where
   elements-say t U.Nothing e u = subst Says (sym (all-by text (tableOf text ew) (count text) tw U.Nothing e)) (file-says (t, u))
 
   strict-says : Says (strictOf text ew tw)
-  strict-says = go (readingOf text ew) refl (reading-says text ew tw)
+  strict-says = go (readingOf text ew) refl (reading-says text ew)
     where
-      go : (o : Reading) → readingOf text ew ≡ o → ReadingSays text ew tw o → Says (strictOf text ew tw)
+      go : (o : Reading) → readingOf text ew ≡ o → ReadingSays text ew o → Says (strictOf text ew tw)
       go (R.Refused r) e g = subst Says (sym (strict-by text ew tw (R.Refused r) e)) g
       go (R.Read n) e g =
           subst Says (sym (strict-by text ew tw (R.Read n) e ∙ ap (λ (k : ℕ). elementsAs text (tableOf text ew) k tw) (g .0)))
@@ -151,9 +153,9 @@ module _ (text : List ℕ) (ew tw : ℕ) where
       ∙ ap (Read rows) (verdict-as (r .0) s h rows c l ∙ sym w)
 
   refused-by : (r : StrictRefusal) → Given text ew tw r → strictOf text ew tw ≡ Refused r
-  refused-by (S.Elements r) g = strict-by text ew tw (R.Refused r) (refused-reading text ew tw r g)
+  refused-by (S.Elements r) g = strict-by text ew tw (R.Refused r) (refused-reading text ew r g)
   refused-by (S.Unreadable e) g =
-      strict-by text ew tw (R.Read (record { 0 = count text })) (taken-read text ew tw (g .0))
+      strict-by text ew tw (R.Read (record { 0 = count text })) (taken-read text ew (g .0))
       ∙ all-by text (tableOf text ew) (count text) tw (U.At (e .0)) (first-unread text ew (g .0) (e .0) (g .1))
   refused-by (S.NoFile e) g =
       readable-as (g .0)
@@ -183,7 +185,7 @@ pub tables-hold : TablesHold
 unfolding elementsAfter
 tables-hold text ew tw s r f l =
     let h = of-table text ew (r .0) (λ a w. forms.Reading a w s) f in
-    let e = taken-read text ew tw (r .0) in (
+    let e = taken-read text ew (r .0) in (
       ap (λ (x : Strict). kept x (tableOf text ew)) (read-by text ew tw (length (rowsOf s)) (verdictOn (rowsOf s)) (r, (s, (f, refl, l, refl)))) ∙ table-read text ew e,
       after-by text ew tw (R.Read (record { 0 = count text })) e
           ∙ tree-by text (tableOf text ew) (count text) tw U.Nothing (none-unread text ew (r .0) (r .1))

@@ -10,8 +10,8 @@ use Rattle.elements.specs.Kinds.{kindNumber}
 use Rattle.elements.specs.declared.Kind.{Kind}
 use Rattle.reading.specs.Rows.{Row, rowsOf}
 use Rattle.reading.specs.Table.{cells}
-use Rattle.reading.specs.Reading.{mostBytes, mostElements}
-use Rattle.refusals.specs.declared.Refusal.the-variants.{TextTooLong, TooManyElements, TableShort}
+use Rattle.reading.specs.Given.{Taken}
+use Rattle.reading.specs.Given as elements
 use Rattle.alike.specs.Alike.{sameName}
 use Rattle.forms.specs.Kinds.{terminalOf}
 use Rattle.forms.specs.Tree.{State, Reading}
@@ -21,14 +21,6 @@ use Rattle.verdict.specs.Verdict.{verdictFrom}
 use Rattle.verdict.specs.declared.Verdict.{Verdict}
 use Rattle.refusals.specs.declared.StrictRefusal.{StrictRefusal}
 use Rattle.refusals.specs.declared.StrictRefusal.the-variants as S
-
--- how many elements a text has
-abbrev pub count : List ℕ → ℕ
-count text = length (rowsOf text)
-
--- the text's elements are taken: none of 1, 3, 4 refuses it
-abbrev pub Taken : List ℕ → ℕ → Type 0
-Taken text elementWords = (length text ≤ mostBytes) × (count text ≤ mostElements) × (3 * count text ≤ elementWords)
 
 -- element e of these is there and is unreadable
 abbrev pub UnreadableIn : List Row → ℕ → Type 0
@@ -77,12 +69,10 @@ IsRead text elementWords treeWords rows v =
     Readable text elementWords
     × ((s : State) × (File text s × (length (forms.rowsOf s) ≡ rows) × (5 * rows ≤ treeWords) × (v ≡ verdictOn (forms.rowsOf s))))
 
--- 01's table: when each refusal is given, and its place. Each is given where those above it are not; of 5, 6, 7 the first element decides.
+-- 01's table: when each refusal is given, and its place; 1, 3, 4 as the element reader gives them. Each is given where those above it are
+-- not; of 5, 6, 7 the first element decides.
 abbrev pub Given : List ℕ → ℕ → ℕ → StrictRefusal → Type 0
-Given text elementWords treeWords (S.Elements (TextTooLong p)) = (p .0 ≡ mostBytes) × (mostBytes < length text)
-Given text elementWords treeWords (S.Elements (TooManyElements e)) = (e .0 ≡ mostElements) × (length text ≤ mostBytes) × (mostElements < count text)
-Given text elementWords treeWords (S.Elements (TableShort e)) =
-    (e .0 ≡ elementWords / 3) × (length text ≤ mostBytes) × (count text ≤ mostElements) × (elementWords < 3 * count text)
+Given text elementWords treeWords (S.Elements r) = elements.Given text elementWords r
 Given text elementWords treeWords (S.Unreadable e) = Taken text elementWords × FirstUnreadable (rowsOf text) (e .0)
 Given text elementWords treeWords (S.NoFile e) = Readable text elementWords × NoFileFirst (alike text) (Elements text) (e .0)
 Given text elementWords treeWords (S.NameDiffers e) = Readable text elementWords × NameFirst (alike text) (Elements text) (e .0)

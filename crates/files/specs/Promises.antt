@@ -15,7 +15,8 @@ use Rattle.refusals.specs.declared.StrictRefusal.{StrictRefusal}
 use Rattle.files.specs.declared.Strict.{Strict}
 use Rattle.files.specs.declared.Strict.the-variants.{Read, Refused}
 use Rattle.files.specs.Strict.{strictOf, elementsAfter, treeAfter}
-use Rattle.files.specs.Given.{count, Readable, File, IsRead, Given}
+use Rattle.reading.specs.Given.{count}
+use Rattle.files.specs.Given.{Readable, File, IsRead, Given}
 
 -- A text is accepted exactly where its elements are a file by the forms and neither 6, 7 nor the sizes refuse it; the rows are as many as
 -- that file has, and the verdict is that on them.

@@ -6,7 +6,8 @@ use native.Mathlib.Omega.{arith}
 use lib.ListN.{length, getD, drop}
 use lib.Seq.{drop-drop, getD-drop}
 use Rattle.forms.specs.Tree.{Row}
-use Rattle.folds.specs.Rows.{rowIn, rowsIn, rowAt}
+use Rattle.forms.specs.Words.{rowAt}
+use Rattle.folds.specs.Rows.{rowIn, rowsIn}
 
 pub rows-length : (n : ℕ) (words : List ℕ) → length (rowsIn n words) ≡ n
 unfolding rowsIn

@@ -24,7 +24,8 @@ use Rattle.marks.specs.Marks.{operandOf}
 use Rattle.values.specs.declared.Value.{Value}
 use Rattle.uses.specs.Uses.{useIn}
 use Rattle.folds.specs.Expressions.{behind, rowOutcome, outcomeOf}
-use Rattle.folds.specs.Rows.{rowsIn, rowAt}
+use Rattle.forms.specs.Words.{rowAt}
+use Rattle.folds.specs.Rows.{rowsIn}
 use Rattle.folds.specs.Stored.{sortBy, foldedKind, foldedBy, unpacked, storedAt}
 use Rattle.folds.specs.Folds.{elementIn, nameValue, nameIn, literalAt, kindIn, expressionIn, foldedRow, rightOf, foldOf, mostRows}
 use Rattle.folds.proofs.Expressions.{outcome-row, outcome-none}

@@ -1,5 +1,5 @@
 -- The rows that a table holds, five words to a row. Assumes nothing.
-use Prim.Native.Nat.{ℕ, zero, suc, _+_, _*_}
+use Prim.Native.Nat.{ℕ, zero, suc}
 use mathlib.Core.List.{List, [], _∷_}
 use lib.ListN.{getD, drop}
 use Rattle.forms.specs.Tree.{Row}
@@ -12,14 +12,3 @@ rowIn words =
 unfoldable pub rowsIn : ℕ → List ℕ → List Row
 rowsIn zero words = []
 rowsIn (suc n) words = rowIn words ∷ rowsIn n (drop 5 words)
-
--- row k, by its words
-abbrev pub rowAt : List ℕ → ℕ → Row
-rowAt words k =
-    record {
-      form = getD words (5 * k) 0;
-      first = getD words (5 * k + 1) 0;
-      count = getD words (5 * k + 2) 0;
-      rows = getD words (5 * k + 3) 0;
-      operator = getD words (5 * k + 4) 0;
-    }

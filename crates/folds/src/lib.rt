@@ -12,7 +12,8 @@ ghost use Rattle.places.specs.Places.{cellAt};
 ghost use Rattle.records.specs.Records.{wordAt};
 ghost use Rattle.values.specs.Words.{truthWord};
 ghost use Rattle.folds.specs.Expressions.{behind};
-ghost use Rattle.folds.specs.Rows.{rowsIn, rowAt};
+ghost use Rattle.forms.specs.Words.{rowAt};
+ghost use Rattle.folds.specs.Rows.{rowsIn};
 ghost use Rattle.folds.specs.Stored.{sortWord, sortBy, foldedKind, foldedWord, foldedBy, unpacked, storedAt};
 ghost use Rattle.folds.specs.Folds.{elementIn, nameValue, nameIn, literalAt, kindIn, expressionIn, foldedRow, rightOf, foldOf};
 

@@ -3,6 +3,7 @@ pub mod Names
 pub mod Rules
 pub mod Picks
 pub mod Tree
+pub mod Words
 pub mod Reading
 pub mod Items
 pub mod Forest

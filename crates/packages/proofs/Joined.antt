@@ -19,7 +19,7 @@ use Rattle.reading.proofs.TableLaws.{length-cells}
 use Rattle.reading.proofs.Answers.{table-read, table-refused, table-length, read-count, read-few}
 use Rattle.pieces.specs.Kinds.{kindsOf}
 use Rattle.pieces.specs.Kinds as by-kinds
-use Rattle.pieces.specs.Records.{piecesIn, markingOf, recordTable, holds}
+use Rattle.pieces.specs.Records.{piecesIn, marking, recordTable, holds}
 use Rattle.pieces.specs.Records as marks
 use Rattle.pieces.specs.declared.Marking.{Marking}
 use Rattle.pieces.specs.declared.Marking.the-variants as M
@@ -38,7 +38,7 @@ use Rattle.meaning.proofs.Stages.{completed-all}
 use Rattle.packages.proofs.Told.{told-all, pairs-same}
 use Rattle.packages.specs.Tables.{refusedBy, pairBy, summedOf, itemsCompleted, itemsSurvey, piecesSurvey, piecesItems, kept}
 use Rattle.packages.specs.Tables as tables
-use Rattle.packages.specs.Survey.{itemTable, marking, summary, left, surveyOf, elementsAfter, itemsAfter}
+use Rattle.packages.specs.Survey.{itemTable, summary, left, surveyOf, elementsAfter, itemsAfter}
 use Rattle.packages.specs.Survey as survey
 use Rattle.packages.specs.declared.Survey.{Survey}
 use Rattle.packages.specs.declared.Outcome.{Outcome}
@@ -83,8 +83,7 @@ module _ (s : List ℕ) (z : ℕ) where
       rw (m, kinds-of s (rowsOf s) (replicate z 0)) (sym (cut-kinds (elementsOf s (rowsOf s))))
 
   module _ (words : ℕ) where
-    marking-is : markingOf (piecesIn t n) words ≡ marking (length ps) words
-    unfolding markingOf marking
+    marking-is : marking (length (piecesIn t n)) words ≡ marking (length ps) words
     marking-is = rw (pieces-are, each-length ps)
 
     abbrev rest : List ℕ

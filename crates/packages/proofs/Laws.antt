@@ -4,7 +4,7 @@ use mathlib.Core.Bool.{Bool, true, false}
 use mathlib.Core.List.{List}
 use Prim.Native.Nat.{ℕ}
 use lib.ListN.{length, replicate}
-use Rattle.pieces.specs.Records.{piecesIn, markingOf, recordTable, holds}
+use Rattle.pieces.specs.Records.{piecesIn, marking, recordTable, holds}
 use Rattle.pieces.specs.declared.Marking.{Marking}
 use Rattle.pieces.specs.declared.Marking.the-variants as M
 use Rattle.records.specs.Tallies.{tallyOf}
@@ -46,7 +46,7 @@ module _ (text table items items′ rows links owns twins : List ℕ) (count n a
   surveys m z = z ∙ rw (m, f, h, w, completes)
 
 -- the pieces marked, too many, or more than the table has room for
-module _ (text table items : List ℕ) (count words : ℕ) (m : Marking) (p : m ≡ markingOf (piecesIn table count) words) (q : items ≡ recordTable (piecesIn table count) words) where
+module _ (text table items : List ℕ) (count words : ℕ) (m : Marking) (p : m ≡ marking (length (piecesIn table count)) words) (q : items ≡ recordTable (piecesIn table count) words) where
   marks-done : (n : ℕ) → m ≡ M.Marked n → (piecesSurvey text table count words ≡ itemsSurvey text table count items n) × (piecesItems text table count words ≡ itemsCompleted text table count items n)
   unfolding piecesSurvey piecesItems
   marks-done n e = (rw (← p, e, ← q), rw (← p, e, ← q))

@@ -19,8 +19,11 @@ use Rattle.reading.specs.declared.Reading.{Reading}
 use Rattle.reading.specs.declared.Reading.the-variants as R
 use Rattle.worded.specs.Elements.{piecesOf}
 use Rattle.packages.specs.Tables.{refusedBy, summedOf}
-use Rattle.packages.specs.Survey.{itemTable, marking, summary, byMarking, byReading, surveyOf, elementsAfter, itemsAfter}
-use Rattle.packages.specs.Promises.{NoChoice, ZerosOnRefusal, Taken, Surveyed, ElementsExactly, TooManyExactly, ItemsShortExactly, SaysOfRecords}
+use Rattle.pieces.specs.Records.{marking}
+use Rattle.packages.specs.Survey.{itemTable, summary, byMarking, byReading, surveyOf, elementsAfter, itemsAfter}
+use Rattle.reading.specs.Given.{Taken, Given}
+use Rattle.reading.proofs.Answers.{ReadingSays, reading-says, taken-read, refused-reading}
+use Rattle.packages.specs.Promises.{NoChoice, ZerosOnRefusal, Surveyed, ElementsExactly, TooManyExactly, ItemsShortExactly, SaysOfRecords}
 use Rattle.packages.specs.declared.Survey.{Survey}
 use Rattle.packages.specs.declared.Summary.{Summary}
 use Rattle.refusals.specs.declared.SurveyRefusal.{SurveyRefusal}
@@ -61,7 +64,7 @@ zeros-on-refusal s e i r h = (rw h, rw h, by-reading-refused (readingOf s e) s (
 -- what each outcome says of the text and the tables
 abbrev Said : List ℕ → ℕ → ℕ → Outcome → Type 0
 Said s e i (Done y) = Taken s e × (length (piecesOf s) ≤ 1024) × (8 * length (piecesOf s) ≤ i)
-Said s e i (Refused (Elements r)) = readingOf s e ≡ R.Refused r
+Said s e i (Refused (Elements r)) = Given s e r
 Said s e i (Refused TooMany) = Taken s e × (1024 < length (piecesOf s))
 Said s e i (Refused (ItemsShort k)) = Taken s e × (length (piecesOf s) ≤ 1024) × (i / 8 < length (piecesOf s)) × (k ≡ i / 8)
 
@@ -82,8 +85,8 @@ unfolding surveyOf
 said s e i o h = subst (Said s e i) h (go (readingOf s e) refl)
   where
     go : (x : Reading) → readingOf s e ≡ x → Said s e i (byReading x s (elements.tableOf s e) i .outcome)
-    go (R.Refused r) q = q
-    go (R.Read n) q = said-marked s (elements.tableOf s e) e i (n, q)
+    go (R.Refused r) q = subst (ReadingSays s e) q (reading-says s e)
+    go (R.Read n) q = said-marked s (elements.tableOf s e) e i (subst (ReadingSays s e) q (reading-says s e) .1)
 
 pub surveyed : Surveyed
 unfolding surveyOf marking summary summedOf
@@ -92,22 +95,22 @@ surveyed s e i = (
   λ x.
       let few = x .1 in
       let room = x .2 in
-      rw (x .0 .1, le-ltb 1024 (length (piecesOf s)) few, le-ltb (i / 8) (length (piecesOf s)) (omega arith)) (_, refl),
+      rw (taken-read s e (x .0), le-ltb 1024 (length (piecesOf s)) few, le-ltb (i / 8) (length (piecesOf s)) (omega arith)) (_, refl),
 )
 
 pub elements-exactly : ElementsExactly
 unfolding surveyOf
-elements-exactly s e i r = (said s e i (Refused (Elements r)), λ h. rw h)
+elements-exactly s e i r = (said s e i (Refused (Elements r)), λ h. rw (refused-reading s e r h))
 
 pub too-many-exactly : TooManyExactly
 unfolding surveyOf marking
-too-many-exactly s e i = (said s e i (Refused TooMany), λ x. rw (x .0 .1, lt-ltb 1024 (length (piecesOf s)) (x .1)))
+too-many-exactly s e i = (said s e i (Refused TooMany), λ x. rw (taken-read s e (x .0), lt-ltb 1024 (length (piecesOf s)) (x .1)))
 
 pub items-short-exactly : ItemsShortExactly
 unfolding surveyOf marking
 items-short-exactly s e i k = (
   said s e i (Refused (ItemsShort k)),
-  λ x. rw (x .0 .1, le-ltb 1024 (length (piecesOf s)) (x .1), lt-ltb (i / 8) (length (piecesOf s)) (x .2), x .3),
+  λ x. rw (taken-read s e (x .0), le-ltb 1024 (length (piecesOf s)) (x .1), lt-ltb (i / 8) (length (piecesOf s)) (x .2), x .3),
 )
 
 -- the counts of a tally, one by one

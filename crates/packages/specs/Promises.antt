@@ -8,10 +8,8 @@ use lib.ListN.{length, getD, replicate}
 use Rattle.records.specs.Tallies.{inState}
 use Rattle.records.specs.Frames.{frameGood}
 use Rattle.names.specs.Names.{sharedPair}
-use Rattle.reading.specs.Reading.{readingOf}
+use Rattle.reading.specs.Given.{Taken, Given}
 use Rattle.reading.specs.Reading as elements
-use Rattle.places.specs.declared.ElementNumber.{ElementNumber}
-use Rattle.reading.specs.declared.Reading.the-variants as R
 use Rattle.refusals.specs.declared.Refusal.{Refusal}
 use Rattle.worded.specs.Elements.{piecesOf}
 use Rattle.packages.specs.Tables.{refusedBy}
@@ -35,25 +33,21 @@ ZerosOnRefusal =
     (s : List ℕ) (e i : ℕ) (r : SurveyRefusal) → surveyOf s e i .outcome ≡ Refused r
     → (elementsAfter s e i ≡ replicate e 0) × (itemsAfter s e i ≡ replicate i 0) × (surveyOf s e i ≡ refusedBy r)
 
--- the element reader takes the text: none of 1, 3, 4 is given
-abbrev pub Taken : List ℕ → ℕ → Type 0
-Taken s e = (n : ElementNumber) × (readingOf s e ≡ R.Read n)
-
--- A text is surveyed exactly when the element reader takes it and its pieces are at most 1,024, with a record to each.
+-- A text is surveyed exactly when none of 1, 3, 4 refuses it and its pieces are at most 1,024, with a record to each.
 abbrev pub Surveyed : Type 0
 Surveyed =
     (s : List ℕ) (e i : ℕ)
     → ((y : Summary) × (surveyOf s e i .outcome ≡ Done y)) ↔ (Taken s e × (length (piecesOf s) ≤ 1024) × (8 * length (piecesOf s) ≤ i))
 
--- Refusals 1, 3, 4 are given exactly when the element reader gives them.
+-- Refusals 1, 3, 4 are given exactly when 01 says, at its place.
 abbrev pub ElementsExactly : Type 0
-ElementsExactly = (s : List ℕ) (e i : ℕ) (r : Refusal) → (surveyOf s e i .outcome ≡ Refused (Elements r)) ↔ (readingOf s e ≡ R.Refused r)
+ElementsExactly = (s : List ℕ) (e i : ℕ) (r : Refusal) → (surveyOf s e i .outcome ≡ Refused (Elements r)) ↔ Given s e r
 
--- Refusal 9 is given exactly when the element reader takes the text and its pieces are more than 1,024.
+-- Refusal 9 is given exactly when none of 1, 3, 4 refuses the text and its pieces are more than 1,024.
 abbrev pub TooManyExactly : Type 0
 TooManyExactly = (s : List ℕ) (e i : ℕ) → (surveyOf s e i .outcome ≡ Refused TooMany) ↔ (Taken s e × (1024 < length (piecesOf s)))
 
--- Refusal 10 is given exactly when the element reader takes the text, its pieces are at most 1,024 and the item table has fewer records than
+-- Refusal 10 is given exactly when none of 1, 3, 4 refuses the text, its pieces are at most 1,024 and the item table has fewer records than
 -- that; its place is the records that it has.
 abbrev pub ItemsShortExactly : Type 0
 ItemsShortExactly =

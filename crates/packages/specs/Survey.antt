@@ -1,14 +1,13 @@
 -- What the survey of a text answers, given how many words the two lent tables have, and what they hold then (01, "Pieces, items, states" and
 -- "Refusals and their order", of which 1, 3, 4, 9 and 10 concern it). Assumes nothing.
-use Prim.Native.Nat.{ℕ, _-_, _*_, _/_}
-use mathlib.Core.Bool.{cond}
-use lib.Dec.{ltb}
+use Prim.Native.Nat.{ℕ, _-_, _*_}
 use mathlib.Core.List.{List, _++_}
 use lib.ListN.{length, replicate}
 use Rattle.reading.specs.Reading.{readingOf}
 use Rattle.reading.specs.Reading as elements
 use Rattle.reading.specs.declared.Reading.{Reading}
 use Rattle.reading.specs.declared.Reading.the-variants as R
+use Rattle.pieces.specs.Records.{marking}
 use Rattle.pieces.specs.declared.Marking.{Marking}
 use Rattle.pieces.specs.declared.Marking.the-variants as M
 use Rattle.names.specs.Names.{sharedPair}
@@ -24,10 +23,6 @@ use Rattle.refusals.specs.declared.SurveyRefusal.the-variants.{Elements, TooMan
 unfoldable pub itemTable : List ℕ → ℕ → List ℕ
 itemTable text words = recordsOf text ++ replicate (words - 8 * length (piecesOf text)) 0
 
--- n pieces: 9, "more than 1,024 pieces"; 10, "item table short", "rows it has"
-unfoldable pub marking : ℕ → ℕ → Marking
-marking n words = cond (ltb 1024 n) M.TooMany (cond (ltb (words / 8) n) (M.TableShort (words / 8)) (M.Marked n))
-
 -- the survey of a text that is not refused: what its records say together, and the first pair
 unfoldable pub summary : List ℕ → List ℕ → List ℕ → ℕ → Survey
 summary text table items n = summedOf text table items n (sharedPair text table items n)
@@ -37,7 +32,7 @@ byMarking (M.Marked n) text table items = summary text table items n
 byMarking M.TooMany text table items = refusedBy TooMany
 byMarking (M.TableShort rows) text table items = refusedBy (ItemsShort rows)
 
--- 1, 3, 4, then 9, 10, then the survey
+-- 1, 3, 4, then 9 and 10, then the survey
 abbrev pub byReading : Reading → List ℕ → List ℕ → ℕ → Survey
 byReading (R.Refused r) text table words = refusedBy (Elements r)
 byReading (R.Read n) text table words = byMarking (marking (length (piecesOf text)) words) text table (itemTable text words)

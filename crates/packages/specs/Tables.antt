@@ -3,7 +3,7 @@ use Prim.Native.Nat.{ℕ}
 use mathlib.Core.Bool.{Bool, cond}
 use mathlib.Core.List.{List}
 use lib.ListN.{length, replicate}
-use Rattle.pieces.specs.Records.{piecesIn, markingOf, recordTable}
+use Rattle.pieces.specs.Records.{piecesIn, marking, recordTable}
 use Rattle.pieces.specs.declared.Marking.{Marking}
 use Rattle.pieces.specs.declared.Marking.the-variants as M
 use Rattle.records.specs.Tallies.{tallyOf}
@@ -51,7 +51,7 @@ byMarking (M.TableShort rows) text table count items = refusedBy (ItemsShort row
 
 -- 9, 10, or the survey of the pieces
 unfoldable pub piecesSurvey : List ℕ → List ℕ → ℕ → ℕ → Survey
-piecesSurvey text table count words = byMarking (markingOf (piecesIn table count) words) text table count (recordTable (piecesIn table count) words)
+piecesSurvey text table count words = byMarking (marking (length (piecesIn table count)) words) text table count (recordTable (piecesIn table count) words)
 
 abbrev pub itemsByMarking : Marking → List ℕ → List ℕ → ℕ → List ℕ → List ℕ
 itemsByMarking (M.Marked n) text table count items = itemsCompleted text table count items n
@@ -59,7 +59,7 @@ itemsByMarking M.TooMany text table count items = items
 itemsByMarking (M.TableShort rows) text table count items = items
 
 unfoldable pub piecesItems : List ℕ → List ℕ → ℕ → ℕ → List ℕ
-piecesItems text table count words = itemsByMarking (markingOf (piecesIn table count) words) text table count (recordTable (piecesIn table count) words)
+piecesItems text table count words = itemsByMarking (marking (length (piecesIn table count)) words) text table count (recordTable (piecesIn table count) words)
 
 -- "On refusal every lent table is all zeros."
 abbrev pub keptBy : Outcome → List ℕ → List ℕ

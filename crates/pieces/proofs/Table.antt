@@ -12,7 +12,7 @@ use lib.Seq.{sets, length-sets, sets-eq}
 use Rattle.classes.proofs.Laws.{by-test}
 use Rattle.pieces.specs.Cutting.{pieceSize, cut}
 use Rattle.pieces.specs.Kinds.{kindsOf, pieceAt, closesPiece, opensPiece, piecesOf, isHeading, isClosing, hasName, isName, claimMark, markOf}
-use Rattle.pieces.specs.Records.{nameOf, recordOf, recordsFrom, piecesIn, markingOf, recordTable}
+use Rattle.pieces.specs.Records.{nameOf, recordOf, recordsFrom, piecesIn, marking, recordTable}
 use Rattle.pieces.specs.declared.Mark.{Mark}
 use Rattle.pieces.specs.declared.Marking.the-variants.{Marked, TooMany, TableShort}
 use Rattle.pieces.proofs.Laws.{past, size-inside, first-piece}
@@ -119,16 +119,16 @@ module _ (table : List ℕ) (count n words c : ℕ) (e : n ≡ min count (length
   unfolding piecesIn
   whole = rw (← e)
 
-  pub too-many : 1024 < c → TooMany ≡ markingOf (piecesIn table count) words
-  unfolding markingOf
+  pub too-many : 1024 < c → TooMany ≡ marking (length (piecesIn table count)) words
+  unfolding marking
   too-many h = rw (whole, ← p, lt-ltb 1024 c h)
 
-  pub too-short : c ≤ 1024 → words / 8 < c → TableShort (words / 8) ≡ markingOf (piecesIn table count) words
-  unfolding markingOf
+  pub too-short : c ≤ 1024 → words / 8 < c → TableShort (words / 8) ≡ marking (length (piecesIn table count)) words
+  unfolding marking
   too-short h k = rw (whole, ← p, le-ltb 1024 c h, lt-ltb (words / 8) c k)
 
-  pub marked : c ≤ 1024 → c ≤ words / 8 → Marked c ≡ markingOf (piecesIn table count) words
-  unfolding markingOf
+  pub marked : c ≤ 1024 → c ≤ words / 8 → Marked c ≡ marking (length (piecesIn table count)) words
+  unfolding marking
   marked h k = rw (whole, ← p, le-ltb 1024 c h, le-ltb (words / 8) c k)
 
   pub table-many : (u : List ℕ) → 1024 < c → u ≡ replicate words 0 → u ≡ recordTable (piecesIn table count) words

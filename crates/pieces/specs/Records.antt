@@ -27,9 +27,9 @@ recordsFrom at (p ∷ ps) = recordOf at (length p) (markOf p) ++ recordsFrom (at
 unfoldable pub piecesIn : List ℕ → ℕ → List (List ℕ)
 piecesIn table count = piecesOf (kindsOf (min count (length table / 3)) table)
 
--- 9: "more than 1,024 pieces"; 10: "item table short", "rows it has"
-unfoldable pub markingOf : List (List ℕ) → ℕ → Marking
-markingOf ps words = cond (ltb 1024 (length ps)) TooMany (cond (ltb (words / 8) (length ps)) (TableShort (words / 8)) (Marked (length ps)))
+-- n pieces: 9, "more than 1,024 pieces"; 10, "item table short", "rows it has"
+unfoldable pub marking : ℕ → ℕ → Marking
+marking n words = cond (ltb 1024 n) TooMany (cond (ltb (words / 8) n) (TableShort (words / 8)) (Marked n))
 
 -- "On refusal every lent table is all zeros. On success unused rows are zeros."
 abbrev pub holds : ℕ → List ℕ → Marking → List ℕ
@@ -38,4 +38,4 @@ holds words rs TooMany = replicate words 0
 holds words rs (TableShort n) = replicate words 0
 
 unfoldable pub recordTable : List (List ℕ) → ℕ → List ℕ
-recordTable ps words = holds words (recordsFrom 0 ps) (markingOf ps words)
+recordTable ps words = holds words (recordsFrom 0 ps) (marking (length ps) words)

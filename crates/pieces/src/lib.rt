@@ -6,7 +6,7 @@ ghost use lib.ListN.{length, getD, drop, take};
 ghost use lib.Seq.{sets};
 ghost use Rattle.pieces.specs.Cutting.{pieceSize};
 ghost use Rattle.pieces.specs.Kinds.{kindsOf, pieceAt, isName, closesPiece, opensPiece, piecesOf, isHeading, behindWord, endsAt, claimMark, markOf};
-ghost use Rattle.pieces.specs.Records.{nameOf, recordOf, recordsFrom, piecesIn, markingOf, recordTable};
+ghost use Rattle.pieces.specs.Records.{nameOf, recordOf, recordsFrom, piecesIn, marking, recordTable};
 
 // How many pieces were marked; or refusal 9; or refusal 10 with the rows that the table has.
 pub enum Marking {
@@ -214,7 +214,7 @@ fn write_records(elements: &[u64], n: usize, items: &mut [u64])
 
 // Cuts the elements into pieces and marks each; the item table holds the records, and zeros behind them or on a refusal.
 pub fn mark_pieces(elements: &[u64], count: usize, items: &mut [u64]) -> Marking
-    ensures { λ r. ⌜ r ≡ markingOf (piecesIn (now (elements .entry)) count) (length (now (items .entry))) ⌝ }
+    ensures { λ r. ⌜ r ≡ marking (length (piecesIn (now (elements .entry)) count)) (length (now (items .entry))) ⌝ }
     ensures { λ _. ⌜ now (items .exit) ≡ recordTable (piecesIn (now (elements .entry)) count) (length (now (items .entry))) ⌝ }
 {
     let rows = items.len() / 8;

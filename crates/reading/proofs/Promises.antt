@@ -1,5 +1,5 @@
 -- The promises of the element reader, proved. Assumes nothing.
-use mathlib.Core.Path.{_≡_, refl, sym, ap, _∙_}
+use mathlib.Core.Path.{_≡_, refl, sym, ap, _∙_, subst}
 use mathlib.Core.Bool.{Bool, true, false}
 use mathlib.Core.Logic.{⊎-elim}
 use mathlib.Core.List.{List, [], _∷_, _++_, append-nil, append-assoc}
@@ -23,12 +23,20 @@ use Rattle.elements.proofs.Sizes.{element-good}
 use Rattle.elements.proofs.Skips.{skip-is}
 use Rattle.reading.specs.Rows.{Row, onto, linesOf, lineRows, linesRows, rowsOf}
 use Rattle.reading.specs.Lines.{inLine}
-use Rattle.reading.specs.Promises.{NoChoice, Inside, Ended, Laid, nothing, line-end, separator, comment, element, NothingLost, InOrder, StandInOrder, moved, LinesApart, LineAlone}
+use Rattle.reading.specs.Promises.{NoChoice, ReadExactly, RefusedExactly, Inside, Ended, Laid, nothing, line-end, separator, comment, element, NothingLost, InOrder, StandInOrder, moved, LinesApart, LineAlone}
+use Rattle.reading.specs.declared.Reading.the-variants.{Read}
+use Rattle.reading.proofs.Answers.{ReadingSays, reading-says, taken-read, refused-reading}
 use Rattle.reading.proofs.LineLaws.{front-skip, front-element}
 use Rattle.reading.proofs.TextLaws.{count-ended, count-byte, lines-ended, lines-byte, lines-none, text-first}
 
 pub no-choice : NoChoice
 no-choice s words r r′ t t′ p q p′ q′ = (cc, cc)
+
+pub read-exactly : ReadExactly
+read-exactly s words n = ((λ e. subst (ReadingSays s words) e (reading-says s words)), λ x. taken-read s words (x .1) ∙ ap (λ (k : ℕ). Read (record { 0 = k })) (sym (x .0)))
+
+pub refused-exactly : RefusedExactly
+refused-exactly s words r = ((λ e. subst (ReadingSays s words) e (reading-says s words)), refused-reading s words r)
 
 -- a part of what holds no line end holds none
 inside-take : (n : ℕ) (l : List ℕ) → Inside l → Inside (take n l)

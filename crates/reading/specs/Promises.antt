@@ -1,6 +1,7 @@
 -- What the element reader promises beside its contract, as statements: proofs/Promises.antt proves each. Assumes nothing: these are
 -- definitions.
 use Prim.Native.Nat.{ℕ, suc, _+_, _≤_}
+use mathlib.Core.Logic.{_↔_}
 use mathlib.Core.Path.{_≡_}
 use mathlib.Core.Bool.{true, false}
 use mathlib.Core.List.{List, [], _∷_, _++_}
@@ -8,14 +9,26 @@ use lib.ListN.{length, getD}
 use Rattle.classes.specs.Bytes.{endsLine, separates}
 use Rattle.elements.specs.declared.Kind.{Kind}
 use Rattle.reading.specs.Rows.{Row, lineRows, linesOf, rowsOf}
+use Rattle.places.specs.declared.ElementNumber.{ElementNumber}
+use Rattle.refusals.specs.declared.Refusal.{Refusal}
 use Rattle.reading.specs.Reading.{readingOf, tableOf}
+use Rattle.reading.specs.Given.{count, Taken, Given}
 use Rattle.reading.specs.declared.Reading.{Reading}
+use Rattle.reading.specs.declared.Reading.the-variants.{Read, Refused}
 
 -- Any two permitted answers coincide: what `read_elements` ensures leaves no choice.
 abbrev pub NoChoice : Type 0
 NoChoice =
     (s : List ℕ) (words : ℕ) (r r′ : Reading) (t t′ : List ℕ)
     → r ≡ readingOf s words → t ≡ tableOf s words → r′ ≡ readingOf s words → t′ ≡ tableOf s words → (r ≡ r′) × (t ≡ t′)
+
+-- A text's elements are read exactly when none of 1, 3, 4 refuses it, and then all of them are.
+abbrev pub ReadExactly : Type 0
+ReadExactly = (s : List ℕ) (words : ℕ) (n : ElementNumber) → (readingOf s words ≡ Read n) ↔ ((n .0 ≡ count s) × Taken s words)
+
+-- Refusals 1, 3 and 4 are given exactly when 01 says, at its place.
+abbrev pub RefusedExactly : Type 0
+RefusedExactly = (s : List ℕ) (words : ℕ) (r : Refusal) → (readingOf s words ≡ Refused r) ↔ Given s words r
 
 -- no byte of these ends a line
 abbrev pub Inside : List ℕ → Type 0

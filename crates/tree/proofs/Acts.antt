@@ -12,7 +12,8 @@ use Rattle.forms.specs.Tree.{State, Refusal, name-differs, fresh, top, onTop, j
 use Rattle.forms.proofs.Nesting.{top-size, joined-less, joined-few}
 use Rattle.tree.specs.declared.Did.{Did}
 use Rattle.tree.specs.declared.Did.the-variants.{Went, Differs, Deep}
-use Rattle.tree.specs.Held.{rowAt, Frames, Held, Done, usedAfter, pickUsed}
+use Rattle.forms.specs.Words.{rowAt}
+use Rattle.tree.specs.Held.{Frames, Held, Done, usedAfter, pickUsed}
 use Rattle.tree.proofs.Lists.{four-pushed}
 use Rattle.tree.proofs.Holding as holding
 

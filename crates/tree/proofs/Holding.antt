@@ -11,7 +11,8 @@ use native.Mathlib.Numerals.{add-one}
 use lib.ListN.{length, getD, drop, set, length-set, length-append}
 use lib.Seq.{getD-set-same, getD-set-other}
 use Rattle.forms.specs.Tree.{Row, Frame, fresh, top, onTop, joined, marked, named, rowed}
-use Rattle.tree.specs.Held.{rowAt, Linked, none, more, Spans, empty, join, Frames, outermost, inside}
+use Rattle.forms.specs.Words.{rowAt}
+use Rattle.tree.specs.Held.{Linked, none, more, Spans, empty, join, Frames, outermost, inside}
 
 -- the lists of the bases are what they are
 linked-one : {cells next : List ℕ} {h : ℕ} {l m : List Row} → Linked cells next h l → Linked cells next h m → l ≡ m

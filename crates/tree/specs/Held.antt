@@ -10,22 +10,12 @@ use mathlib.Core.List.{List, [], _∷_, _++_}
 use lib.Dec.{leb}
 use lib.ListN.{length, getD, drop}
 use Rattle.ll.specs.Actions.{Step, go, stop, End, read, bad, stopped, spent}
+use Rattle.forms.specs.Words.{rowAt}
 use Rattle.forms.specs.Tree.{Row, Frame, State, Refusal, name-differs, too-deep, rowsOf}
 use Rattle.tree.specs.declared.Did.{Did}
 use Rattle.tree.specs.declared.Did.the-variants.{Went, Differs, Deep}
 use Rattle.tree.specs.declared.Found.{Found}
 use Rattle.tree.specs.declared.Found.the-variants.{Whole, Wrong, Other, Over}
-
--- row r of the cells, five numbers to a row
-abbrev pub rowAt : List ℕ → ℕ → Row
-rowAt cells r =
-    record {
-      form = getD cells (5 * r) 0;
-      first = getD cells (5 * r + 1) 0;
-      count = getD cells (5 * r + 2) 0;
-      rows = getD cells (5 * r + 3) 0;
-      operator = getD cells (5 * r + 4) 0;
-    }
 
 -- the list of rows that begins at h
 pub data Linked (cells next : List ℕ) : ℕ → List Row → Type 0 where
