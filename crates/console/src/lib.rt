@@ -102,7 +102,7 @@ fn element_lines(t: &[u64], count: usize) {
 
 // The listing of a text's elements, or the refusal, with so many rows of a table lent.
 pub fn elements(text: &[u8], table: &mut [u64], rows: usize) {
-    let size = lent::least(lent::least(rows, 8192) * 3, table.len());
+    let size = lent::least(lent::least(rows, places::MOST_ELEMENTS) * 3, table.len());
     match reading::read_elements(text, &mut table[..size]) {
         Reading::Read(e) => {
             let count = e.0;
@@ -161,8 +161,11 @@ fn tree_head(count: usize, v: Verdict) {
 
 // The listing of a text's tree, or the refusal, with so many rows of each table lent.
 pub fn tree(text: &[u8], table: &mut [u64], rows: usize, trees: &mut [u64], tree_rows: usize) {
-    let size = lent::least(lent::least(rows, 8192) * 3, table.len());
-    let room = lent::least(lent::least(tree_rows, 8192) * 5, trees.len());
+    let size = lent::least(lent::least(rows, places::MOST_ELEMENTS) * 3, table.len());
+    let room = lent::least(
+        lent::least(tree_rows, places::MOST_ELEMENTS) * 5,
+        trees.len(),
+    );
     match files::read_strict(text, &mut table[..size], &mut trees[..room]) {
         Strict::Read(count, v) => {
             tree_head(count, v);

@@ -27,7 +27,7 @@ use Rattle.folds.specs.Expressions.{behind, rowOutcome, outcomeOf}
 use Rattle.forms.specs.Words.{rowAt}
 use Rattle.folds.specs.Rows.{rowsIn}
 use Rattle.folds.specs.Stored.{sortBy, foldedKind, foldedBy, unpacked, storedAt}
-use Rattle.folds.specs.Folds.{elementIn, nameValue, nameIn, literalAt, kindIn, expressionIn, foldedRow, rightOf, foldOf, mostRows}
+use Rattle.folds.specs.Folds.{elementIn, nameValue, nameIn, literalAt, kindIn, expressionIn, foldedRow, rightOf, foldOf}
 use Rattle.folds.proofs.Expressions.{outcome-row, outcome-none}
 use Rattle.folds.proofs.Rows.{rows-length, rows-from}
 

@@ -4,6 +4,7 @@ use mathlib.Core.Bool.{cond}
 use mathlib.Core.List.{List}
 use lib.Dec.{ltb, leb}
 use lib.ListN.{length, getD}
+use Rattle.places.specs.Sizes.{mostElements}
 use Rattle.places.specs.Places.{cellAt}
 use Rattle.records.specs.Records.{wordAt}
 use Rattle.forms.specs.Tree.{Row}
@@ -43,10 +44,6 @@ expressionIn text table items links i rs = outcomeOf (nameIn text table items li
 unfoldable pub rightOf : List ℕ → ℕ → ℕ → ℕ
 rightOf rows n k = min n (k + 1 + getD rows (5 * (k + 1) + 3) 0)
 
--- no expression has more rows than a text has elements
-abbrev pub mostRows : ℕ
-mostRows = 8192
-
--- the expression that the rows of a table are
+-- the expression that the rows of a table are; none has more rows than a text has elements
 unfoldable pub foldOf : List ℕ → List ℕ → List ℕ → List ℕ → ℕ → List ℕ → Outcome
-foldOf text table items links i rows = expressionIn text table items links i (rowsIn (min (length rows / 5) mostRows) rows)
+foldOf text table items links i rows = expressionIn text table items links i (rowsIn (min (length rows / 5) mostElements) rows)

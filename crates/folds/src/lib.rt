@@ -260,11 +260,11 @@ pub fn fold(
 ) -> Outcome
     ensures { λ r. ⌜ r ≡ foldOf (now (text .entry)) (now (elements .entry)) (now (items .entry)) (now (links .entry)) i (now (rows .entry)) ⌝ }
 {
-    let n = lent::least(rows.len() / 5, 8192);
+    let n = lent::least(rows.len() / 5, places::MOST_ELEMENTS);
     if n <= 32 {
         let mut few = [0u64; 96];
         return fold_rows(text, elements, items, links, i, rows, n, &mut few);
     }
-    let mut many = [0u64; 24576];
+    let mut many = [0u64; 3 * places::MOST_ELEMENTS];
     fold_rows(text, elements, items, links, i, rows, n, &mut many)
 }

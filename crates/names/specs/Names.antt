@@ -5,6 +5,7 @@ use mathlib.Core.Bool.{Bool, false, cond, not, _&&_, _||_}
 use mathlib.Core.List.{List, [], _∷_}
 use lib.Dec.{eqb, ltb}
 use lib.ListN.{length}
+use Rattle.places.specs.Sizes.{mostPieces}
 use Rattle.alike.specs.Alike.{sameName}
 use Rattle.records.specs.Records.{wordAt, isClaim}
 use Rattle.records.specs.Tallies.{oneIf}
@@ -13,7 +14,7 @@ use Rattle.pairs.specs.declared.Pair.{Pair}
 
 -- how many records there are, "a survey at most 1,024 pieces"
 unfoldable pub recordsIn : List ℕ → ℕ
-recordsIn items = min (length items / 8) 1024
+recordsIn items = min (length items / 8) mostPieces
 
 -- the first of m numbers from j on that passes, and one more; 0 where none does
 unfoldable pub firstFrom : (ℕ → Bool) → ℕ → ℕ → ℕ

@@ -1,13 +1,18 @@
 // Names resolved: each name used, to the first record that claims it. Names are hashed and chained once, so that a search compares few.
 // Every public function takes any text and tables.
+use places::MOST_PIECES;
 ghost use mathlib.Core.Path.{_≡_};
 ghost use mathlib.Core.Bool.{true, cond};
 ghost use Prim.Native.Nat.{ℕ, _+_, _≤_, _<_};
 ghost use lib.ListN.{length, getD, replicate};
+ghost use Rattle.places.specs.Sizes.{mostPieces};
 ghost use Rattle.alike.specs.Spelling.{spelledAs};
 ghost use Rattle.names.specs.Names.{recordsIn, linkOf, ownOf, below, filled, linksTable, ownsTable, twinsTable, anyTwin};
 ghost use Rattle.names.specs.Language.{sevenOf, languageOf};
 ghost use Rattle.names.specs.Chains.{mixedWith, hashFrom, bucketOf, inBucket, Chained, First, Marking};
+
+// How many chains the names are hashed into.
+const BUCKETS: usize = 1024;
 
 fn mixed(h: u64, b: u8) -> u64
     requires { ⌜ h < 4294967296 ⌝ }
@@ -49,10 +54,10 @@ fn chain_names(
     elements: &[u64],
     items: &[u64],
     n: usize,
-    heads: &mut [u64; 1024],
-    next: &mut [u64; 1024],
+    heads: &mut [u64; BUCKETS],
+    next: &mut [u64; MOST_PIECES],
 )
-    requires { ⌜ (n ≤ 1024) × (now heads ≡ replicate 1024 0) × (now next ≡ replicate 1024 0) ⌝ }
+    requires { ⌜ (n ≤ mostPieces) × (now heads ≡ replicate 1024 0) × (now next ≡ replicate mostPieces 0) ⌝ }
     ensures { λ _. ⌜ Chained (inBucket (now (text .entry)) (now (elements .entry)) (now (items .entry))) n 0 (now (heads .exit)) (now (next .exit)) ⌝ }
 {
     let mut i = n;
@@ -71,8 +76,8 @@ fn find(
     text: &[u8],
     elements: &[u64],
     items: &[u64],
-    heads: &[u64; 1024],
-    next: &[u64; 1024],
+    heads: &[u64; BUCKETS],
+    next: &[u64; MOST_PIECES],
     e: usize,
 ) -> u64
     requires { ⌜ Chained (inBucket (now text) (now elements) (now items)) (recordsIn (now items)) 0 (now heads) (now next) ⌝ }
@@ -95,8 +100,8 @@ fn link_at(
     elements: &[u64],
     items: &[u64],
     rows: usize,
-    heads: &[u64; 1024],
-    next: &[u64; 1024],
+    heads: &[u64; BUCKETS],
+    next: &[u64; MOST_PIECES],
     e: usize,
 ) -> u64
     requires { ⌜ Chained (inBucket (now text) (now elements) (now items)) (recordsIn (now items)) 0 (now heads) (now next) ⌝ }
@@ -116,8 +121,8 @@ fn write_links(
     elements: &[u64],
     items: &[u64],
     rows: usize,
-    heads: &[u64; 1024],
-    next: &[u64; 1024],
+    heads: &[u64; BUCKETS],
+    next: &[u64; MOST_PIECES],
     links: &mut [u64],
 )
     requires { ⌜ Chained (inBucket (now text) (now elements) (now items)) (recordsIn (now items)) 0 (now heads) (now next) ⌝ }
@@ -136,8 +141,8 @@ fn own_link(
     elements: &[u64],
     items: &[u64],
     rows: usize,
-    heads: &[u64; 1024],
-    next: &[u64; 1024],
+    heads: &[u64; BUCKETS],
+    next: &[u64; MOST_PIECES],
     links: &[u64],
     i: usize,
 ) -> u64
@@ -160,12 +165,12 @@ fn own_links(
     items: &[u64],
     n: usize,
     rows: usize,
-    heads: &[u64; 1024],
-    next: &[u64; 1024],
+    heads: &[u64; BUCKETS],
+    next: &[u64; MOST_PIECES],
     links: &[u64],
-    own: &mut [u64; 1024],
+    own: &mut [u64; MOST_PIECES],
 )
-    requires { ⌜ (n ≤ 1024) × Chained (inBucket (now text) (now elements) (now items)) (recordsIn (now items)) 0 (now heads) (now next) × (now own ≡ replicate 1024 0) × (now links ≡ filled (linkOf (now text) (now elements) (now items)) rows (length (now links))) ⌝ }
+    requires { ⌜ (n ≤ mostPieces) × Chained (inBucket (now text) (now elements) (now items)) (recordsIn (now items)) 0 (now heads) (now next) × (now own ≡ replicate mostPieces 0) × (now links ≡ filled (linkOf (now text) (now elements) (now items)) rows (length (now links))) ⌝ }
     ensures { λ _. ⌜ ((i : ℕ) → i < n → getD (now (own .exit)) i 0 ≡ ownOf (now (text .entry)) (now (elements .entry)) (now (items .entry)) i) ⌝ }
 {
     let mut i: usize = 0;
@@ -176,8 +181,8 @@ fn own_links(
 }
 
 // A record that is not the first to claim its name, and that first: each has a twin.
-fn mark_twins(own: &[u64; 1024], n: usize, marks: &mut [u64; 1024]) -> bool
-    requires { ⌜ (n ≤ 1024) × First (now own) n × (now marks ≡ replicate 1024 0) ⌝ }
+fn mark_twins(own: &[u64; MOST_PIECES], n: usize, marks: &mut [u64; MOST_PIECES]) -> bool
+    requires { ⌜ (n ≤ mostPieces) × First (now own) n × (now marks ≡ replicate mostPieces 0) ⌝ }
     ensures { λ r. ⌜ Marking (now (own .entry)) n n (now (marks .exit)) r ⌝ }
 {
     let mut any = false;
@@ -194,16 +199,16 @@ fn mark_twins(own: &[u64; 1024], n: usize, marks: &mut [u64; 1024]) -> bool
     any
 }
 
-fn word_at(from: &[u64; 1024], n: usize, i: usize) -> u64
-    requires { ⌜ n ≤ 1024 ⌝ }
+fn word_at(from: &[u64; MOST_PIECES], n: usize, i: usize) -> u64
+    requires { ⌜ n ≤ mostPieces ⌝ }
     ensures { λ r. ⌜ r ≡ below (λ (k : ℕ). getD (now (from .entry)) k 0) n i ⌝ }
 {
     if i < n { from[i] } else { 0 }
 }
 
 // The first n words, then zeros.
-fn write_words(from: &[u64; 1024], n: usize, to: &mut [u64])
-    requires { ⌜ n ≤ 1024 ⌝ }
+fn write_words(from: &[u64; MOST_PIECES], n: usize, to: &mut [u64])
+    requires { ⌜ n ≤ mostPieces ⌝ }
     ensures { λ _. ⌜ now (to .exit) ≡ filled (λ (k : ℕ). getD (now (from .entry)) k 0) n (length (now (to .entry))) ⌝ }
 {
     let mut i: usize = 0;
@@ -229,13 +234,13 @@ pub fn link_names(
     ensures { λ _. ⌜ now (owns .exit) ≡ ownsTable (now (text .entry)) (now (elements .entry)) (now (items .entry)) (length (now (owns .entry))) ⌝ }
     ensures { λ _. ⌜ now (twins .exit) ≡ twinsTable (now (text .entry)) (now (elements .entry)) (now (items .entry)) (length (now (twins .entry))) ⌝ }
 {
-    let n = lent::least(items.len() / 8, 1024);
-    let mut heads = [0u64; 1024];
-    let mut next = [0u64; 1024];
+    let n = lent::least(items.len() / 8, MOST_PIECES);
+    let mut heads = [0u64; BUCKETS];
+    let mut next = [0u64; MOST_PIECES];
     chain_names(text, elements, items, n, &mut heads, &mut next);
     let rows = lent::least(count, elements.len() / 3);
     write_links(text, elements, items, rows, &heads, &next, links);
-    let mut own = [0u64; 1024];
+    let mut own = [0u64; MOST_PIECES];
     own_links(
         text,
         elements,
@@ -247,7 +252,7 @@ pub fn link_names(
         links,
         &mut own,
     );
-    let mut marks = [0u64; 1024];
+    let mut marks = [0u64; MOST_PIECES];
     let any = mark_twins(&own, n, &mut marks);
     write_words(&own, n, owns);
     write_words(&marks, n, twins);

@@ -57,7 +57,7 @@ impl Options {
         Options {
             good: true,
             other: false,
-            element_rows: 8192,
+            element_rows: places::MOST_ELEMENTS,
             other_rows: most,
             file: 0,
             next: 1,
@@ -105,7 +105,12 @@ impl Options {
             Asked::ElementRows => {
                 let m = os::arg(i + 1, word);
                 self.next = i + 2;
-                self.with_element_rows(rows_of(program, b"--element-rows", &word[..m], 8192))
+                self.with_element_rows(rows_of(
+                    program,
+                    b"--element-rows",
+                    &word[..m],
+                    places::MOST_ELEMENTS as u32,
+                ))
             },
             Asked::OtherRows => {
                 let m = os::arg(i + 1, word);

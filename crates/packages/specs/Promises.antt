@@ -5,6 +5,7 @@ use mathlib.Core.Logic.{_↔_}
 use mathlib.Core.Bool.{Bool, true}
 use mathlib.Core.List.{List}
 use lib.ListN.{length, getD, replicate}
+use Rattle.places.specs.Sizes.{mostPieces}
 use Rattle.records.specs.Tallies.{inState}
 use Rattle.records.specs.Frames.{frameGood}
 use Rattle.names.specs.Names.{sharedPair}
@@ -37,7 +38,7 @@ ZerosOnRefusal =
 abbrev pub Surveyed : Type 0
 Surveyed =
     (s : List ℕ) (e i : ℕ)
-    → ((y : Summary) × (surveyOf s e i .outcome ≡ Done y)) ↔ (Taken s e × (length (piecesOf s) ≤ 1024) × (8 * length (piecesOf s) ≤ i))
+    → ((y : Summary) × (surveyOf s e i .outcome ≡ Done y)) ↔ (Taken s e × (length (piecesOf s) ≤ mostPieces) × (8 * length (piecesOf s) ≤ i))
 
 -- Refusals 1, 3, 4 are given exactly when 01 says, at its place.
 abbrev pub ElementsExactly : Type 0
@@ -45,14 +46,14 @@ ElementsExactly = (s : List ℕ) (e i : ℕ) (r : Refusal) → (surveyOf s e i .
 
 -- Refusal 9 is given exactly when none of 1, 3, 4 refuses the text and its pieces are more than 1,024.
 abbrev pub TooManyExactly : Type 0
-TooManyExactly = (s : List ℕ) (e i : ℕ) → (surveyOf s e i .outcome ≡ Refused TooMany) ↔ (Taken s e × (1024 < length (piecesOf s)))
+TooManyExactly = (s : List ℕ) (e i : ℕ) → (surveyOf s e i .outcome ≡ Refused TooMany) ↔ (Taken s e × (mostPieces < length (piecesOf s)))
 
 -- Refusal 10 is given exactly when none of 1, 3, 4 refuses the text, its pieces are at most 1,024 and the item table has fewer records than
 -- that; its place is the records that it has.
 abbrev pub ItemsShortExactly : Type 0
 ItemsShortExactly =
     (s : List ℕ) (e i k : ℕ)
-    → (surveyOf s e i .outcome ≡ Refused (ItemsShort k)) ↔ (Taken s e × (length (piecesOf s) ≤ 1024) × (i / 8 < length (piecesOf s)) × (k ≡ i / 8))
+    → (surveyOf s e i .outcome ≡ Refused (ItemsShort k)) ↔ (Taken s e × (length (piecesOf s) ≤ mostPieces) × (i / 8 < length (piecesOf s)) × (k ≡ i / 8))
 
 -- What a survey that is done says: the frame and the first pair are those of its records, and each count of the tally is the number of items
 -- in that state.

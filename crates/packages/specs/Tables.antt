@@ -1,8 +1,9 @@
 -- What the survey's steps make of any tables, in their order; specs/Survey.antt says what comes of a text. Assumes nothing.
-use Prim.Native.Nat.{ℕ}
+use Prim.Native.Nat.{ℕ, _*_}
 use mathlib.Core.Bool.{Bool, cond}
 use mathlib.Core.List.{List}
 use lib.ListN.{length, replicate}
+use Rattle.places.specs.Sizes.{mostElements, mostPieces}
 use Rattle.pieces.specs.Records.{piecesIn, marking, recordTable}
 use Rattle.pieces.specs.declared.Marking.{Marking}
 use Rattle.pieces.specs.declared.Marking.the-variants as M
@@ -38,11 +39,11 @@ summedOf text table items n pair =
 -- the records of n marked pieces, completed
 unfoldable pub itemsCompleted : List ℕ → List ℕ → ℕ → List ℕ → ℕ → List ℕ
 itemsCompleted text table count items n =
-    completed text table (linksTable text table count items 8192) (twinsTable text table items 1024) (itemRows table count 40960) items n
+    completed text table (linksTable text table count items mostElements) (twinsTable text table items mostPieces) (itemRows table count (5 * mostElements)) items n
 
 unfoldable pub itemsSurvey : List ℕ → List ℕ → ℕ → List ℕ → ℕ → Survey
 itemsSurvey text table count items n =
-    summedOf text table (itemsCompleted text table count items n) n (pairBy (anyTwin text table items) (ownsTable text table items 1024) n)
+    summedOf text table (itemsCompleted text table count items n) n (pairBy (anyTwin text table items) (ownsTable text table items mostPieces) n)
 
 abbrev pub byMarking : Marking → List ℕ → List ℕ → ℕ → List ℕ → Survey
 byMarking (M.Marked n) text table count items = itemsSurvey text table count items n

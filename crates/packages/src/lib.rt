@@ -1,6 +1,8 @@
 // The survey of a package: its items' records, and what they say together. Any bytes and any tables may be given.
 use pairs::Pair;
 use pieces::Marking;
+use places::MOST_ELEMENTS;
+use places::MOST_PIECES;
 use reading::Reading;
 use records::Tally;
 use refusals::SurveyRefusal;
@@ -69,11 +71,11 @@ fn survey_items(text: &[u8], elements: &[u64], count: usize, items: &mut [u64], 
     ensures { λ r. ⌜ r ≡ itemsSurvey (now (text .entry)) (now (elements .entry)) count (now (items .entry)) n ⌝ }
     ensures { λ _. ⌜ now (items .exit) ≡ itemsCompleted (now (text .entry)) (now (elements .entry)) count (now (items .entry)) n ⌝ }
 {
-    let mut rows = [0u64; 40960];
+    let mut rows = [0u64; 5 * MOST_ELEMENTS];
     tree::read_items(elements, count, &mut rows);
-    let mut links = [0u64; 8192];
-    let mut owns = [0u64; 1024];
-    let mut twins = [0u64; 1024];
+    let mut links = [0u64; MOST_ELEMENTS];
+    let mut owns = [0u64; MOST_PIECES];
+    let mut twins = [0u64; MOST_PIECES];
     let any = names::link_names(
         text,
         elements,

@@ -5,6 +5,7 @@ use mathlib.Core.Bool.{cond}
 use mathlib.Core.List.{List, [], _∷_, _++_}
 use lib.Dec.{eqb, ltb}
 use lib.ListN.{length, replicate}
+use Rattle.places.specs.Sizes.{mostPieces}
 use Rattle.pieces.specs.Kinds.{kindsOf, piecesOf, markOf}
 use Rattle.pieces.specs.declared.Mark.{Mark}
 use Rattle.pieces.specs.declared.Marking.{Marking}
@@ -29,7 +30,7 @@ piecesIn table count = piecesOf (kindsOf (min count (length table / 3)) table)
 
 -- n pieces: 9, "more than 1,024 pieces"; 10, "item table short", "rows it has"
 unfoldable pub marking : ℕ → ℕ → Marking
-marking n words = cond (ltb 1024 n) TooMany (cond (ltb (words / 8) n) (TableShort (words / 8)) (Marked n))
+marking n words = cond (ltb mostPieces n) TooMany (cond (ltb (words / 8) n) (TableShort (words / 8)) (Marked n))
 
 -- "On refusal every lent table is all zeros. On success unused rows are zeros."
 abbrev pub holds : ℕ → List ℕ → Marking → List ℕ

@@ -221,7 +221,7 @@ pub fn mark_pieces(elements: &[u64], count: usize, items: &mut [u64]) -> Marking
     lent::clear(items);
     let n = lent::least(count, elements.len() / 3);
     let pieces = count_pieces(elements, n);
-    if 1024 < pieces {
+    if places::MOST_PIECES < pieces {
         return Marking::TooMany;
     }
     if rows < pieces {

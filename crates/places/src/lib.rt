@@ -3,6 +3,13 @@ ghost use mathlib.Core.Path.{_≡_};
 ghost use Prim.Native.Nat.{_<_};
 ghost use Rattle.places.specs.Places.{cellAt, within};
 
+// 01's sizes: how many bytes and elements a text has at most, and how many pieces a survey.
+pub const MOST_BYTES: usize = 65536;
+
+pub const MOST_ELEMENTS: usize = 8192;
+
+pub const MOST_PIECES: usize = 1024;
+
 // A place in the text, counted in bytes.
 pub struct BytePlace(pub usize);
 

@@ -4,10 +4,10 @@ use Prim.Native.Nat.{ℕ, _*_, _/_, _≤_, _<_}
 use mathlib.Core.Path.{_≡_}
 use mathlib.Core.List.{List}
 use lib.ListN.{length}
+use Rattle.places.specs.Sizes.{mostBytes, mostElements}
 use Rattle.refusals.specs.declared.Refusal.{Refusal}
 use Rattle.refusals.specs.declared.Refusal.the-variants.{TextTooLong, TooManyElements, TableShort}
 use Rattle.reading.specs.Rows.{rowsOf}
-use Rattle.reading.specs.Reading.{mostBytes, mostElements}
 
 -- how many elements a text has
 abbrev pub count : List ℕ → ℕ

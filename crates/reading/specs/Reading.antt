@@ -5,6 +5,7 @@ use mathlib.Core.Bool.{cond}
 use mathlib.Core.List.{List, _++_}
 use lib.Dec.{ltb}
 use lib.ListN.{length, replicate}
+use Rattle.places.specs.Sizes.{mostBytes, mostElements}
 use Rattle.reading.specs.Rows.{rowsOf}
 use Rattle.reading.specs.Table.{cells}
 use Rattle.places.specs.declared.BytePlace.{BytePlace}
@@ -13,13 +14,6 @@ use Rattle.refusals.specs.declared.Refusal.{Refusal}
 use Rattle.refusals.specs.declared.Refusal.the-variants.{TextTooLong, TooManyElements, TableShort}
 use Rattle.reading.specs.declared.Reading.{Reading}
 use Rattle.reading.specs.declared.Reading.the-variants.{Read, Refused}
-
--- "a text has at most 65,536 bytes and 8,192 elements"
-abbrev pub mostBytes : ℕ
-mostBytes = 65536
-
-abbrev pub mostElements : ℕ
-mostElements = 8192
 
 -- 1: text too long; 3: more than 8,192 elements; 4: element table short, "rows it has". "They are tested in this order"
 unfoldable pub readingOf : List ℕ → ℕ → Reading

@@ -2,11 +2,14 @@
 use elements::Found;
 use places::BytePlace;
 use places::ElementNumber;
+use places::MOST_BYTES;
+use places::MOST_ELEMENTS;
 use refusals::Refusal;
 ghost use mathlib.Core.Path.{_≡_};
 ghost use mathlib.Core.Bool.{false};
 ghost use Prim.Native.Nat.{_+_, _≤_};
 ghost use lib.ListN.{length};
+ghost use Rattle.places.specs.Sizes.{mostBytes};
 ghost use Rattle.classes.specs.Runs.{count};
 ghost use Rattle.reading.specs.Rows.{lineRows, rowsOf};
 ghost use Rattle.reading.specs.Lines.{inLine};
@@ -33,7 +36,7 @@ fn put_row(t: &mut [u64], e: ElementNumber, kind: u64, first: BytePlace, size: u
 
 // Reads a line that begins at a byte place; n elements stand before it. Answers how many stand behind it.
 fn read_line(l: &[u8], at: usize, t: &mut [u64], before: usize) -> usize
-    requires { ⌜ (at + length (now l) ≤ 65536) × (before ≤ at) ⌝ }
+    requires { ⌜ (at + length (now l) ≤ mostBytes) × (before ≤ at) ⌝ }
     ensures { λ r. ⌜ r ≡ before + length (lineRows 0 at false (now (l .entry))) ⌝ }
     ensures { λ r. ⌜ now (t .exit) ≡ puts (now (t .entry)) before (lineRows 0 at false (now (l .entry))) ⌝ }
 {
@@ -78,7 +81,7 @@ fn line_length(s: &[u8]) -> usize
 
 // Reads line after line. Answers how many elements there are.
 fn read_lines(s: &[u8], t: &mut [u64]) -> usize
-    requires { ⌜ length (now s) ≤ 65536 ⌝ }
+    requires { ⌜ length (now s) ≤ mostBytes ⌝ }
     ensures { λ r. ⌜ r ≡ length (rowsOf (now (s .entry))) ⌝ }
     ensures { λ r. ⌜ now (t .exit) ≡ puts (now (t .entry)) 0 (rowsOf (now (s .entry))) ⌝ }
 {
@@ -97,13 +100,13 @@ pub fn read_elements(s: &[u8], t: &mut [u64]) -> Reading
     ensures { λ r. ⌜ now (t .exit) ≡ tableOf (now (s .entry)) (length (now (t .entry))) ⌝ }
 {
     lent::clear(t);
-    if 65536 < s.len() {
-        return Reading::Refused(Refusal::TextTooLong(BytePlace(65536)));
+    if MOST_BYTES < s.len() {
+        return Reading::Refused(Refusal::TextTooLong(BytePlace(MOST_BYTES)));
     }
     let n = read_lines(s, t);
-    if 8192 < n {
+    if MOST_ELEMENTS < n {
         lent::clear(t);
-        return Reading::Refused(Refusal::TooManyElements(ElementNumber(8192)));
+        return Reading::Refused(Refusal::TooManyElements(ElementNumber(MOST_ELEMENTS)));
     }
     let rows = t.len() / 3;
     if rows < n {

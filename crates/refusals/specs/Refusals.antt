@@ -1,6 +1,7 @@
 -- The refusals' numbers and places: the table of 01's "Refusals and their order". When each is given stands where the reading is defined.
 -- Assumes nothing.
 use Prim.Native.Nat.{ℕ}
+use Rattle.places.specs.Sizes.{mostPieces}
 use Rattle.refusals.specs.declared.Refusal.{Refusal}
 use Rattle.refusals.specs.declared.Refusal.the-variants.{TextTooLong, TooManyElements, TableShort}
 use Rattle.refusals.specs.declared.StrictRefusal.{StrictRefusal}
@@ -45,5 +46,5 @@ surveyNumber (survey.ItemsShort rows) = 10
 
 abbrev pub surveyPlace : SurveyRefusal → ℕ
 surveyPlace (survey.Elements r) = refusalPlace r
-surveyPlace survey.TooMany = 1024
+surveyPlace survey.TooMany = mostPieces
 surveyPlace (survey.ItemsShort rows) = rows

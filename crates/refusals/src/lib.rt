@@ -1,6 +1,7 @@
 // 01's refusals, their numbers and their places: of the element reader, of the strict reading and of the survey.
 use places::BytePlace;
 use places::ElementNumber;
+use places::MOST_PIECES;
 ghost use mathlib.Core.Path.{_≡_};
 ghost use Rattle.refusals.specs.Refusals.{refusalNumber, refusalPlace, strictNumber, strictPlace, surveyNumber, surveyPlace};
 
@@ -89,7 +90,7 @@ pub fn survey_place(r: SurveyRefusal) -> usize
 {
     match r {
         SurveyRefusal::Elements(e) => refusal_place(e),
-        SurveyRefusal::TooMany => 1024,
+        SurveyRefusal::TooMany => MOST_PIECES,
         SurveyRefusal::ItemsShort(n) => n,
     }
 }

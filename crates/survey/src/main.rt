@@ -3,10 +3,13 @@ use console::Got;
 use console::surveys;
 use console::surveys::Shown;
 use options::Options;
+use places::MOST_BYTES;
+use places::MOST_ELEMENTS;
+use places::MOST_PIECES;
 
 fn run(text: &[u8], o: Options) {
-    let mut table = [0u64; 24576];
-    let mut items = [0u64; 8192];
+    let mut table = [0u64; 3 * MOST_ELEMENTS];
+    let mut items = [0u64; 8 * MOST_PIECES];
     let shown = if o.other {
         Shown::Records
     } else {
@@ -24,11 +27,17 @@ fn run(text: &[u8], o: Options) {
 
 fn main() {
     let mut word = [0u8; 4096];
-    let o = options::read_options(b"survey", b"--records", b"--item-rows", 1024, &mut word);
+    let o = options::read_options(
+        b"survey",
+        b"--records",
+        b"--item-rows",
+        MOST_PIECES as u32,
+        &mut word,
+    );
     if !o.good {
         return;
     }
-    let mut text = [0u8; 65537];
+    let mut text = [0u8; MOST_BYTES + 1];
     let Got::Bytes(n) = options::read_input(o.file, &mut word, &mut text) else {
         return;
     };

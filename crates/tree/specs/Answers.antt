@@ -5,6 +5,7 @@ use mathlib.Core.Bool.{Bool, true, false}
 use mathlib.Core.List.{List, [], _∷_, _++_}
 use lib.Dec.{leb}
 use lib.ListN.{length, getD, drop, replicate}
+use Rattle.places.specs.Sizes.{mostElements}
 use Rattle.ll.specs.Actions.{End, read, bad, stopped, spent}
 use Rattle.alike.specs.Alike.{sameName}
 use Rattle.forms.specs.Kinds.{terminalOf}
@@ -15,7 +16,7 @@ use Rattle.tree.specs.declared.Answer.the-variants.{Tree, NoFile, NameDi
 
 -- how many elements count: no more than the table has, and no more than 8,192 (01, "What the reader covers")
 abbrev pub elementsIn : List ℕ → ℕ → ℕ
-elementsIn table count = min count (min (length table / 3) 8192)
+elementsIn table count = min count (min (length table / 3) mostElements)
 
 -- what the first n elements of a table are to the forms
 unfoldable pub terminalsOf : ℕ → List ℕ → List ℕ

@@ -9,6 +9,7 @@ use mathlib.Core.Bool.{Bool, true, false}
 use mathlib.Core.List.{List, [], _∷_, _++_}
 use lib.Dec.{leb}
 use lib.ListN.{length, getD, drop}
+use Rattle.places.specs.Sizes.{mostElements}
 use Rattle.ll.specs.Actions.{Step, go, stop, End, read, bad, stopped, spent}
 use Rattle.forms.specs.Words.{rowAt}
 use Rattle.forms.specs.Tree.{Row, Frame, State, Refusal, name-differs, too-deep, rowsOf}
@@ -67,7 +68,7 @@ Done Deep frames cells next heads used (stop name-differs) = ⊥
 -- what the scan found is how the reading ends
 abbrev pub Tells : Found → List ℕ → List ℕ → List ℕ → End State Refusal → Type 0
 Tells (Whole used) cells next heads (read s) =
-    Spans cells next heads used 0 (rowsOf s) × (length (rowsOf s) ≡ used) × (used ≤ 8192) × ((i : ℕ) → i ≤ used → getD heads i 0 ≤ used)
+    Spans cells next heads used 0 (rowsOf s) × (length (rowsOf s) ≡ used) × (used ≤ mostElements) × ((i : ℕ) → i ≤ used → getD heads i 0 ≤ used)
 Tells (Wrong i) cells next heads (bad j) = i ≡ j
 Tells (Other i) cells next heads (stopped j name-differs) = i ≡ j - 1
 Tells (Over i) cells next heads (stopped j too-deep) = i ≡ j - 1

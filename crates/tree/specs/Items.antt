@@ -5,6 +5,7 @@ use mathlib.Core.Bool.{Bool, false, cond}
 use mathlib.Core.List.{List, [], _∷_, _++_}
 use lib.Dec.{eqb}
 use lib.ListN.{length, getD, replicate}
+use Rattle.places.specs.Sizes.{mostElements}
 use Rattle.ll.specs.Actions.{End, read, bad, stopped, spent}
 use Rattle.forms.specs.Kinds.{terminalOf}
 use Rattle.forms.specs.Names.{constant, subtype}
@@ -57,7 +58,7 @@ total (p ∷ ps) = length p + total ps
 
 -- how many elements count: no more than either table has, and no more than 8,192
 abbrev pub itemsIn : List ℕ → ℕ → ℕ → ℕ
-itemsIn table count words = min count (min (length table / 3) (min (words / 5) 8192))
+itemsIn table count words = min count (min (length table / 3) (min (words / 5) mostElements))
 
 -- the row table of so many words afterwards
 unfoldable pub itemRows : List ℕ → ℕ → ℕ → List ℕ

@@ -2,11 +2,13 @@
 // they are kept in the order of completion, in a list to each base, and written out at the end, so that a text costs by its elements. The
 // tables and the arrays are made once, in `read_tree` and `read_items`, and lent: made anew at each use, or for each piece of a package,
 // they would cost more than all else.
+use places::MOST_ELEMENTS;
 ghost use mathlib.Core.Path.{_≡_};
 ghost use mathlib.Core.List.{List, [], _∷_, _++_};
 ghost use Prim.Native.Nat.{ℕ, _+_, _-_, _*_, _/_, _≤_, _<_, min};
 ghost use lib.ListN.{length, drop, getD, set, replicate};
 ghost use lib.Seq.{sets};
+ghost use Rattle.places.specs.Sizes.{mostElements};
 ghost use Rattle.ll.specs.Grammar.{look};
 ghost use Rattle.forms.specs.Rules.{body};
 ghost use Rattle.forms.specs.Picks.{predict};
@@ -246,7 +248,7 @@ fn scan(
     sizes: &[u8],
     bodies: &[u8],
 ) -> Found
-    requires { ⌜ (3 * count ≤ length (now elements)) × (count ≤ 8192) × Starts from × (length (now stk) ≡ 2176) × (length (now frames) ≡ 8708) × (length (now cells) ≡ 51840) × (length (now next) ≡ 10368) × (length (now heads) ≡ 10368) × (now kinds ≡ kindBytes) × (now picks ≡ pickBytes) × (now sizes ≡ sizeBytes) × (now bodies ≡ bodyBytes) ⌝ }
+    requires { ⌜ (3 * count ≤ length (now elements)) × (count ≤ mostElements) × Starts from × (length (now stk) ≡ 2176) × (length (now frames) ≡ 8708) × (length (now cells) ≡ 51840) × (length (now next) ≡ 10368) × (length (now heads) ≡ 10368) × (now kinds ≡ kindBytes) × (now picks ≡ pickBytes) × (now sizes ≡ sizeBytes) × (now bodies ≡ bodyBytes) ⌝ }
     ensures { λ r. ⌜ Tells r (now (cells .exit)) (now (next .exit)) (now (heads .exit)) (readingFrom (symOf from) (sameName (now (text .entry)) (now (elements .entry))) (terminalsOf count (now (elements .entry)))) ⌝ }
 {
     begin(from, stk, frames, heads);
@@ -315,7 +317,7 @@ fn scan(
 
 // The rows in order: the list of each base, from the first base on.
 fn write_out(cells: &[u64], next: &[u64], heads: &[u64], used: usize, tab: &mut [u64])
-    requires { ⌜ ((rows : List Row) × (Spans (now cells) (now next) (now heads) used 0 rows × (length rows ≡ used))) × (5 * used ≤ length (now tab)) × (5 * used ≤ length (now cells)) × (used ≤ length (now next)) × (used ≤ length (now heads)) × (used ≤ 8192) × ((i : ℕ) → i ≤ used → getD (now heads) i 0 ≤ used) ⌝ }
+    requires { ⌜ ((rows : List Row) × (Spans (now cells) (now next) (now heads) used 0 rows × (length rows ≡ used))) × (5 * used ≤ length (now tab)) × (5 * used ≤ length (now cells)) × (used ≤ length (now next)) × (used ≤ length (now heads)) × (used ≤ mostElements) × ((i : ℕ) → i ≤ used → getD (now heads) i 0 ≤ used) ⌝ }
     ensures { λ _. ⌜ ((rows : List Row) → Spans (now (cells .entry)) (now (next .entry)) (now (heads .entry)) used 0 rows → now (tab .exit) ≡ sets (now (tab .entry)) 0 (wordsOf rows)) ⌝ }
 {
     let mut base: usize = 0;
@@ -353,7 +355,7 @@ pub fn read_tree(text: &[u8], elements: &[u64], count: usize, tree: &mut [u64]) 
     ensures { λ _. ⌜ now (tree .exit) ≡ tableOf (length (now (tree .entry))) (readingIn (now (text .entry)) (now (elements .entry)) (elementsIn (now (elements .entry)) count)) ⌝ }
 {
     lent::clear(tree);
-    let n = least(count, elements.len() / 3, 8192);
+    let n = least(count, elements.len() / 3, MOST_ELEMENTS);
     let mut stk = [0u64; 2176];
     let mut frames = [0u64; 8708];
     let mut cells = [0u64; 51840];
@@ -421,7 +423,7 @@ fn read_piece(
     bodies: &[u8],
     rows: &mut [u64],
 )
-    requires { ⌜ (1 ≤ size) × (3 * size ≤ length (now elements)) × (size ≤ 8192) × (5 * size ≤ length (now rows)) × (length (now stk) ≡ 2176) × (length (now frames) ≡ 8708) × (length (now cells) ≡ 51840) × (length (now next) ≡ 10368) × (length (now heads) ≡ 10368) × (now kinds ≡ kindBytes) × (now picks ≡ pickBytes) × (now sizes ≡ sizeBytes) × (now bodies ≡ bodyBytes) ⌝ }
+    requires { ⌜ (1 ≤ size) × (3 * size ≤ length (now elements)) × (size ≤ mostElements) × (5 * size ≤ length (now rows)) × (length (now stk) ≡ 2176) × (length (now frames) ≡ 8708) × (length (now cells) ≡ 51840) × (length (now next) ≡ 10368) × (length (now heads) ≡ 10368) × (now kinds ≡ kindBytes) × (now picks ≡ pickBytes) × (now sizes ≡ sizeBytes) × (now bodies ≡ bodyBytes) ⌝ }
     ensures { λ _. ⌜ now (rows .exit) ≡ sets (now (rows .entry)) 0 (wordsOf (rowsOfPiece (kindsOf size (now (elements .entry))))) ⌝ }
 {
     let from = start_of(elements[0]);
@@ -468,7 +470,7 @@ fn read_pieces(
     bodies: &[u8],
     rows: &mut [u64],
 )
-    requires { ⌜ (3 * n ≤ length (now elements)) × (n ≤ 8192) × (5 * n ≤ length (now rows)) × (now rows ≡ replicate (length (now rows)) 0) × (length (now stk) ≡ 2176) × (length (now frames) ≡ 8708) × (length (now cells) ≡ 51840) × (length (now next) ≡ 10368) × (length (now heads) ≡ 10368) × (now kinds ≡ kindBytes) × (now picks ≡ pickBytes) × (now sizes ≡ sizeBytes) × (now bodies ≡ bodyBytes) ⌝ }
+    requires { ⌜ (3 * n ≤ length (now elements)) × (n ≤ mostElements) × (5 * n ≤ length (now rows)) × (now rows ≡ replicate (length (now rows)) 0) × (length (now stk) ≡ 2176) × (length (now frames) ≡ 8708) × (length (now cells) ≡ 51840) × (length (now next) ≡ 10368) × (length (now heads) ≡ 10368) × (now kinds ≡ kindBytes) × (now picks ≡ pickBytes) × (now sizes ≡ sizeBytes) × (now bodies ≡ bodyBytes) ⌝ }
     ensures { λ _. ⌜ now (rows .exit) ≡ itemWords (piecesOf (kindsOf n (now (elements .entry)))) ++ replicate (length (now (rows .entry)) - 5 * n) 0 ⌝ }
 {
     let mut at: usize = 0;
@@ -500,7 +502,11 @@ pub fn read_items(elements: &[u64], count: usize, rows: &mut [u64])
     ensures { λ _. ⌜ now (rows .exit) ≡ itemRows (now (elements .entry)) count (length (now (rows .entry))) ⌝ }
 {
     lent::clear(rows);
-    let n = least(count, elements.len() / 3, least(rows.len() / 5, 8192, 8192));
+    let n = least(
+        count,
+        elements.len() / 3,
+        least(rows.len() / 5, MOST_ELEMENTS, MOST_ELEMENTS),
+    );
     let mut stk = [0u64; 2176];
     let mut frames = [0u64; 8708];
     let mut cells = [0u64; 51840];

@@ -7,7 +7,7 @@ use mathlib.Core.Bool.{true, false}
 use mathlib.Core.List.{List, _++_}
 use lib.ListN.{length, replicate}
 use Rattle.alike.specs.Alike.{sameName}
-use Rattle.forms.specs.Tree.{State, isNamed, rowsOf, IsFile, Reading}
+use Rattle.forms.specs.Tree.{State, mostOpen, isNamed, rowsOf, IsFile, Reading}
 use Rattle.forms.specs.Reading.{Begins}
 use Rattle.forms.specs.Forest.{Forest, Tiled, leaves, elementsOf, upFrom}
 use Rattle.forms.specs.Open.{openAfter}
@@ -84,10 +84,10 @@ StillBegins =
 abbrev pub TooManyOpen : Type 0
 TooManyOpen =
     (text table : List ℕ) (n room k : ℕ) → Answered text table n room ≡ TooDeep k
-    → (openAfter (Elements table n) (suc k) ≡ 33) × ((i : ℕ) → i ≤ k → openAfter (Elements table n) i ≤ 32)
+    → (openAfter (Elements table n) (suc k) ≡ suc mostOpen) × ((i : ℕ) → i ≤ k → openAfter (Elements table n) i ≤ mostOpen)
 
 abbrev pub NeverTooMany : Type 0
-NeverTooMany = (text table : List ℕ) (n : ℕ) (s : State) → File text table n s → (i : ℕ) → openAfter (Elements table n) i ≤ 32
+NeverTooMany = (text table : List ℕ) (n : ℕ) (s : State) → File text table n s → (i : ℕ) → openAfter (Elements table n) i ≤ mostOpen
 
 -- Refusal 6, said of the elements alone: its place is a closing name, and what it closes has no name, or another.
 abbrev pub WrongName : Type 0
@@ -101,7 +101,7 @@ NamesRight text table n m = (k name : ℕ) → k < m → closesAt (Elements tabl
 
 -- no more than 32 stand open after any of the first m elements
 abbrev pub FewOpen : List ℕ → ℕ → ℕ → Type 0
-FewOpen table n m = (i : ℕ) → i ≤ m → openAfter (Elements table n) i ≤ 32
+FewOpen table n m = (i : ℕ) → i ≤ m → openAfter (Elements table n) i ≤ mostOpen
 
 -- In a file every closing name is the name of what it closes.
 abbrev pub NeverWrongName : Type 0
