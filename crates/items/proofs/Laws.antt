@@ -11,7 +11,7 @@ use lib.Dec.{eqb, ltb}
 use lib.ListN.{length, getD, drop, take, set, length-drop}
 use lib.Seq.{drop-drop, drop-cons, getD-drop, sets, length-sets}
 use Rattle.classes.proofs.Laws.{by-test}
-use Rattle.pieces.specs.Kinds.{kindsOf}
+use Rattle.places.specs.Places.{kindsOf}
 use Rattle.pieces.proofs.Laws.{kinds-length, kinds-at}
 use Rattle.records.specs.Records.{wordAt, isItem, isClaim}
 use Rattle.names.specs.Language.{languageOf}

@@ -6,7 +6,7 @@ ghost use mathlib.Core.Bool.{_||_};
 ghost use Prim.Native.Nat.{ℕ, _+_, _-_, _*_, _/_, _≤_, _<_};
 ghost use lib.ListN.{length, drop, take};
 ghost use lib.Seq.{sets};
-ghost use Rattle.pieces.specs.Kinds.{kindsOf};
+ghost use Rattle.places.specs.Places.{kindsOf};
 ghost use Rattle.records.specs.Records.{wordAt};
 ghost use Rattle.items.specs.Items.{heldIn, rowsHeld, anyDown, goesDownIn, doubledIn, expressionAt, rangeAt, markAt, boundedAt, formedAt, valueAt, valueWords, completedAt, completedFrom, completed};
 

@@ -11,7 +11,7 @@ use lib.Seq.{take-at, drop-at}
 use Rattle.reading.specs.Rows.{Row, rowsOf}
 use Rattle.reading.specs.Table.{cells}
 use Rattle.reading.proofs.TableLaws.{length-cells}
-use Rattle.pieces.specs.Kinds.{kindsOf}
+use Rattle.places.specs.Places.{kindsOf}
 use Rattle.pieces.specs.Kinds as by-kinds
 use Rattle.records.specs.Records.{wordAt}
 use Rattle.operands.specs.Operands.{literalBy, literalIn}

@@ -17,7 +17,7 @@ use Rattle.refusals.specs.declared.Refusal.{Refusal}
 use Rattle.places.specs.declared.ElementNumber.{ElementNumber}
 use Rattle.reading.proofs.TableLaws.{length-cells}
 use Rattle.reading.proofs.Answers.{table-read, table-refused, table-length, read-count, read-few}
-use Rattle.pieces.specs.Kinds.{kindsOf}
+use Rattle.places.specs.Places.{kindsOf}
 use Rattle.pieces.specs.Kinds as by-kinds
 use Rattle.pieces.specs.Records.{piecesIn, marking, recordTable, holds}
 use Rattle.pieces.specs.Records as marks

@@ -11,7 +11,8 @@ use mir.Val.{Fits}
 use lib.ListN.{length, getD, take, drop, length-drop, drop-of-length-le}
 use lib.Seq.{drop-cons, drop-drop, getD-drop}
 use Rattle.pieces.specs.Cutting.{more, pieceSize, cut}
-use Rattle.pieces.specs.Kinds.{kindsOf, closesPiece, opensPiece, piecesOf}
+use Rattle.pieces.specs.Kinds.{closesPiece, opensPiece, piecesOf}
+use Rattle.places.specs.Places.{kindsOf}
 use Rattle.pieces.proofs.Cutting.{more-none, more-on, size-le, cut-first}
 
 pub kinds-length : (n : ℕ) (t : List ℕ) → length (kindsOf n t) ≡ n

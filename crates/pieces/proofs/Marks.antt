@@ -11,7 +11,8 @@ use lib.Dec.{eqb}
 use lib.ListN.{length, getD, drop, length-drop, List·getD-eq-default}
 use lib.Seq.{getD-drop, getD-take, length-take-le}
 use Rattle.classes.proofs.Laws.{by-test}
-use Rattle.pieces.specs.Kinds.{mark, kindsOf, pieceAt, isName, isHeading, behindWord, hasName, endsAt, isClosing, claimMark, markOf}
+use Rattle.pieces.specs.Kinds.{mark, pieceAt, isName, isHeading, behindWord, hasName, endsAt, isClosing, claimMark, markOf}
+use Rattle.places.specs.Places.{kindsOf}
 use Rattle.pieces.specs.declared.Mark.{Mark}
 use Rattle.pieces.proofs.Laws.{kinds-length, kinds-at}
 

@@ -11,7 +11,8 @@ use lib.ListN.{length, getD, set, take, drop, replicate, length-replicate, lengt
 use lib.Seq.{sets, length-sets, sets-eq}
 use Rattle.classes.proofs.Laws.{by-test}
 use Rattle.pieces.specs.Cutting.{pieceSize, cut}
-use Rattle.pieces.specs.Kinds.{kindsOf, pieceAt, closesPiece, opensPiece, piecesOf, isHeading, isClosing, hasName, isName, claimMark, markOf}
+use Rattle.pieces.specs.Kinds.{pieceAt, closesPiece, opensPiece, piecesOf, isHeading, isClosing, hasName, isName, claimMark, markOf}
+use Rattle.places.specs.Places.{kindsOf}
 use Rattle.pieces.specs.Records.{nameOf, recordOf, recordsFrom, piecesIn, marking, recordTable}
 use Rattle.pieces.specs.declared.Mark.{Mark}
 use Rattle.pieces.specs.declared.Marking.the-variants.{Marked, TooMany, TableShort}

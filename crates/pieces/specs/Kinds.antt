@@ -1,20 +1,16 @@
 -- The kinds of elements that pieces are told by, and what a piece is by its kinds. Assumes nothing.
-use Prim.Native.Nat.{ℕ, zero, suc, _+_}
+use Prim.Native.Nat.{ℕ, _+_}
 use mathlib.Core.Bool.{Bool, true, false, cond, _&&_, _||_}
-use mathlib.Core.List.{List, [], _∷_}
+use mathlib.Core.List.{List}
 use lib.Dec.{eqb}
 use lib.ListN.{length, getD, take, drop}
+use Rattle.places.specs.Places.{kindsOf}
 use Rattle.pieces.specs.Cutting.{cut, pieceSize}
 use Rattle.pieces.specs.declared.Mark.{Mark}
 
 -- a class and a place
 abbrev pub mark : ℕ → ℕ → Mark
 mark c p = record { class = c; place = p }
-
--- the kinds of the first n elements of a table
-unfoldable pub kindsOf : ℕ → List ℕ → List ℕ
-kindsOf zero table = []
-kindsOf (suc n) table = getD table 0 0 ∷ kindsOf n (drop 3 table)
 
 -- the kinds of the elements of a piece
 unfoldable pub pieceAt : ℕ → List ℕ → ℕ → ℕ → List ℕ

@@ -6,7 +6,8 @@ use mathlib.Core.List.{List, [], _∷_, _++_}
 use lib.Dec.{eqb, ltb}
 use lib.ListN.{length, replicate}
 use Rattle.places.specs.Sizes.{mostPieces}
-use Rattle.pieces.specs.Kinds.{kindsOf, piecesOf, markOf}
+use Rattle.pieces.specs.Kinds.{piecesOf, markOf}
+use Rattle.places.specs.Places.{kindsOf}
 use Rattle.pieces.specs.declared.Mark.{Mark}
 use Rattle.pieces.specs.declared.Marking.{Marking}
 use Rattle.pieces.specs.declared.Marking.the-variants.{Marked, TooMany, TableShort}

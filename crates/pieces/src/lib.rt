@@ -5,7 +5,8 @@ ghost use Prim.Native.Nat.{ℕ, _+_, _*_, _/_, _^_, _≤_, _<_, min};
 ghost use lib.ListN.{length, getD, drop, take};
 ghost use lib.Seq.{sets};
 ghost use Rattle.pieces.specs.Cutting.{pieceSize};
-ghost use Rattle.pieces.specs.Kinds.{kindsOf, pieceAt, isName, closesPiece, opensPiece, piecesOf, isHeading, behindWord, endsAt, claimMark, markOf};
+ghost use Rattle.pieces.specs.Kinds.{pieceAt, isName, closesPiece, opensPiece, piecesOf, isHeading, behindWord, endsAt, claimMark, markOf};
+ghost use Rattle.places.specs.Places.{kindsOf};
 ghost use Rattle.pieces.specs.Records.{nameOf, recordOf, recordsFrom, piecesIn, marking, recordTable};
 
 // How many pieces were marked; or refusal 9; or refusal 10 with the rows that the table has.

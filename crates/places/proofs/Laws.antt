@@ -5,9 +5,10 @@ use mathlib.Core.Bool.{Bool, true, false}
 use mathlib.Core.List.{List}
 use native.Mathlib.Omega.{arith}
 use lib.Dec.{leb}
-use lib.ListN.{length, getD}
+use lib.ListN.{length, getD, set, take, drop, length-drop, drop-of-length-le}
+use lib.Seq.{take-all}
 use borrow.Author.Tests.{lt-ltb, le-ltb, le-leb, lt-leb, leb-true, leb-false}
-use Rattle.places.specs.Places.{cellAt, within}
+use Rattle.places.specs.Places.{rowsFrom, cellAt, put, within}
 
 pub cell-in : (l : List ℕ) (i j : ℕ) → i < length l / 3 → getD l (3 * i + j) 0 ≡ cellAt l i j
 unfolding cellAt
@@ -16,6 +17,25 @@ cell-in l i j h = rw (lt-ltb i (length l / 3) h)
 pub cell-out : (l : List ℕ) (i j : ℕ) → length l / 3 ≤ i → 0 ≡ cellAt l i j
 unfolding cellAt
 cell-out l i j h = rw (le-ltb i (length l / 3) h)
+
+-- the rest of a table, and nothing past its last row
+pub rest-of : (l : List ℕ) (i : ℕ) → take (length l - 3 * i) (drop (3 * i) l) ≡ rowsFrom l i
+rest-of l i = take-all (length l - 3 * i) (drop (3 * i) l) (omega (arith, length-drop (3 * i) l))
+
+pub nothing-past : (l : List ℕ) (i : ℕ) → length l / 3 < i → take (length l - length l) (drop (length l) l) ≡ rowsFrom l i
+nothing-past l i h =
+    take-all (length l - length l) (drop (length l) l) (omega (arith, length-drop (length l) l))
+    ∙ drop-of-length-le l {i = length l} (omega arith)
+    ∙ sym (drop-of-length-le l {i = 3 * i} (omega arith))
+
+-- a row put where there is room, and where there is none
+pub put-there : (t : List ℕ) (n kind first size : ℕ) → n < length t / 3 → put t n kind first size ≡ set (set (set t (n * 3) kind) (n * 3 + 1) first) (n * 3 + 2) size
+unfolding put
+put-there t n kind first size h = rw (lt-ltb n (length t / 3) h)
+
+pub put-nowhere : (t : List ℕ) (n kind first size : ℕ) → length t / 3 ≤ n → put t n kind first size ≡ t
+unfolding put
+put-nowhere t n kind first size h = rw (le-ltb n (length t / 3) h)
 
 pub stands-no : (s : List ℕ) (x n : ℕ) → length s < x → false ≡ within s x n
 stands-no s x n h = sym (lt-leb (x + n) (length s) (omega arith))

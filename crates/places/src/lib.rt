@@ -1,7 +1,8 @@
-// Byte places and element numbers, and what the element table says of an element. Any table and any number may be given.
+// Byte places and element numbers, and the rows of the element table: what they hold of an element, and how they are put. No other crate
+// knows what the words of a row are. Any table and any number may be given.
 ghost use mathlib.Core.Path.{_≡_};
 ghost use Prim.Native.Nat.{_<_};
-ghost use Rattle.places.specs.Places.{cellAt, within};
+ghost use Rattle.places.specs.Places.{rowWords, rowsIn, rowsFrom, cellAt, put, within};
 
 // 01's sizes: how many bytes and elements a text has at most, and how many pieces a survey.
 pub const MOST_BYTES: usize = 65536;
@@ -10,21 +11,54 @@ pub const MOST_ELEMENTS: usize = 8192;
 
 pub const MOST_PIECES: usize = 1024;
 
+// How many words a row of the element table has.
+pub const ROW_WORDS: usize = 3;
+
 // A place in the text, counted in bytes.
 pub struct BytePlace(pub usize);
 
 // A number of an element, or a count of elements.
 pub struct ElementNumber(pub usize);
 
+// How many rows a table has.
+pub fn rows_in(table: &[u64]) -> usize
+    ensures { λ r. ⌜ r ≡ rowsIn (now (table .entry)) ⌝ }
+{
+    table.len() / ROW_WORDS
+}
+
+// The rows from row i on.
+pub fn rows_from(table: &[u64], i: usize) -> &[u64]
+    ensures { λ r. ⌜ now r ≡ rowsFrom (now (table .entry)) i ⌝ }
+{
+    if i <= table.len() / ROW_WORDS {
+        return &table[ROW_WORDS * i..];
+    }
+    &table[table.len()..]
+}
+
 // Word j of row i, 0 where there is no such row.
 fn cell(table: &[u64], i: usize, j: usize) -> u64
-    requires { ⌜ j < 3 ⌝ }
+    requires { ⌜ j < rowWords ⌝ }
     ensures { λ r. ⌜ r ≡ cellAt (now (table .entry)) i j ⌝ }
 {
-    if i < table.len() / 3 {
-        return table[3 * i + j];
+    if i < table.len() / ROW_WORDS {
+        return table[ROW_WORDS * i + j];
     }
     0
+}
+
+// Puts a row at its number, where the table has room for it.
+pub fn put_row(t: &mut [u64], e: ElementNumber, kind: u64, first: BytePlace, size: usize)
+    ensures { λ _. ⌜ now (t .exit) ≡ put (now (t .entry)) (e .0) kind (first .0) size ⌝ }
+{
+    let n = e.0;
+    if n < t.len() / ROW_WORDS {
+        let w = n * ROW_WORDS;
+        t[w] = kind;
+        t[w + 1] = first.0 as u64;
+        t[w + 2] = size as u64;
+    }
 }
 
 // The kind of element i, 0 where there is none.

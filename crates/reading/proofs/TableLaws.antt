@@ -12,16 +12,9 @@ use lib.Seq.{sets, sets-eq}
 use Rattle.classes.proofs.Laws.{by-test}
 use Rattle.elements.specs.Kinds.{kindNumber}
 use Rattle.reading.specs.Rows.{Row}
-use Rattle.reading.specs.Table.{cells, put, puts}
-
--- a row put where there is room, and where there is none
-pub put-there : (t : List ℕ) (n kind first size : ℕ) → n < length t / 3 → put t n kind first size ≡ set (set (set t (n * 3) kind) (n * 3 + 1) first) (n * 3 + 2) size
-unfolding put
-put-there t n kind first size h = rw (lt-ltb n (length t / 3) h)
-
-pub put-nowhere : (t : List ℕ) (n kind first size : ℕ) → length t / 3 ≤ n → put t n kind first size ≡ t
-unfolding put
-put-nowhere t n kind first size h = rw (le-ltb n (length t / 3) h)
+use Rattle.places.specs.Places.{put}
+use Rattle.places.proofs.Laws.{put-there}
+use Rattle.reading.specs.Table.{cells, puts}
 
 pub length-put : (t : List ℕ) (n kind first size : ℕ) → length (put t n kind first size) ≡ length t
 unfolding put

@@ -22,7 +22,8 @@ use Rattle.elements.specs.declared.Found.the-variants.{Skip, Element}
 use Rattle.elements.proofs.Sizes.{sizeOf}
 use Rattle.reading.specs.Rows.{linesOf, lineRows, linesRows}
 use Rattle.reading.specs.Lines.{inLine}
-use Rattle.reading.specs.Table.{put, puts}
+use Rattle.places.specs.Places.{put}
+use Rattle.reading.specs.Table.{puts}
 use Rattle.reading.proofs.LineLaws.{line-skip, line-element, line-end, place-good, line-few}
 use Rattle.reading.proofs.TextLaws.{text-first, lines-none}
 use Rattle.reading.proofs.TableLaws.{length-put, length-puts, puts-append}

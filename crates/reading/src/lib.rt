@@ -13,25 +13,12 @@ ghost use Rattle.places.specs.Sizes.{mostBytes};
 ghost use Rattle.classes.specs.Runs.{count};
 ghost use Rattle.reading.specs.Rows.{lineRows, rowsOf};
 ghost use Rattle.reading.specs.Lines.{inLine};
-ghost use Rattle.reading.specs.Table.{put, puts};
+ghost use Rattle.reading.specs.Table.{puts};
 ghost use Rattle.reading.specs.Reading.{readingOf, tableOf};
 
 pub enum Reading {
     Read(ElementNumber),
     Refused(Refusal),
-}
-
-// Puts a row at its number, where the table has room for it.
-fn put_row(t: &mut [u64], e: ElementNumber, kind: u64, first: BytePlace, size: usize)
-    ensures { λ _. ⌜ now (t .exit) ≡ put (now (t .entry)) (e .0) kind (first .0) size ⌝ }
-{
-    let n = e.0;
-    if n < t.len() / 3 {
-        let w = n * 3;
-        t[w] = kind;
-        t[w + 1] = first.0 as u64;
-        t[w + 2] = size as u64;
-    }
 }
 
 // Reads a line that begins at a byte place; n elements stand before it. Answers how many stand behind it.
@@ -49,7 +36,7 @@ fn read_line(l: &[u8], at: usize, t: &mut [u64], before: usize) -> usize
                 i += k;
             },
             Found::Element(kind, k) => {
-                put_row(
+                places::put_row(
                     t,
                     ElementNumber(n),
                     elements::kind_number(kind),
@@ -108,7 +95,7 @@ pub fn read_elements(s: &[u8], t: &mut [u64]) -> Reading
         lent::clear(t);
         return Reading::Refused(Refusal::TooManyElements(ElementNumber(MOST_ELEMENTS)));
     }
-    let rows = t.len() / 3;
+    let rows = places::rows_in(t);
     if rows < n {
         lent::clear(t);
         return Reading::Refused(Refusal::TableShort(ElementNumber(rows)));

@@ -21,7 +21,8 @@ use Rattle.forms.specs.Forest.{Forest, bare}
 use Rattle.forms.proofs.Shapes.{begin-with-mark}
 use Rattle.forms.proofs.Growing.{forest-from}
 use Rattle.pieces.specs.Cutting.{cut, joined, putFront}
-use Rattle.pieces.specs.Kinds.{kindsOf, piecesOf, closesPiece, opensPiece}
+use Rattle.pieces.specs.Kinds.{piecesOf, closesPiece, opensPiece}
+use Rattle.places.specs.Places.{kindsOf}
 use Rattle.pieces.proofs.Laws.{kinds-length}
 use Rattle.tree.specs.Answers.{wordsOf}
 use Rattle.tree.specs.Items.{unlike, terminalsIn, readingOfPiece, rowsRead, rowsOfPiece, pieceWords, itemWords, total, itemsIn, itemRows}

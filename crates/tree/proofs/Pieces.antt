@@ -18,7 +18,7 @@ use Rattle.forms.specs.Reading.{readingFrom}
 use Rattle.forms.specs.Items.{IsItem}
 use Rattle.forms.proofs.Items.{reads-items, kinds-alone, fewer-rows}
 use Rattle.tables.specs.Symbols.{symOf}
-use Rattle.pieces.specs.Kinds.{kindsOf}
+use Rattle.places.specs.Places.{kindsOf}
 use Rattle.pieces.proofs.Laws.{kinds-length}
 use Rattle.tree.specs.declared.Found.{Found}
 use Rattle.tree.specs.declared.Found.the-variants.{Whole, Wrong, Other, Over}

@@ -7,7 +7,8 @@ use lib.ListN.{length, getD, take, drop, length-append, length-drop, drop-of-len
 use lib.Seq.{sets, drop-drop, take-at, drop-at, length-take-le}
 use Rattle.classes.proofs.Laws.{part-rest}
 use Rattle.pieces.specs.Cutting.{pieceSize, cut}
-use Rattle.pieces.specs.Kinds.{kindsOf, piecesOf, closesPiece, opensPiece}
+use Rattle.pieces.specs.Kinds.{piecesOf, closesPiece, opensPiece}
+use Rattle.places.specs.Places.{kindsOf}
 use Rattle.pieces.proofs.Laws.{kinds-length, past, size-some, size-inside, at-less, first-piece}
 use Rattle.tree.specs.Answers.{wordsOf}
 use Rattle.tree.specs.Items.{rowsOfPiece, pieceWords, itemWords, itemsIn, itemRows}

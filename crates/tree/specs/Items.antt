@@ -11,7 +11,8 @@ use Rattle.forms.specs.Kinds.{terminalOf}
 use Rattle.forms.specs.Names.{constant, subtype}
 use Rattle.forms.specs.Tree.{Row, State, Refusal, rowsOf}
 use Rattle.forms.specs.Reading.{readingFrom}
-use Rattle.pieces.specs.Kinds.{kindsOf, piecesOf}
+use Rattle.pieces.specs.Kinds.{piecesOf}
+use Rattle.places.specs.Places.{kindsOf}
 use Rattle.tree.specs.Answers.{wordsOf}
 
 -- no name is like another: an item's rules compare none

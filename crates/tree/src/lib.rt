@@ -18,7 +18,8 @@ ghost use Rattle.alike.specs.Alike.{sameName};
 ghost use Rattle.tables.specs.Symbols.{symOf, syms};
 ghost use Rattle.tables.specs.Bytes.{kindBytes, pickBytes, sizeBytes, bodyBytes};
 ghost use Rattle.tree.specs.Answers.{elementsIn, terminalsOf, readingIn, wordsOf, answerOf, tableOf};
-ghost use Rattle.pieces.specs.Kinds.{kindsOf, piecesOf};
+ghost use Rattle.pieces.specs.Kinds.{piecesOf};
+ghost use Rattle.places.specs.Places.{kindsOf};
 ghost use Rattle.tree.specs.Items.{startOf, rowsOfPiece, itemWords, itemsIn, itemRows};
 ghost use Rattle.tree.specs.Held.{Held, Spans, Done, Tells, Starts, usedAfter};
 

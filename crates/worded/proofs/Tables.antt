@@ -13,7 +13,7 @@ use Rattle.reading.specs.Rows.{Row}
 use Rattle.reading.specs.Table.{cells}
 use Rattle.reading.specs.Promises.{InOrder}
 use Rattle.reading.proofs.TableLaws.{length-cells}
-use Rattle.pieces.specs.Kinds.{kindsOf}
+use Rattle.places.specs.Places.{kindsOf}
 use Rattle.operands.specs.Operands.{bytesAt}
 use Rattle.worded.specs.Elements.{nothing, elementsOf, elementAt, at, kinds}
 

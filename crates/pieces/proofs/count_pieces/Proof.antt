@@ -4,7 +4,8 @@ use Rattle.pieces.proofs.Laws.{size-inside, at-fits, at-less, count-bou
 use Prim.Native.Nat.{_-_, _≤_, _+_}
 use mathlib.Core.Path.{_≡_}
 use lib.ListN.{length, drop}
-use Rattle.pieces.specs.Kinds.{kindsOf, piecesOf}
+use Rattle.pieces.specs.Kinds.{piecesOf}
+use Rattle.places.specs.Places.{kindsOf}
 use Rattle.pieces.proofs.count_pieces.Statement.{statement}
 use Rattle.pieces.proofs.count_pieces.Tie as tie
 

@@ -5,7 +5,8 @@ use Prim.Native.Nat.{_-_, _≤_, _+_}
 use mathlib.Core.Path.{_≡_}
 use lib.ListN.{drop}
 use Rattle.pieces.specs.Cutting.{more, pieceSize}
-use Rattle.pieces.specs.Kinds.{kindsOf, closesPiece, opensPiece}
+use Rattle.pieces.specs.Kinds.{closesPiece, opensPiece}
+use Rattle.places.specs.Places.{kindsOf}
 use Rattle.pieces.proofs.size_at.Statement.{statement}
 use Rattle.pieces.proofs.size_at.Tie as tie
 

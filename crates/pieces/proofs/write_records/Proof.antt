@@ -7,7 +7,8 @@ use Prim.Native.Nat.{_-_, _≤_, _+_, _*_}
 use mathlib.Core.Path.{_≡_, refl}
 use lib.ListN.{length, drop}
 use lib.Seq.{sets}
-use Rattle.pieces.specs.Kinds.{kindsOf, piecesOf}
+use Rattle.pieces.specs.Kinds.{piecesOf}
+use Rattle.places.specs.Places.{kindsOf}
 use Rattle.pieces.specs.Records.{recordsFrom}
 use Rattle.pieces.proofs.write_records.Statement.{statement}
 use Rattle.pieces.proofs.write_records.Tie as tie

@@ -1,11 +1,11 @@
 -- Three words stored, or none. Assumes nothing.
-use Rattle.reading.proofs.TableLaws.{put-there, put-nowhere}
+use Rattle.places.proofs.Laws.{put-there, put-nowhere}
 use lib.ListN.{length-set}
 use native.Mathlib.Omega.{arith}
 use mathlib.Core.Path.{sym}
 use borrow.Author.Needs.{needs}
-use Rattle.reading.proofs.put_row.Statement.{statement}
-use Rattle.reading.proofs.put_row.Tie as tie
+use Rattle.places.proofs.put_row.Statement.{statement}
+use Rattle.places.proofs.put_row.Tie as tie
 
 mul-w : tie.Need-mul-w
 mul-w c = search needs
