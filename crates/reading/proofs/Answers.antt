@@ -9,6 +9,7 @@ use lib.Dec.{ltb}
 use Rattle.classes.proofs.Laws.{by-test}
 use lib.ListN.{length, replicate, length-append, length-replicate}
 use Rattle.reading.specs.Rows.{rowsOf}
+use Rattle.places.specs.Places.{rowsIn}
 use Rattle.reading.specs.Table.{cells, puts}
 use Rattle.places.specs.declared.ElementNumber.{ElementNumber}
 use Rattle.refusals.specs.declared.Refusal.{Refusal}
@@ -70,15 +71,15 @@ module _ (s t u₀ : List ℕ) (z : u₀ ≡ replicate (length t) 0) where
     pub refuse-many : (u₂ : List ℕ) → 8192 < n → u₂ ≡ replicate (length u₁) 0 → (Refused (TooManyElements (record { 0 = 8192 })) ≡ readingOf s (length t)) × (u₂ ≡ tableOf s (length t))
     refuse-many u₂ h r = let e = refused-reading s (length t) (TooManyElements (record { 0 = 8192 })) (refl, g, rw c at h) in (sym e, r ∙ ap (λ (k : ℕ). replicate k 0) same ∙ sym (table-refused s (length t) e))
 
-    pub refuse-short : (u₂ : List ℕ) → n ≤ 8192 → length u₁ / 3 < n → u₂ ≡ replicate (length u₁) 0 → (Refused (TableShort (record { 0 = length u₁ / 3 })) ≡ readingOf s (length t)) × (u₂ ≡ tableOf s (length t))
-    refuse-short u₂ m h r =
-        let e = refused-reading s (length t) (TableShort (record { 0 = length t / 3 })) (refl, g, rw c at m, omega (arith, same, c, h)) in
-        (ap (λ (k : ℕ). Refused (TableShort (record { 0 = k / 3 }))) same ∙ sym e, r ∙ ap (λ (k : ℕ). replicate k 0) same ∙ sym (table-refused s (length t) e))
+    pub refuse-short : (u₂ : List ℕ) (rows : ℕ) → rows ≡ rowsIn u₁ → n ≤ 8192 → rows < n → u₂ ≡ replicate (length u₁) 0 → (Refused (TableShort (record { 0 = rows })) ≡ readingOf s (length t)) × (u₂ ≡ tableOf s (length t))
+    refuse-short u₂ rows q m h r =
+        let e = refused-reading s (length t) (TableShort (record { 0 = length t / 3 })) (refl, g, rw c at m, omega (arith, same, c, q, h)) in
+        (ap (λ (k : ℕ). Refused (TableShort (record { 0 = k }))) q ∙ ap (λ (k : ℕ). Refused (TableShort (record { 0 = k / 3 }))) same ∙ sym e, r ∙ ap (λ (k : ℕ). replicate k 0) same ∙ sym (table-refused s (length t) e))
 
-    pub answer-read : n ≤ 8192 → n ≤ length u₁ / 3 → (Read (record { 0 = n }) ≡ readingOf s (length t)) × (u₁ ≡ tableOf s (length t))
-    answer-read m h =
-        let e = taken-read s (length t) (g, rw c at m, omega (arith, same, c, h)) in
-        (ap (λ (k : ℕ). Read (record { 0 = k })) c ∙ sym e, p ∙ ap (λ (x : List ℕ). puts x 0 (rowsOf s)) z ∙ puts-zeros (rowsOf s) (length t) (omega (arith, same, c, h)) ∙ sym (table-read s (length t) e))
+    pub answer-read : (rows : ℕ) → rows ≡ rowsIn u₁ → n ≤ 8192 → n ≤ rows → (Read (record { 0 = n }) ≡ readingOf s (length t)) × (u₁ ≡ tableOf s (length t))
+    answer-read rows q m h =
+        let e = taken-read s (length t) (g, rw c at m, omega (arith, same, c, q, h)) in
+        (ap (λ (k : ℕ). Read (record { 0 = k })) c ∙ sym e, p ∙ ap (λ (x : List ℕ). puts x 0 (rowsOf s)) z ∙ puts-zeros (rowsOf s) (length t) (omega (arith, same, c, q, h)) ∙ sym (table-read s (length t) e))
 
 -- how long the table is then, and that it has room for what was read
 table-by-length : (r : Reading) (s : List ℕ) (w : ℕ) → readingOf s w ≡ r → length (tableBy r s w) ≡ w

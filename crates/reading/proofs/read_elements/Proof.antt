@@ -32,6 +32,9 @@ returns-2 c = let i = c .before .before .before .before in
     let a = z .before .before .before .before .args in
     refuse-many (a .s .now) (a .t .now) _ (z .clear .ensures) _ _ (e .if1 .left) (r .read-lines .ensures .0) (r .read-lines .ensures .1) _ (i .if2 .taken) (c .before .before .clear2 .ensures)
 
+rows-in-requires : tie.Need-rows-in-requires
+rows-in-requires c κs = search needs
+
 clear-requires-3 : tie.Need-clear-requires-3
 clear-requires-3 c κs = search needs
 
@@ -40,21 +43,25 @@ same-length-3 c = search needs
 
 returns-3 : tie.Need-returns-3
 returns-3 c = let i = c .before .before .before .before in
-    let r = i .before .before .before .before in
+    let w = i .before in
+    let f = w .before .before in
+    let r = f .before .before .before in
     let e = r .before .before in
     let z = e .before .before .before in
     let a = z .before .before .before .before .args in
-    refuse-short (a .s .now) (a .t .now) _ (z .clear .ensures) _ _ (e .if1 .left) (r .read-lines .ensures .0) (r .read-lines .ensures .1) _ (i .before .if2 .left) (i .if3 .taken) (c .before .before .clear3 .ensures)
+    refuse-short (a .s .now) (a .t .now) _ (z .clear .ensures) _ _ (e .if1 .left) (r .read-lines .ensures .0) (r .read-lines .ensures .1) _ _ (w .rows-in .ensures) (f .if2 .left) (i .if3 .taken) (c .before .before .clear3 .ensures)
 
 same-length-4 : tie.Need-same-length-4
 same-length-4 c = search needs
 
 returns-4 : tie.Need-returns-4
-returns-4 c = let r = c .before .before .before .before in
+returns-4 c = let w = c .before in
+    let f = w .before .before in
+    let r = f .before .before .before in
     let e = r .before .before in
     let z = e .before .before .before in
     let a = z .before .before .before .before .args in
-    answer-read (a .s .now) (a .t .now) _ (z .clear .ensures) _ _ (e .if1 .left) (r .read-lines .ensures .0) (r .read-lines .ensures .1) (c .before .if2 .left) (c .if3 .left)
+    answer-read (a .s .now) (a .t .now) _ (z .clear .ensures) _ _ (e .if1 .left) (r .read-lines .ensures .0) (r .read-lines .ensures .1) _ (w .rows-in .ensures) (f .if2 .left) (c .if3 .left)
 
 pub read-elements-spec : {M : Type 1} → statement M
 read-elements-spec =
@@ -67,6 +74,7 @@ read-elements-spec =
     clear-requires-2
     same-length-2
     returns-2
+    rows-in-requires
     clear-requires-3
     same-length-3
     returns-3
