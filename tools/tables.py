@@ -1,6 +1,6 @@
 #!/usr/bin/env python3
 """Writes the tables that follow from the rules: crates/forms/specs/Picks.antt (which rule at which next kind), crates/forms/proofs/Hints.antt
-(the hint tables of the computed tests) and crates/tables/src/lib.rt's byte strings, each under its mark. Reads crates/forms/specs/{Kinds,Names,Rules}.antt.
+(the hint tables of the computed tests) and crates/tables/src/lib.rt's byte string and counts. Reads crates/forms/specs/{Kinds,Names,Rules}.antt.
 No table is trusted: the checker computes the tests. Run it from the repository's root after an edit of the rules. Python 3, standard library."""
 import os
 import re
@@ -302,14 +302,11 @@ use mathlib.Core.Bool.{Bool, true, false}
     path = 'crates/tables/src/lib.rt'
     if os.path.exists(path):
         s = text(path)
-        made = {
-            'KINDS': g.kinds,
-            'PICKS': [c for r in g.picks for c in r],
-            'SIZES': [len(b) for _, b in g.rules],
-            'BODIES': [c for _, b in g.rules for c in [g.code(x) for x in b] + [0] * (WIDE - len(b))]}
-        for name, xs in made.items():
-            s = re.sub(r'(-> \[u8; )\d+(\][^{}]*\{[^{}]*\}[^{}]*\{\s*// %s\n\s*\*)b"[^"]*"' % name,
-                       lambda m: m.group(1) + str(len(xs)) + m.group(2) + string(xs), s)
+        table = g.kinds + [c for r in g.picks for c in r] + [len(b) for _, b in g.rules]
+        table += [c for _, b in g.rules for c in [g.code(x) for x in b] + [0] * (WIDE - len(b))]
+        s = re.sub(r'(// FORMS\n\s*\*)b"[^"]*"', lambda m: m.group(1) + string(table), s)
+        for name, count in (('ELEMENT_KINDS', len(g.kinds)), ('KINDS', g.columns), ('NAMES', g.names), ('RULES', len(g.rules)), ('LINE', WIDE)):
+            s = re.sub(r'(pub const %s: usize = )\d+;' % name, lambda m: '%s%d;' % (m.group(1), count), s)
         write(path, s)
     print('%d rules, %d names, %d kinds with the end and any other' % (len(g.rules), g.names, g.columns))
 

@@ -19,7 +19,8 @@ use Rattle.forms.specs.Reading.{readingFrom}
 use Rattle.forms.specs.Items.{markRow}
 use Rattle.forms.proofs.Items.{reads-items}
 use Rattle.forms.proofs.Shapes.{begin-with-mark}
-use Rattle.tree.specs.Items.{unlike, terminalsIn, readingBy, readingOfPiece, rowsRead, rowsOfPiece}
+use Rattle.tree.specs.Answers.{terminalsIn}
+use Rattle.tree.specs.Items.{unlike, readingBy, readingOfPiece, rowsRead, rowsOfPiece}
 use Rattle.folding.specs.declared.Outcome.{Outcome}
 use Rattle.operands.specs.Operands.{literalBy}
 use Rattle.folds.specs.Expressions.{behind, rowOutcome, outcomeIn, outcomeOf}

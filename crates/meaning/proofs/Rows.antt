@@ -14,8 +14,8 @@ use Rattle.forms.specs.Tree.{Row, State, Refusal, rowsOf}
 use Rattle.forms.specs.Reading.{readingFrom}
 use Rattle.forms.proofs.Items.{reads-items}
 use Rattle.forms.proofs.Positive.{Positive, all-positive, top-positive}
-use Rattle.tree.specs.Answers.{wordsOf}
-use Rattle.tree.specs.Items.{unlike, terminalsIn, readingBy, readingOfPiece, rowsRead, rowsOfPiece, pieceWords}
+use Rattle.tree.specs.Answers.{terminalsIn, wordsOf}
+use Rattle.tree.specs.Items.{unlike, readingBy, readingOfPiece, rowsRead, rowsOfPiece, pieceWords}
 use Rattle.tree.proofs.Pieces.{rows-few}
 use Rattle.items.specs.Items.{heldIn}
 use Rattle.folds.specs.Rows.{rowsIn}

@@ -11,7 +11,8 @@ use Rattle.forms.specs.Tree.{State}
 use Rattle.forms.specs.Items.{ItemReading}
 use Rattle.records.specs.Records.{isItem}
 use Rattle.records.specs.Tallies.{oneIf, tallyOf}
-use Rattle.tree.specs.Items.{unlike, terminalsIn}
+use Rattle.tree.specs.Answers.{terminalsIn}
+use Rattle.tree.specs.Items.{unlike}
 use Rattle.values.specs.declared.Value.the-variants.{Without}
 use Rattle.worded.specs.Elements.{Piece, at, kinds, piecesOf}
 use Rattle.meaning.specs.Names.{classOf, ownDoubled, Done}

@@ -1,14 +1,14 @@
 -- What the functions cite of the definitions. Assumes nothing.
-use Prim.Native.Nat.{ℕ, _+_, _*_, _/_, _-_, _≤_, _<_}
-use mathlib.Core.Path.{_≡_, refl, sym, _∙_}
+use Prim.Native.Nat.{ℕ, zero, suc, _+_, _*_, _/_, _-_, _≤_, _<_}
+use mathlib.Core.Path.{_≡_, refl, sym, _∙_, ap}
 use mathlib.Core.Bool.{Bool, true, false}
 use mathlib.Core.List.{List}
 use native.Mathlib.Omega.{arith}
 use lib.Dec.{leb}
 use lib.ListN.{length, getD, set, take, drop, length-drop, drop-of-length-le}
-use lib.Seq.{take-all}
+use lib.Seq.{getD-drop, take-all}
 use borrow.Author.Tests.{lt-ltb, le-ltb, le-leb, lt-leb, leb-true, leb-false}
-use Rattle.places.specs.Places.{rowsFrom, cellAt, put, within}
+use Rattle.places.specs.Places.{rowsFrom, cellAt, kindsOf, put, within}
 
 pub cell-in : (l : List ℕ) (i j : ℕ) → i < length l / 3 → getD l (3 * i + j) 0 ≡ cellAt l i j
 unfolding cellAt
@@ -17,6 +17,23 @@ cell-in l i j h = rw (lt-ltb i (length l / 3) h)
 pub cell-out : (l : List ℕ) (i j : ℕ) → length l / 3 ≤ i → 0 ≡ cellAt l i j
 unfolding cellAt
 cell-out l i j h = rw (le-ltb i (length l / 3) h)
+
+-- the kinds one after the other, and each by its row
+pub kinds-length : (n : ℕ) (l : List ℕ) → length (kindsOf n l) ≡ n
+unfolding kindsOf
+kinds-length zero l = refl
+kinds-length (suc n) l = ap suc (kinds-length n (drop 3 l))
+
+kind-word : (n : ℕ) (l : List ℕ) (i : ℕ) → i < n → getD (kindsOf n l) i 0 ≡ getD l (3 * i + 0) 0
+unfolding kindsOf
+kind-word zero l i h = absurd (omega arith)
+kind-word (suc n) l zero h = refl
+kind-word (suc n) l (suc i) h =
+    let z : 3 + (3 * i + 0) ≡ 3 * suc i + 0 = omega arith in
+    kind-word n (drop 3 l) i (omega arith) ∙ getD-drop 3 l (3 * i + 0) 0 ∙ ap (λ (j : ℕ). getD l j 0) z
+
+pub kind-of-row : (n : ℕ) (l : List ℕ) (i : ℕ) → 3 * n ≤ length l → i < n → cellAt l i 0 ≡ getD (kindsOf n l) i 0
+kind-of-row n l i r h = sym (kind-word n l i h ∙ cell-in l i 0 (omega arith))
 
 -- the rest of a table, and nothing past its last row
 pub rest-of : (l : List ℕ) (i : ℕ) → take (length l - 3 * i) (drop (3 * i) l) ≡ rowsFrom l i

@@ -12,8 +12,8 @@ use Rattle.ll.proofs.Theory.{and-left, and-right}
 use Rattle.ll.proofs.Check.{below, below-at}
 use Rattle.forms.specs.Rules.{body, rules}
 use Rattle.tables.specs.Symbols.{symOf}
-use Rattle.tables.specs.Bytes.{Rule, flatten, sized, encode, padded, lined, sizeBytes, bodyBytes}
-use Rattle.tables.proofs.Tables.{flat-at}
+use Rattle.tables.specs.Bytes.{Rule, flatten, sized, encode, padded, lined, sizeBytes, bodyBytes, formBytes}
+use Rattle.tables.proofs.Tables.{in-front, behind, past-picks, flat-at}
 
 abbrev none : Rule
 none = (0, [])
@@ -43,13 +43,8 @@ size-at [] p = refl
 size-at (r ∷ rs) zero = refl
 size-at (r ∷ rs) (suc p) = size-at rs p
 
-pub sizes-size : {l : List ℕ} → l ≡ sizeBytes → length l ≡ 165
-unfolding sizeBytes
-sizes-size e = ap length e
-
-pub size-is : {l : List ℕ} → l ≡ sizeBytes → (p : ℕ) → getD l p 0 ≡ length (body p)
-unfolding sizeBytes
-size-is e p = ap (λ (l : List ℕ). getD l p 0) e ∙ size-at rules p
+pub size-is : {l : List ℕ} → l ≡ formBytes → (p : ℕ) → p < 165 → getD l (5588 + p) 0 ≡ length (body p)
+size-is e p h = past-picks e p ∙ in-front sizeBytes bodyBytes 165 p refl h ∙ size-at rules p
 
 padded-at : (n : ℕ) (l : List Sym) → T (allFit l) → (i : ℕ) → i < n → symOf (getD (padded n l) i 0) ≡ getD l i (tok 0)
 padded-at zero l h i m = absurd (omega arith)
@@ -66,10 +61,6 @@ lined-at : (rs : List Rule) → T (allFits rs) → (p i : ℕ) → p < length rs
 lined-at [] h p i l m = absurd (omega arith)
 lined-at (r ∷ rs) h zero i l m = padded-at 16 (r .1) (and-left (allFit (r .1)) (allFits rs) h) i m
 lined-at (r ∷ rs) h (suc p) i l m = lined-at rs (and-right (allFit (r .1)) (allFits rs) h) p i (omega arith) m
-
-pub bodies-size : {l : List ℕ} → l ≡ bodyBytes → length l ≡ 2640
-unfolding bodyBytes
-bodies-size e = ap length e
 
 -- no rule is longer
 short : (p : ℕ) → p < 165 → length (body p) ≤ 16
@@ -92,11 +83,13 @@ ruled p i h = by (ltb p 165) refl
         let z : length (body p) ≡ 0 = ap (λ (r : Rule). length (r .1)) (none-past rules p (ltb-false p 165 e)) in
         absurd (omega arith)
 
-pub body-place : (p i : ℕ) → i < length (body p) → p * 16 + i < 2640
+pub body-place : (p i : ℕ) → i < length (body p) → 5753 + p * 16 + i < 8393
 body-place p i h = let r = ruled p i h in omega (arith, r .0, r .1)
 
-pub body-is : {l : List ℕ} → l ≡ bodyBytes → (p i : ℕ) → i < length (body p) → symOf (getD l (p * 16 + i) 0) ≡ getD (body p) i (tok 0)
-unfolding bodyBytes
-body-is e p i h =
+pub body-is : {l : List ℕ} → l ≡ formBytes → (p i : ℕ) → i < length (body p) → symOf (getD l (5753 + p * 16 + i) 0) ≡ getD (body p) i (tok 0)
+body-is {l} e p i h =
     let r = ruled p i h in
-    ap (λ (l : List ℕ). symOf (getD l (p * 16 + i) 0)) e ∙ ap symOf (flat-at 16 (lined rules) tt p i (r .0) (r .1)) ∙ lined-at rules tt p i (r .0) (r .1)
+    let z : 5753 + p * 16 + i ≡ 5588 + (165 + (p * 16 + i)) = omega arith in
+    ap (λ (k : ℕ). symOf (getD l k 0)) z
+    ∙ ap symOf (past-picks e (165 + (p * 16 + i)) ∙ behind sizeBytes bodyBytes 165 (p * 16 + i) refl ∙ flat-at 16 (lined rules) tt p i (r .0) (r .1))
+    ∙ lined-at rules tt p i (r .0) (r .1)

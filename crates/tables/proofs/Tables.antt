@@ -1,6 +1,6 @@
--- The tables' bytes against the definitions, each by one test that antt computes. Assumes nothing.
+-- The table's bytes against the definitions, each by one test that antt computes. Assumes nothing.
 use Prim.Native.Nat.{ℕ, zero, suc, _+_, _*_, _-_, _≤_, _<_}
-use mathlib.Core.Path.{_≡_, refl, sym as flip, _∙_, ap, subst}
+use mathlib.Core.Path.{_≡_, refl, sym as flip, _∙_, ap, ap₂}
 use mathlib.Core.List.{List, [], _∷_, _++_}
 use mathlib.Core.Bool.{Bool, true, false, _&&_}
 use native.Mathlib.Omega.{arith}
@@ -12,7 +12,7 @@ use Rattle.ll.specs.Grammar.{Sym, tok, nt, act}
 use Rattle.ll.proofs.Theory.{and-left, and-right}
 use Rattle.forms.specs.Kinds.{kinds, numberOf, terminalOf, other}
 use Rattle.forms.specs.Picks.{picks, predict}
-use Rattle.tables.specs.Bytes.{numbers, flatten, kindBytes, pickBytes}
+use Rattle.tables.specs.Bytes.{numbers, flatten, kindBytes, pickBytes, sizeBytes, bodyBytes, formBytes}
 
 -- the kinds
 numbers-at : (l : List Sym) (k : ℕ) → k < length l → getD (numbers l) k 0 ≡ numberOf (getD l k other)
@@ -20,13 +20,20 @@ numbers-at [] k h = absurd (omega arith)
 numbers-at (s ∷ l) zero h = refl
 numbers-at (s ∷ l) (suc k) h = numbers-at l k (omega arith)
 
-pub kinds-size : {l : List ℕ} → l ≡ kindBytes → length l ≡ 148
-unfolding kindBytes
-kinds-size e = ap length e
+-- a place in the front part, or in what stands behind it
+pub in-front : (a b : List ℕ) (n i : ℕ) → length a ≡ n → i < n → getD (a ++ b) i 0 ≡ getD a i 0
+in-front a b n i e h = List·getD-append a b 0 i (omega arith)
 
-pub kind-at : {l : List ℕ} → l ≡ kindBytes → (k : ℕ) → k < 148 → getD l k 0 ≡ terminalOf k
-unfolding terminalOf kindBytes
-kind-at e k h = ap (λ (l : List ℕ). getD l k 0) e ∙ numbers-at kinds k h
+pub behind : (a b : List ℕ) (n i : ℕ) → length a ≡ n → getD (a ++ b) (n + i) 0 ≡ getD b i 0
+behind a b n i e = ap (λ (k : ℕ). getD (a ++ b) (k + i) 0) (flip e) ∙ getD-append-add a b i 0
+
+pub forms-size : {l : List ℕ} → l ≡ formBytes → length l ≡ 8393
+unfolding formBytes
+forms-size e = ap length e
+
+pub kind-at : {l : List ℕ} → l ≡ formBytes → (k : ℕ) → k < 148 → getD l k 0 ≡ terminalOf k
+unfolding terminalOf formBytes
+kind-at e k h = ap (λ (l : List ℕ). getD l k 0) e ∙ in-front kindBytes (pickBytes ++ (sizeBytes ++ bodyBytes)) 148 k refl h ∙ numbers-at kinds k h
 
 past : (l : List Sym) (k : ℕ) → length l ≤ k → getD l k other ≡ other
 past [] k h = refl
@@ -66,10 +73,20 @@ flat-at K (r ∷ rs) h (suc n) t l m =
     let z : suc n * K + t ≡ length r + (n * K + t) = omega (arith, suc-mul n K) in
     ap (λ (i : ℕ). getD (r ++ flatten rs) i 0) z ∙ getD-append-add r (flatten rs) (n * K + t) 0 ∙ flat-at K rs (and-right (eqb (length r) K) (wide K rs) h) n t (omega arith) m
 
-pub picks-size : {l : List ℕ} → l ≡ pickBytes → length l ≡ 5440
-unfolding pickBytes
-picks-size e = ap length e
+pub pick-at : {l : List ℕ} → l ≡ formBytes → (n t : ℕ) → n < 80 → t < 68 → getD l (148 + n * 68 + t) 0 ≡ predict n t
+unfolding formBytes
+pick-at e n t h m =
+    let z : 148 + n * 68 + t ≡ 148 + (n * 68 + t) = omega arith in
+    ap₂ (λ (l : List ℕ) (i : ℕ). getD l i 0) e z
+    ∙ behind kindBytes (pickBytes ++ (sizeBytes ++ bodyBytes)) 148 (n * 68 + t) refl
+    ∙ in-front pickBytes (sizeBytes ++ bodyBytes) 5440 (n * 68 + t) refl (omega arith)
+    ∙ flat-at 68 picks tt n t h m
 
-pub pick-at : {l : List ℕ} → l ≡ pickBytes → (n t : ℕ) → n < 80 → t < 68 → getD l (n * 68 + t) 0 ≡ predict n t
-unfolding pickBytes
-pick-at e n t h m = ap (λ (l : List ℕ). getD l (n * 68 + t) 0) e ∙ flat-at 68 picks tt n t h m
+-- the parts behind the table of rules
+pub past-picks : {l : List ℕ} → l ≡ formBytes → (i : ℕ) → getD l (5588 + i) 0 ≡ getD (sizeBytes ++ bodyBytes) i 0
+unfolding formBytes
+past-picks e i =
+    let z : 5588 + i ≡ 148 + (5440 + i) = omega arith in
+    ap₂ (λ (l : List ℕ) (k : ℕ). getD l k 0) e z
+    ∙ behind kindBytes (pickBytes ++ (sizeBytes ++ bodyBytes)) 148 (5440 + i) refl
+    ∙ behind pickBytes (sizeBytes ++ bodyBytes) 5440 i refl

@@ -1,4 +1,4 @@
--- The tables of the forms as the code has them, bytes in a row: lists of numbers that follow from the kinds, the table of rules and the
+-- The table of the forms as the code has it, bytes in a row: lists of numbers that follow from the kinds, the table of rules and the
 -- rules. Assumes nothing: these are definitions.
 use Prim.Native.Nat.{ℕ, zero, suc, _+_}
 use mathlib.Core.List.{List, [], _∷_, _++_}
@@ -43,15 +43,18 @@ abbrev pub lined : List Rule → List (List ℕ)
 lined [] = []
 lined (r ∷ rs) = padded 16 (r .1) ∷ lined rs
 
--- the four tables
-unfoldable pub kindBytes : List ℕ
+-- the table's four parts, and the table
+abbrev pub kindBytes : List ℕ
 kindBytes = numbers kinds
 
-unfoldable pub pickBytes : List ℕ
+abbrev pub pickBytes : List ℕ
 pickBytes = flatten picks
 
-unfoldable pub sizeBytes : List ℕ
+abbrev pub sizeBytes : List ℕ
 sizeBytes = sized rules
 
-unfoldable pub bodyBytes : List ℕ
+abbrev pub bodyBytes : List ℕ
 bodyBytes = flatten (lined rules)
+
+unfoldable pub formBytes : List ℕ
+formBytes = kindBytes ++ (pickBytes ++ (sizeBytes ++ bodyBytes))

@@ -24,11 +24,12 @@ use Rattle.pieces.specs.Cutting.{cut, joined, putFront}
 use Rattle.pieces.specs.Kinds.{piecesOf, closesPiece, opensPiece}
 use Rattle.places.specs.Places.{kindsOf}
 use Rattle.pieces.proofs.Laws.{kinds-length}
-use Rattle.tree.specs.Answers.{wordsOf}
-use Rattle.tree.specs.Items.{unlike, terminalsIn, readingOfPiece, rowsRead, rowsOfPiece, pieceWords, itemWords, total, itemsIn, itemRows}
+use Rattle.tree.specs.Answers.{terminalsIn, wordsOf}
+use Rattle.tree.specs.Items.{unlike, readingOfPiece, rowsRead, rowsOfPiece, pieceWords, itemWords, total, itemsIn, itemRows}
 use Rattle.tree.proofs.Zeros.{zeros, zeros-size}
 use Rattle.tree.proofs.Final.{words-size}
-use Rattle.tree.proofs.Pieces.{rows-few, terminals-length}
+use Rattle.tree.proofs.Lists.{terminals-length}
+use Rattle.tree.proofs.Pieces.{rows-few}
 
 clash : {A : Type 0} → _≡_ {A = ℕ} 0 1 → A
 clash z = absurd (omega arith)

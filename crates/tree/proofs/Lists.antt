@@ -9,7 +9,9 @@ use Rattle.ll.specs.Grammar.{Sym, tok, look}
 use Rattle.forms.specs.Kinds.{terminalOf}
 use Rattle.tables.specs.Symbols.{symOf, syms}
 use Rattle.tables.proofs.Tables.{terminal-small}
-use Rattle.tree.specs.Answers.{terminalsOf}
+use Rattle.places.specs.Places.{cellAt, kindsOf}
+use Rattle.places.proofs.Laws.{kinds-length, kind-of-row}
+use Rattle.tree.specs.Answers.{terminalsIn, terminalsOf}
 
 pub look-at : (l : List ℕ) (i : ℕ) → i < length l → look (drop i l) ≡ getD l i 0
 look-at l i h = rw (drop-cons l i 0 h)
@@ -17,34 +19,38 @@ look-at l i h = rw (drop-cons l i 0 h)
 pub look-end : (l : List ℕ) (i : ℕ) → length l ≤ i → 0 ≡ look (drop i l)
 look-end l i h = rw (drop-of-length-le l h)
 
+pub terminals-length : (ks : List ℕ) → length (terminalsIn ks) ≡ length ks
+terminals-length [] = refl
+terminals-length (k ∷ ks) = ap suc (terminals-length ks)
+
 pub terminals-size : (n : ℕ) (l : List ℕ) → length (terminalsOf n l) ≡ n
 unfolding terminalsOf
-terminals-size zero l = refl
-terminals-size (suc n) l = ap suc (terminals-size n (drop 3 l))
+terminals-size n l = terminals-length (kindsOf n l) ∙ kinds-length n l
 
-terminals-get : (n : ℕ) (l : List ℕ) (i : ℕ) → i < n → getD (terminalsOf n l) i 0 ≡ terminalOf (getD l (3 * i) 0)
+terminals-get : (ks : List ℕ) (i : ℕ) → i < length ks → getD (terminalsIn ks) i 0 ≡ terminalOf (getD ks i 0)
+terminals-get [] i h = absurd (omega arith)
+terminals-get (k ∷ ks) zero h = refl
+terminals-get (k ∷ ks) (suc i) h = terminals-get ks i (omega arith)
+
+pub terminals-at : (n : ℕ) (l : List ℕ) (i k r : ℕ) → 3 * n ≤ length l → i < n → k ≡ cellAt l i 0 → r ≡ terminalOf k → r ≡ look (drop i (terminalsOf n l))
 unfolding terminalsOf
-terminals-get zero l i h = absurd (omega arith)
-terminals-get (suc n) l zero h = refl
-terminals-get (suc n) l (suc i) h =
-    let z : 3 + 3 * i ≡ 3 * suc i = omega arith in
-    terminals-get n (drop 3 l) i (omega arith) ∙ ap terminalOf (getD-drop 3 l (3 * i) 0 ∙ ap (λ (j : ℕ). getD l j 0) z)
-
-pub terminals-at : (n : ℕ) (l : List ℕ) (i r : ℕ) → i < n → r ≡ terminalOf (getD l (3 * i) 0) → r ≡ look (drop i (terminalsOf n l))
-terminals-at n l i r h e = e ∙ flip (look-at (terminalsOf n l) i (omega (arith, terminals-size n l)) ∙ terminals-get n l i h)
+terminals-at n l i k r s h q e =
+    e
+    ∙ ap terminalOf (q ∙ kind-of-row n l i s h)
+    ∙ flip (look-at (terminalsOf n l) i (omega (arith, terminals-size n l)) ∙ terminals-get (kindsOf n l) i (omega (arith, kinds-length n l)))
 
 pub terminals-end : (n : ℕ) (l : List ℕ) (i : ℕ) → n ≤ i → 0 ≡ look (drop i (terminalsOf n l))
 terminals-end n l i h = look-end (terminalsOf n l) i (omega (arith, terminals-size n l))
 
-terminals-small : (n : ℕ) (l : List ℕ) (i : ℕ) → look (drop i (terminalsOf n l)) < 68
-unfolding terminalsOf
-terminals-small zero l zero = omega arith
-terminals-small zero l (suc i) = omega arith
-terminals-small (suc n) l zero = terminal-small (getD l 0 0)
-terminals-small (suc n) l (suc i) = terminals-small n (drop 3 l) i
+terminals-small : (ks : List ℕ) (i : ℕ) → look (drop i (terminalsIn ks)) < 68
+terminals-small [] zero = omega arith
+terminals-small [] (suc i) = omega arith
+terminals-small (k ∷ ks) zero = terminal-small k
+terminals-small (k ∷ ks) (suc i) = terminals-small ks i
 
 pub kind-small : (n : ℕ) (l : List ℕ) (i r : ℕ) → r ≡ look (drop i (terminalsOf n l)) → r < 68
-kind-small n l i r e = subst (λ (x : ℕ). x < 68) (flip e) (terminals-small n l i)
+unfolding terminalsOf
+kind-small n l i r e = subst (λ (x : ℕ). x < 68) (flip e) (terminals-small (kindsOf n l) i)
 
 pub drop-set-here : (l : List ℕ) (k x : ℕ) → k < length l → drop k (set l k x) ≡ x ∷ drop (suc k) l
 drop-set-here l k x h =

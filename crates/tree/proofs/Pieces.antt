@@ -1,5 +1,5 @@
 -- A piece read by itself, in the code's terms: the symbol from which it is read, what the scan found, and its rows. Assumes nothing.
-use Prim.Native.Nat.{ℕ, zero, suc, _≤_}
+use Prim.Native.Nat.{ℕ, zero, suc, _/_, _≤_}
 use mathlib.Core.Path.{_≡_, refl, sym, _∙_, ap, subst}
 use mathlib.Core.Logic.{_⊎_, inl, inr, ⊎-elim}
 use mathlib.Core.Bool.{Bool, true, false, cond}
@@ -18,13 +18,15 @@ use Rattle.forms.specs.Reading.{readingFrom}
 use Rattle.forms.specs.Items.{IsItem}
 use Rattle.forms.proofs.Items.{reads-items, kinds-alone, fewer-rows}
 use Rattle.tables.specs.Symbols.{symOf}
-use Rattle.places.specs.Places.{kindsOf}
+use Rattle.places.specs.Places.{cellAt, kindsOf}
+use Rattle.places.proofs.Laws.{cell-in}
 use Rattle.pieces.proofs.Laws.{kinds-length}
 use Rattle.tree.specs.declared.Found.{Found}
 use Rattle.tree.specs.declared.Found.the-variants.{Whole, Wrong, Other, Over}
-use Rattle.tree.specs.Answers.{terminalsOf, wordsOf}
+use Rattle.tree.specs.Answers.{terminalsIn, terminalsOf, wordsOf}
 use Rattle.tree.specs.Held.{Spans, Starts, Tells}
-use Rattle.tree.specs.Items.{unlike, terminalsIn, readingBy, readingOfPiece, rowsRead, rowsOfPiece, startOf}
+use Rattle.tree.specs.Items.{unlike, readingBy, readingOfPiece, rowsRead, rowsOfPiece, startOf}
+use Rattle.tree.proofs.Lists.{terminals-length}
 
 clash : {A : Type 0} → _≡_ {A = ℕ} 0 1 → A
 clash z = absurd (omega arith)
@@ -52,13 +54,8 @@ known k from e = go (eqb k 53) (eqb k 129) e
     go false false e = inl (e, λ w. refl)
 
 terminals-kinds : (n : ℕ) (t : List ℕ) → terminalsOf n t ≡ terminalsIn (kindsOf n t)
-unfolding terminalsOf kindsOf
-terminals-kinds zero t = refl
-terminals-kinds (suc n) t = ap (λ (l : List ℕ). terminalOf (getD t 0 0) ∷ l) (terminals-kinds n (drop 3 t))
-
-pub terminals-length : (p : List ℕ) → length (terminalsIn p) ≡ length p
-terminals-length [] = refl
-terminals-length (k ∷ p) = ap suc (terminals-length p)
+unfolding terminalsOf
+terminals-kinds n t = refl
 
 first-kind : (n : ℕ) (t : List ℕ) → 1 ≤ n → getD (kindsOf n t) 0 0 ≡ getD t 0 0
 unfolding kindsOf
@@ -83,6 +80,10 @@ few p spent e = omega arith
 pub rows-few : (p : List ℕ) → length (rowsOfPiece p) ≤ length p
 unfolding rowsOfPiece
 rows-few p = few p (readingOfPiece p) refl
+
+-- the start by the first row's kind
+pub start-of-first : (t : List ℕ) (from k : ℕ) → 1 ≤ length t / 3 → from ≡ startOf k → k ≡ cellAt t 0 0 → from ≡ startOf (getD t 0 0)
+start-of-first t from k h e q = e ∙ ap startOf (q ∙ sym (cell-in t 0 0 h))
 
 module _ (size from : ℕ) (t : List ℕ) (some : 1 ≤ size) (e : from ≡ startOf (getD t 0 0)) where
   told-by : Known from (readingBy (getD t 0 0))

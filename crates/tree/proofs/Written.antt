@@ -8,7 +8,7 @@ use lib.Seq.{sets, drop-drop, take-at, drop-at, length-take-le}
 use Rattle.classes.proofs.Laws.{part-rest}
 use Rattle.pieces.specs.Cutting.{pieceSize, cut}
 use Rattle.pieces.specs.Kinds.{piecesOf, closesPiece, opensPiece}
-use Rattle.places.specs.Places.{kindsOf}
+use Rattle.places.specs.Places.{rowsFrom, kindsOf}
 use Rattle.pieces.proofs.Laws.{kinds-length, past, size-some, size-inside, at-less, first-piece}
 use Rattle.tree.specs.Answers.{wordsOf}
 use Rattle.tree.specs.Items.{rowsOfPiece, pieceWords, itemWords, itemsIn, itemRows}
@@ -63,8 +63,8 @@ module _ (n : ℕ) (t : List ℕ) (at r words : ℕ) (room : 3 * n ≤ length t)
   pub turn-less : n - (at + r) < n - at
   turn-less = at-less n t at r sized l
 
-  pub turn-part : 3 * r ≤ length (take (length t - 3 * at) (drop (3 * at) t))
-  turn-part = part-size t (3 * at) (3 * r) (omega (arith, turn-inside))
+  pub turn-part : (part : List ℕ) → part ≡ rowsFrom t at → 3 * r ≤ length part
+  turn-part part q = omega (arith, turn-inside, ap length q, length-drop (3 * at) t)
 
   pub turn-room : (rows : List ℕ) → length rows ≡ words → 5 * r ≤ length (take (length rows - 5 * at) (drop (5 * at) rows))
   turn-room rows h = part-size rows (5 * at) (5 * r) (omega (arith, turn-inside))
@@ -75,8 +75,8 @@ module _ (n : ℕ) (t : List ℕ) (at r words : ℕ) (room : 3 * n ≤ length t)
   piece-length : length piece ≡ r
   piece-length = length-take-le r (drop at (kindsOf n t)) (omega (arith, turn-inside, length-drop at (kindsOf n t), kinds-length n t))
 
-  piece-kinds : kindsOf r (take (length t - 3 * at) (drop (3 * at) t)) ≡ piece
-  piece-kinds = ap (kindsOf r) (part-rest t (3 * at)) ∙ kinds-part n at r t turn-inside
+  piece-kinds : (part : List ℕ) → part ≡ rowsFrom t at → kindsOf r part ≡ piece
+  piece-kinds part q = ap (kindsOf r) q ∙ kinds-part n at r t turn-inside
 
   few : length (rowsOfPiece piece) ≤ r
   few = subst (λ (x : ℕ). length (rowsOfPiece piece) ≤ x) piece-length (rows-few piece)
@@ -94,8 +94,8 @@ module _ (n : ℕ) (t : List ℕ) (at r words : ℕ) (room : 3 * n ≤ length t)
       ∙ ap (λ (k : List ℕ). wordsOf (rowsOfPiece piece) ++ k) (ap zeros z ∙ zeros-append a (words - 5 * (at + r)))
       ∙ sym (append-assoc (wordsOf (rowsOfPiece piece)) (zeros a) (zeros (words - 5 * (at + r))))
 
-  module _ (rows ys : List ℕ) (h : length rows ≡ words) (g : Written n t rows words at)
-      (w : ys ≡ sets (take (length rows - 5 * at) (drop (5 * at) rows)) 0 (wordsOf (rowsOfPiece (kindsOf r (take (length t - 3 * at) (drop (3 * at) t)))))) where
+  module _ (part rows ys : List ℕ) (q : part ≡ rowsFrom t at) (h : length rows ≡ words) (g : Written n t rows words at)
+      (w : ys ≡ sets (take (length rows - 5 * at) (drop (5 * at) rows)) 0 (wordsOf (rowsOfPiece (kindsOf r part)))) where
     behind : drop (5 * at) rows ≡ zeros (words - 5 * at)
     behind = ap (drop (5 * at)) (g .stands) ∙ drop-at (g .ready) (zeros (words - 5 * at)) (5 * at) (g .many)
 
@@ -105,7 +105,7 @@ module _ (n : ℕ) (t : List ℕ) (at r words : ℕ) (room : 3 * n ≤ length t)
     filled-part : ys ≡ pieceWords piece ++ zeros (words - 5 * (at + r))
     filled-part =
         w
-        ∙ ap₂ (λ (x y : List ℕ). sets x 0 (wordsOf (rowsOfPiece y))) (part-rest rows (5 * at) ∙ behind) piece-kinds
+        ∙ ap₂ (λ (x y : List ℕ). sets x 0 (wordsOf (rowsOfPiece y))) (part-rest rows (5 * at) ∙ behind) (piece-kinds part q)
         ∙ stored
 
     past-end : drop (length rows - 5 * at) (drop (5 * at) rows) ≡ []

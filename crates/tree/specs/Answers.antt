@@ -4,8 +4,9 @@ use Prim.Native.Nat.{ℕ, zero, suc, _-_, _*_, _/_, min}
 use mathlib.Core.Bool.{Bool, true, false}
 use mathlib.Core.List.{List, [], _∷_, _++_}
 use lib.Dec.{leb}
-use lib.ListN.{length, getD, drop, replicate}
+use lib.ListN.{length, replicate}
 use Rattle.places.specs.Sizes.{mostElements}
+use Rattle.places.specs.Places.{rowsIn, kindsOf}
 use Rattle.ll.specs.Actions.{End, read, bad, stopped, spent}
 use Rattle.alike.specs.Alike.{sameName}
 use Rattle.forms.specs.Kinds.{terminalOf}
@@ -16,12 +17,16 @@ use Rattle.tree.specs.declared.Answer.the-variants.{Tree, NoFile, NameDi
 
 -- how many elements count: no more than the table has, and no more than 8,192 (01, "What the reader covers")
 abbrev pub elementsIn : List ℕ → ℕ → ℕ
-elementsIn table count = min count (min (length table / 3) mostElements)
+elementsIn table count = min count (min (rowsIn table) mostElements)
 
--- what the first n elements of a table are to the forms
+-- what kinds are to the forms
+abbrev pub terminalsIn : List ℕ → List ℕ
+terminalsIn [] = []
+terminalsIn (k ∷ p) = terminalOf k ∷ terminalsIn p
+
+-- what the first n elements of a table are to them
 unfoldable pub terminalsOf : ℕ → List ℕ → List ℕ
-terminalsOf zero table = []
-terminalsOf (suc n) table = terminalOf (getD table 0 0) ∷ terminalsOf n (drop 3 table)
+terminalsOf n table = terminalsIn (kindsOf n table)
 
 -- the reading of the first n elements
 abbrev pub readingIn : List ℕ → List ℕ → ℕ → End State Refusal

@@ -7,22 +7,16 @@ use lib.Dec.{eqb}
 use lib.ListN.{length, getD, replicate}
 use Rattle.places.specs.Sizes.{mostElements}
 use Rattle.ll.specs.Actions.{End, read, bad, stopped, spent}
-use Rattle.forms.specs.Kinds.{terminalOf}
 use Rattle.forms.specs.Names.{constant, subtype}
 use Rattle.forms.specs.Tree.{Row, State, Refusal, rowsOf}
 use Rattle.forms.specs.Reading.{readingFrom}
 use Rattle.pieces.specs.Kinds.{piecesOf}
-use Rattle.places.specs.Places.{kindsOf}
-use Rattle.tree.specs.Answers.{wordsOf}
+use Rattle.places.specs.Places.{rowsIn, kindsOf}
+use Rattle.tree.specs.Answers.{terminalsIn, wordsOf}
 
 -- no name is like another: an item's rules compare none
 abbrev pub unlike : ℕ → ℕ → Bool
 unlike i j = false
-
--- what kinds are to the forms
-abbrev pub terminalsIn : List ℕ → List ℕ
-terminalsIn [] = []
-terminalsIn (k ∷ p) = terminalOf k ∷ terminalsIn p
 
 -- the reading of what begins with an element of kind k: a constant (53), a subtype (129), or nothing that is read
 abbrev pub readingBy : ℕ → List ℕ → End State Refusal
@@ -59,7 +53,7 @@ total (p ∷ ps) = length p + total ps
 
 -- how many elements count: no more than either table has, and no more than 8,192
 abbrev pub itemsIn : List ℕ → ℕ → ℕ → ℕ
-itemsIn table count words = min count (min (length table / 3) (min (words / 5) mostElements))
+itemsIn table count words = min count (min (rowsIn table) (min (words / 5) mostElements))
 
 -- the row table of so many words afterwards
 unfoldable pub itemRows : List ℕ → ℕ → ℕ → List ℕ

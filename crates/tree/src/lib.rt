@@ -3,6 +3,8 @@
 // tables and the arrays are made once, in `read_tree` and `read_items`, and lent: made anew at each use, or for each piece of a package,
 // they would cost more than all else.
 use places::MOST_ELEMENTS;
+use tables::KINDS;
+use tables::NAMES;
 ghost use mathlib.Core.Path.{_≡_};
 ghost use mathlib.Core.List.{List, [], _∷_, _++_};
 ghost use Prim.Native.Nat.{ℕ, _+_, _-_, _*_, _/_, _≤_, _<_, min};
@@ -16,12 +18,66 @@ ghost use Rattle.forms.specs.Tree.{State, Row, does};
 ghost use Rattle.forms.specs.Reading.{readingFrom};
 ghost use Rattle.alike.specs.Alike.{sameName};
 ghost use Rattle.tables.specs.Symbols.{symOf, syms};
-ghost use Rattle.tables.specs.Bytes.{kindBytes, pickBytes, sizeBytes, bodyBytes};
+ghost use Rattle.tables.specs.Bytes.{formBytes};
 ghost use Rattle.tree.specs.Answers.{elementsIn, terminalsOf, readingIn, wordsOf, answerOf, tableOf};
 ghost use Rattle.pieces.specs.Kinds.{piecesOf};
-ghost use Rattle.places.specs.Places.{kindsOf};
+ghost use Rattle.places.specs.Places.{rowWords, kindsOf};
 ghost use Rattle.tree.specs.Items.{startOf, rowsOfPiece, itemWords, itemsIn, itemRows};
 ghost use Rattle.tree.specs.Held.{Held, Spans, Done, Tells, Starts, usedAfter};
+
+// The stack's words, and the last of them; those of the frames, four to each, and where the outermost stands; and how many rows there may be,
+// of five words each.
+const STACK: usize = 2176;
+
+const BOTTOM: usize = STACK - 1;
+
+const FRAME: usize = 4;
+
+const FRAMES: usize = FRAME * 2177;
+
+const OUTERMOST: usize = FRAMES - FRAME;
+
+const ROW: usize = 5;
+
+const ROWS: usize = 10368;
+
+// Where the names and the actions begin among the symbols, and the names from which is read: a file, a constant and a subtype.
+const FIRST_NAME: u64 = KINDS as u64;
+
+const FIRST_ACTION: u64 = (KINDS + NAMES) as u64;
+
+const FILE: u64 = FIRST_NAME;
+
+const CONSTANT: u64 = FIRST_NAME + 14;
+
+const SUBTYPE: u64 = FIRST_NAME + 15;
+
+// The kind of the forms that is any other, and the kinds of the words constant and subtype.
+const OTHER: u64 = 67;
+
+const WORD_CONSTANT: u64 = 53;
+
+const WORD_SUBTYPE: u64 = 129;
+
+// The actions, by the names that the rules give them; from `ROW_OF` on, a row of each form.
+const OPENS: u64 = 0;
+
+const CLOSES: u64 = 1;
+
+const MARKS: u64 = 2;
+
+const NAMED: u64 = 3;
+
+const SAME: u64 = 4;
+
+const DEEPER: u64 = 5;
+
+const SHALLOWER: u64 = 6;
+
+const ROW_OF: u64 = 7;
+
+// "At most 32 .. stand open."
+const MOST_OPEN: usize = 32;
 
 // A tree and its rows; or 01's refusals 5, 6, 7 with their element, and 8 with the rows that the table has.
 pub enum Answer {
@@ -65,47 +121,47 @@ fn wide(x: u8) -> u64
 }
 
 // What the next element is to the forms, 0 at the end.
-fn next_kind(kinds: &[u8], elements: &[u64], count: usize, at: usize) -> u64
-    requires { ⌜ (now kinds ≡ kindBytes) × (3 * count ≤ length (now elements)) ⌝ }
+fn next_kind(forms: &[u8], elements: &[u64], count: usize, at: usize) -> u64
+    requires { ⌜ (now forms ≡ formBytes) × (rowWords * count ≤ length (now elements)) ⌝ }
     ensures { λ r. ⌜ r ≡ look (drop at (terminalsOf count (now (elements .entry)))) ⌝ }
 {
     if count <= at {
         return 0;
     }
-    let kind = elements[3 * at];
-    if kind < 148 {
-        return wide(kinds[kind as usize]);
+    let kind = places::kind_of(elements, at);
+    if kind < tables::ELEMENT_KINDS as u64 {
+        return wide(forms[kind as usize]);
     }
-    67
+    OTHER
 }
 
 // The rule for name n at the next kind t, its number and one more; 0 where there is none.
-fn pick(picks: &[u8], n: usize, t: u64) -> u64
-    requires { ⌜ (now picks ≡ pickBytes) × (n < 80) × (t < 68) ⌝ }
+fn pick(forms: &[u8], n: usize, t: u64) -> u64
+    requires { ⌜ (now forms ≡ formBytes) × (n < 80) × (t < 68) ⌝ }
     ensures { λ r. ⌜ r ≡ predict n t ⌝ }
 {
     let j = t as usize;
-    wide(picks[n * 68 + j])
+    wide(forms[tables::PICKS + n * KINDS + j])
 }
 
 // How many symbols rule p has.
-fn body_len(sizes: &[u8], p: usize) -> usize
-    requires { ⌜ (now sizes ≡ sizeBytes) × (p < 165) ⌝ }
+fn body_len(forms: &[u8], p: usize) -> usize
+    requires { ⌜ (now forms ≡ formBytes) × (p < 165) ⌝ }
     ensures { λ r. ⌜ r ≡ length (body p) ⌝ }
 {
-    wide(sizes[p]) as usize
+    wide(forms[tables::SIZES + p]) as usize
 }
 
 // Puts rule p's symbols on the stack, which grows downwards.
-fn push(bodies: &[u8], stk: &mut [u64], sp: usize, p: usize, m: usize)
-    requires { ⌜ (m ≡ length (body p)) × (m ≤ sp) × (sp ≤ length (now stk)) × (now bodies ≡ bodyBytes) ⌝ }
+fn push(forms: &[u8], stk: &mut [u64], sp: usize, p: usize, m: usize)
+    requires { ⌜ (m ≡ length (body p)) × (m ≤ sp) × (sp ≤ length (now stk)) × (now forms ≡ formBytes) ⌝ }
     ensures { λ _. ⌜ syms (drop (sp - m) (now (stk .exit))) ≡ body p ++ syms (drop sp (now (stk .entry))) ⌝ }
 {
     let base = sp - m;
     let mut i = m;
     while 0 < i {
         i -= 1;
-        let x = wide(bodies[p * 16 + i]);
+        let x = wide(forms[tables::BODIES + p * tables::LINE + i]);
         stk[base + i] = x;
     }
 }
@@ -126,7 +182,7 @@ fn put_row(
     requires { ⌜ (5 * used + 5 ≤ length (now cells)) × (used < length (now next)) × (used + 1 < length (now heads)) × (base ≤ used) ⌝ }
     ensures { λ _. ⌜ (now (cells .exit) ≡ sets (now (cells .entry)) (5 * used) (form ∷ first ∷ count ∷ rows ∷ operator ∷ [])) × (now (next .exit) ≡ set (now (next .entry)) used (getD (now (heads .entry)) base 0)) × (now (heads .exit) ≡ set (set (now (heads .entry)) base (used + 1)) (used + 1) 0) ⌝ }
 {
-    let at = 5 * used;
+    let at = ROW * used;
     cells[at] = form;
     cells[at + 1] = first;
     cells[at + 2] = count;
@@ -154,15 +210,15 @@ fn do_act(
     requires { ⌜ (4 ≤ fp) × (fp + 4 ≤ length (now frames)) × (5 * used + 5 ≤ length (now cells)) × (used < length (now next)) × (used + 1 < length (now heads)) × (used < 1000000) × (depth ≤ 32) × (getD (now frames) (fp + 2) 0 ≤ used) ⌝ }
     ensures { λ r. ⌜ ((s : State) → Held (now (frames .entry)) (now (cells .entry)) (now (next .entry)) (now (heads .entry)) fp used (s .frames) → s .depth ≡ depth → Done r (now (frames .exit)) (now (cells .exit)) (now (next .exit)) (now (heads .exit)) (usedAfter a used) (does (sameName (now (text .entry)) (now (elements .entry))) a k s)) ⌝ }
 {
-    if a == 0 {
-        let p = fp - 4;
+    if a == OPENS {
+        let p = fp - FRAME;
         frames[p] = k;
         frames[p + 1] = k;
         frames[p + 2] = used as u64;
         frames[p + 3] = 0;
         return Did::Went(Moved { fp: p, depth, used });
     }
-    if a == 1 {
+    if a == CLOSES {
         if fp + 8 <= frames.len() {
             return Did::Went(Moved {
                 fp: fp + 4,
@@ -172,15 +228,15 @@ fn do_act(
         }
         return Did::Went(Moved { fp, depth, used });
     }
-    if a == 2 {
+    if a == MARKS {
         frames[fp + 1] = minus(k, 1);
         return Did::Went(Moved { fp, depth, used });
     }
-    if a == 3 {
+    if a == NAMED {
         frames[fp + 3] = k;
         return Did::Went(Moved { fp, depth, used });
     }
-    if a == 4 {
+    if a == SAME {
         let n = frames[fp + 3];
         if n == 0 {
             return Did::Differs;
@@ -190,8 +246,8 @@ fn do_act(
         }
         return Did::Differs;
     }
-    if a == 5 {
-        if depth < 32 {
+    if a == DEEPER {
+        if depth < MOST_OPEN {
             return Did::Went(Moved {
                 fp,
                 depth: depth + 1,
@@ -200,7 +256,7 @@ fn do_act(
         }
         return Did::Deep;
     }
-    if a == 6 {
+    if a == SHALLOWER {
         return Did::Went(Moved {
             fp,
             depth: minus(depth as u64, 1) as usize,
@@ -212,7 +268,18 @@ fn do_act(
     let base = frames[fp + 2] as usize;
     let count = minus(k, i);
     let rows = (used - base + 1) as u64;
-    put_row(cells, next, heads, used, base, a - 7, i, count, rows, o);
+    put_row(
+        cells,
+        next,
+        heads,
+        used,
+        base,
+        a - ROW_OF,
+        i,
+        count,
+        rows,
+        o,
+    );
     Did::Went(Moved {
         fp,
         depth,
@@ -225,11 +292,11 @@ fn begin(from: u64, stk: &mut [u64], frames: &mut [u64], heads: &mut [u64])
     requires { ⌜ (length (now stk) ≡ 2176) × (length (now frames) ≡ 8708) × (length (now heads) ≡ 10368) ⌝ }
     ensures { λ _. ⌜ (syms (drop 2175 (now (stk .exit))) ≡ symOf from ∷ []) × (drop 8704 (now (frames .exit)) ≡ 0 ∷ 0 ∷ 0 ∷ 0 ∷ []) × (getD (now (heads .exit)) 0 0 ≡ 0) ⌝ }
 {
-    stk[2175] = from;
-    frames[8704] = 0;
-    frames[8705] = 0;
-    frames[8706] = 0;
-    frames[8707] = 0;
+    stk[BOTTOM] = from;
+    frames[OUTERMOST] = 0;
+    frames[OUTERMOST + 1] = 0;
+    frames[OUTERMOST + 2] = 0;
+    frames[OUTERMOST + 3] = 0;
     heads[0] = 0;
 }
 
@@ -244,45 +311,42 @@ fn scan(
     cells: &mut [u64],
     next: &mut [u64],
     heads: &mut [u64],
-    kinds: &[u8],
-    picks: &[u8],
-    sizes: &[u8],
-    bodies: &[u8],
+    forms: &[u8],
 ) -> Found
-    requires { ⌜ (3 * count ≤ length (now elements)) × (count ≤ mostElements) × Starts from × (length (now stk) ≡ 2176) × (length (now frames) ≡ 8708) × (length (now cells) ≡ 51840) × (length (now next) ≡ 10368) × (length (now heads) ≡ 10368) × (now kinds ≡ kindBytes) × (now picks ≡ pickBytes) × (now sizes ≡ sizeBytes) × (now bodies ≡ bodyBytes) ⌝ }
+    requires { ⌜ (rowWords * count ≤ length (now elements)) × (count ≤ mostElements) × Starts from × (length (now stk) ≡ 2176) × (length (now frames) ≡ 8708) × (length (now cells) ≡ 51840) × (length (now next) ≡ 10368) × (length (now heads) ≡ 10368) × (now forms ≡ formBytes) ⌝ }
     ensures { λ r. ⌜ Tells r (now (cells .exit)) (now (next .exit)) (now (heads .exit)) (readingFrom (symOf from) (sameName (now (text .entry)) (now (elements .entry))) (terminalsOf count (now (elements .entry)))) ⌝ }
 {
     begin(from, stk, frames, heads);
-    let mut sp: usize = 2175;
-    let mut fp: usize = 8704;
+    let mut sp: usize = BOTTOM;
+    let mut fp: usize = OUTERMOST;
     let mut depth: usize = 0;
     let mut used: usize = 0;
     let mut at: usize = 0;
-    while sp < 2176 {
+    while sp < STACK {
         let top = stk[sp];
-        if top < 68 {
+        if top < FIRST_NAME {
             if count <= at {
                 return Found::Wrong(at);
             }
-            let t = next_kind(kinds, elements, count, at);
+            let t = next_kind(forms, elements, count, at);
             if top != t {
                 return Found::Wrong(at);
             }
             sp += 1;
             at += 1;
-        } else if top < 148 {
-            let t = next_kind(kinds, elements, count, at);
-            let q = pick(picks, (top - 68) as usize, t);
+        } else if top < FIRST_ACTION {
+            let t = next_kind(forms, elements, count, at);
+            let q = pick(forms, (top - FIRST_NAME) as usize, t);
             if q == 0 {
                 return Found::Wrong(at);
             }
             let p = (q - 1) as usize;
-            let m = body_len(sizes, p);
-            push(bodies, stk, sp + 1, p, m);
+            let m = body_len(forms, p);
+            push(forms, stk, sp + 1, p, m);
             sp = sp + 1 - m;
         } else {
             let r = do_act(
-                top - 148,
+                top - FIRST_ACTION,
                 at as u64,
                 text,
                 elements,
@@ -329,8 +393,8 @@ fn write_out(cells: &[u64], next: &[u64], heads: &[u64], used: usize, tab: &mut 
             link = heads[base] as usize;
             base += 1;
         } else {
-            let from = 5 * (link - 1);
-            let to = 5 * out;
+            let from = ROW * (link - 1);
+            let to = ROW * out;
             tab[to] = cells[from];
             tab[to + 1] = cells[from + 1];
             tab[to + 2] = cells[from + 2];
@@ -356,18 +420,15 @@ pub fn read_tree(text: &[u8], elements: &[u64], count: usize, tree: &mut [u64]) 
     ensures { λ _. ⌜ now (tree .exit) ≡ tableOf (length (now (tree .entry))) (readingIn (now (text .entry)) (now (elements .entry)) (elementsIn (now (elements .entry)) count)) ⌝ }
 {
     lent::clear(tree);
-    let n = least(count, elements.len() / 3, MOST_ELEMENTS);
-    let mut stk = [0u64; 2176];
-    let mut frames = [0u64; 8708];
-    let mut cells = [0u64; 51840];
-    let mut next = [0u64; 10368];
-    let mut heads = [0u64; 10368];
-    let kinds = tables::kinds();
-    let picks = tables::picks();
-    let sizes = tables::sizes();
-    let bodies = tables::bodies();
+    let n = least(count, elements.len() / places::ROW_WORDS, MOST_ELEMENTS);
+    let mut stk = [0u64; STACK];
+    let mut frames = [0u64; FRAMES];
+    let mut cells = [0u64; ROW * ROWS];
+    let mut next = [0u64; ROWS];
+    let mut heads = [0u64; ROWS];
+    let forms = tables::forms();
     let found = scan(
-        68,
+        FILE,
         text,
         elements,
         n,
@@ -376,18 +437,15 @@ pub fn read_tree(text: &[u8], elements: &[u64], count: usize, tree: &mut [u64]) 
         &mut cells,
         &mut next,
         &mut heads,
-        &kinds,
-        &picks,
-        &sizes,
-        &bodies,
+        &forms,
     );
     match found {
         Found::Whole(used) => {
-            if used <= tree.len() / 5 {
+            if used <= tree.len() / ROW {
                 write_out(&cells, &next, &heads, used, tree);
                 Answer::Tree(used)
             } else {
-                Answer::TableShort(tree.len() / 5)
+                Answer::TableShort(tree.len() / ROW)
             }
         }
         Found::Wrong(k) => Answer::NoFile(k),
@@ -400,11 +458,11 @@ pub fn read_tree(text: &[u8], elements: &[u64], count: usize, tree: &mut [u64]) 
 fn start_of(kind: u64) -> u64
     ensures { λ r. ⌜ r ≡ startOf kind ⌝ }
 {
-    if kind == 53 {
-        return 82;
+    if kind == WORD_CONSTANT {
+        return CONSTANT;
     }
-    if kind == 129 {
-        return 83;
+    if kind == WORD_SUBTYPE {
+        return SUBTYPE;
     }
     0
 }
@@ -418,22 +476,19 @@ fn read_piece(
     cells: &mut [u64],
     next: &mut [u64],
     heads: &mut [u64],
-    kinds: &[u8],
-    picks: &[u8],
-    sizes: &[u8],
-    bodies: &[u8],
+    forms: &[u8],
     rows: &mut [u64],
 )
-    requires { ⌜ (1 ≤ size) × (3 * size ≤ length (now elements)) × (size ≤ mostElements) × (5 * size ≤ length (now rows)) × (length (now stk) ≡ 2176) × (length (now frames) ≡ 8708) × (length (now cells) ≡ 51840) × (length (now next) ≡ 10368) × (length (now heads) ≡ 10368) × (now kinds ≡ kindBytes) × (now picks ≡ pickBytes) × (now sizes ≡ sizeBytes) × (now bodies ≡ bodyBytes) ⌝ }
+    requires { ⌜ (1 ≤ size) × (rowWords * size ≤ length (now elements)) × (size ≤ mostElements) × (5 * size ≤ length (now rows)) × (length (now stk) ≡ 2176) × (length (now frames) ≡ 8708) × (length (now cells) ≡ 51840) × (length (now next) ≡ 10368) × (length (now heads) ≡ 10368) × (now forms ≡ formBytes) ⌝ }
     ensures { λ _. ⌜ now (rows .exit) ≡ sets (now (rows .entry)) 0 (wordsOf (rowsOfPiece (kindsOf size (now (elements .entry))))) ⌝ }
 {
-    let from = start_of(elements[0]);
+    let from = start_of(places::kind_of(elements, 0));
     if from == 0 {
         return;
     }
     let found = scan(
         from,
-        kinds,
+        forms,
         elements,
         size,
         stk,
@@ -441,10 +496,7 @@ fn read_piece(
         cells,
         next,
         heads,
-        kinds,
-        picks,
-        sizes,
-        bodies,
+        forms,
     );
     match found {
         Found::Whole(used) => {
@@ -465,32 +517,25 @@ fn read_pieces(
     cells: &mut [u64],
     next: &mut [u64],
     heads: &mut [u64],
-    kinds: &[u8],
-    picks: &[u8],
-    sizes: &[u8],
-    bodies: &[u8],
+    forms: &[u8],
     rows: &mut [u64],
 )
-    requires { ⌜ (3 * n ≤ length (now elements)) × (n ≤ mostElements) × (5 * n ≤ length (now rows)) × (now rows ≡ replicate (length (now rows)) 0) × (length (now stk) ≡ 2176) × (length (now frames) ≡ 8708) × (length (now cells) ≡ 51840) × (length (now next) ≡ 10368) × (length (now heads) ≡ 10368) × (now kinds ≡ kindBytes) × (now picks ≡ pickBytes) × (now sizes ≡ sizeBytes) × (now bodies ≡ bodyBytes) ⌝ }
+    requires { ⌜ (rowWords * n ≤ length (now elements)) × (n ≤ mostElements) × (5 * n ≤ length (now rows)) × (now rows ≡ replicate (length (now rows)) 0) × (length (now stk) ≡ 2176) × (length (now frames) ≡ 8708) × (length (now cells) ≡ 51840) × (length (now next) ≡ 10368) × (length (now heads) ≡ 10368) × (now forms ≡ formBytes) ⌝ }
     ensures { λ _. ⌜ now (rows .exit) ≡ itemWords (piecesOf (kindsOf n (now (elements .entry)))) ++ replicate (length (now (rows .entry)) - 5 * n) 0 ⌝ }
 {
     let mut at: usize = 0;
     while at < n {
         let size = pieces::piece_size(elements, n, at);
-        let first = 3 * at;
-        let row = 5 * at;
+        let row = ROW * at;
         read_piece(
-            &elements[first..],
+            places::rows_from(elements, at),
             size,
             stk,
             frames,
             cells,
             next,
             heads,
-            kinds,
-            picks,
-            sizes,
-            bodies,
+            forms,
             &mut rows[row..],
         );
         at += size;
@@ -505,18 +550,15 @@ pub fn read_items(elements: &[u64], count: usize, rows: &mut [u64])
     lent::clear(rows);
     let n = least(
         count,
-        elements.len() / 3,
-        least(rows.len() / 5, MOST_ELEMENTS, MOST_ELEMENTS),
+        elements.len() / places::ROW_WORDS,
+        least(rows.len() / ROW, MOST_ELEMENTS, MOST_ELEMENTS),
     );
-    let mut stk = [0u64; 2176];
-    let mut frames = [0u64; 8708];
-    let mut cells = [0u64; 51840];
-    let mut next = [0u64; 10368];
-    let mut heads = [0u64; 10368];
-    let kinds = tables::kinds();
-    let picks = tables::picks();
-    let sizes = tables::sizes();
-    let bodies = tables::bodies();
+    let mut stk = [0u64; STACK];
+    let mut frames = [0u64; FRAMES];
+    let mut cells = [0u64; ROW * ROWS];
+    let mut next = [0u64; ROWS];
+    let mut heads = [0u64; ROWS];
+    let forms = tables::forms();
     read_pieces(
         elements,
         n,
@@ -525,10 +567,7 @@ pub fn read_items(elements: &[u64], count: usize, rows: &mut [u64])
         &mut cells,
         &mut next,
         &mut heads,
-        &kinds,
-        &picks,
-        &sizes,
-        &bodies,
+        &forms,
         rows,
     );
 }

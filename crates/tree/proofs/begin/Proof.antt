@@ -12,11 +12,29 @@ slice-write-stk c = search needs
 slice-write-frames : tie.Need-slice-write-frames
 slice-write-frames c = search needs
 
+add-frames : tie.Need-add-frames
+add-frames c = search needs
+
+mul-frames : tie.Need-mul-frames
+mul-frames c = search needs
+
 slice-write-frames-2 : tie.Need-slice-write-frames-2
 slice-write-frames-2 c = search needs
 
+add-frames-2 : tie.Need-add-frames-2
+add-frames-2 c = search needs
+
+mul-frames-2 : tie.Need-mul-frames-2
+mul-frames-2 c = search needs
+
 slice-write-frames-3 : tie.Need-slice-write-frames-3
 slice-write-frames-3 c = search needs
+
+add-frames-3 : tie.Need-add-frames-3
+add-frames-3 c = search needs
+
+mul-frames-3 : tie.Need-mul-frames-3
+mul-frames-3 c = search needs
 
 slice-write-frames-4 : tie.Need-slice-write-frames-4
 slice-write-frames-4 c = search needs
@@ -42,8 +60,14 @@ begin-spec =
     (tie.spec
     slice-write-stk
     slice-write-frames
+    add-frames
+    mul-frames
     slice-write-frames-2
+    add-frames-2
+    mul-frames-2
     slice-write-frames-3
+    add-frames-3
+    mul-frames-3
     slice-write-frames-4
     slice-write-heads
     same-length

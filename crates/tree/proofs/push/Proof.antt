@@ -7,22 +7,25 @@ use mathlib.Core.List.{_++_}
 use lib.ListN.{length, drop, length-set}
 use Rattle.forms.specs.Rules.{body}
 use Rattle.tables.specs.Symbols.{symOf, syms}
-use Rattle.tables.proofs.Lines.{ruled, body-place, bodies-size, body-is}
+use Rattle.tables.proofs.Tables.{forms-size}
+use Rattle.tables.proofs.Lines.{ruled, body-place, body-is}
 use Rattle.tree.proofs.Lists.{push-start, push-more, push-end}
 use Rattle.tree.proofs.push.Statement.{statement}
 use Rattle.tree.proofs.push.Tie as tie
 
 abbrev Inv-loop : tie.InvT-loop
-Inv-loop bodies stk₀ sp p m base i₀ stk i = (i ≤ m) × (length stk ≡ length stk₀) × (syms (drop (base + i) stk) ≡ drop i (body p) ++ syms (drop sp stk₀))
+Inv-loop forms stk₀ sp p m base i₀ stk i = (i ≤ m) × (length stk ≡ length stk₀) × (syms (drop (base + i) stk) ≡ drop i (body p) ++ syms (drop sp stk₀))
 
 abbrev μ-loop : tie.MeasureT-loop
-μ-loop bodies stk₀ sp p m base i₀ stk i = i
+μ-loop forms stk₀ sp p m base i₀ stk i = i
 
 sub-base : tie.Need-sub-base Inv-loop μ-loop
 sub-base c = omega arith
 
 loop-holds : tie.Need-loop-holds Inv-loop μ-loop
-loop-holds c = (omega arith, refl, push-start (c .before .before .args .stk .now) (body (c .before .before .args .p)) (c .before .before .args .sp) (c .before .before .args .m) (c .before .before .pre .0) (c .before .before .pre .1))
+loop-holds c =
+    let start = c .before .before in
+    (omega arith, refl, push-start (start .args .stk .now) (body (start .args .p)) (start .args .sp) (start .args .m) (start .pre .0) (start .pre .1))
 
 sub-i : tie.Need-sub-i Inv-loop μ-loop
 sub-i c = omega arith
@@ -31,10 +34,16 @@ mul-wide : tie.Need-mul-wide Inv-loop μ-loop
 mul-wide c = let r = ruled (c .before .before .before .before .args .p) (c .before .loop .i - 1) (omega arith) in omega (arith, r .0)
 
 add-wide : tie.Need-add-wide Inv-loop μ-loop
-add-wide c = omega (arith, body-place (c .before .before .before .before .args .p) (c .before .loop .i - 1) (omega arith))
+add-wide c = let r = ruled (c .before .before .before .before .args .p) (c .before .loop .i - 1) (omega arith) in omega (arith, r .0)
+
+add-wide-2 : tie.Need-add-wide-2 Inv-loop μ-loop
+add-wide-2 c = omega (arith, body-place (c .before .before .before .before .args .p) (c .before .loop .i - 1) (omega arith))
 
 shared-slice-read-wide : tie.Need-shared-slice-read-wide Inv-loop μ-loop
-shared-slice-read-wide c = omega (arith, body-place (c .before .before .before .before .before .args .p) (c .before .before .loop .i - 1) (omega arith), bodies-size (c .before .before .before .before .before .pre .3))
+shared-slice-read-wide c =
+    let at-loop = c .before .before in
+    let start = at-loop .before .before .before in
+    omega (arith, body-place (start .args .p) (at-loop .loop .i - 1) (omega arith), forms-size (start .pre .3))
 
 wide-requires : tie.Need-wide-requires Inv-loop μ-loop
 wide-requires c κs = search needs
@@ -52,18 +61,23 @@ loop-less : tie.Need-loop-less Inv-loop μ-loop
 loop-less c = omega arith
 
 loop-again : tie.Need-loop-again Inv-loop μ-loop
-loop-again c = (
-  omega arith,
-  simp length-set (c .before .before .before .loop .inv .1),
-  push-more (c .before .before .before .loop .stk) (body (c .before .before .before .before .before .before .args .p)) (syms (drop (c .before .before .before .before .before .before .args .sp) (c .before .before .before .before .before .before .args .stk .now))) (c .before .before .before .before .before .before .args .sp - c .before .before .before .before .before .before .args .m) (c .before .before .before .loop .i) (c .before .before .before .loop .i - 1) (c .wide .result)
-      (omega arith) (omega arith) (omega arith) (ap symOf (c .wide .ensures) ∙ body-is (c .before .before .before .before .before .before .pre .3) (c .before .before .before .before .before .before .args .p) (c .before .before .before .loop .i - 1) (omega arith)) (c .before .before .before .loop .inv .2),
-)
+loop-again c =
+    let at-loop = c .before .before .before in
+    let start = at-loop .before .before .before in (
+      omega arith,
+      simp length-set (at-loop .loop .inv .1),
+      push-more (at-loop .loop .stk) (body (start .args .p)) (syms (drop (start .args .sp) (start .args .stk .now))) (start .args .sp - start .args .m) (at-loop .loop .i) (at-loop .loop .i - 1) (c .wide .result)
+          (omega arith) (omega arith) (omega arith) (ap symOf (c .wide .ensures) ∙ body-is (start .pre .3) (start .args .p) (at-loop .loop .i - 1) (omega arith)) (at-loop .loop .inv .2),
+    )
 
 same-length : tie.Need-same-length Inv-loop μ-loop
 same-length c = c .before .loop .inv .1
 
 returns : tie.Need-returns Inv-loop μ-loop
-returns c = push-end (c .before .loop .stk) (body (c .before .before .before .before .args .p)) (syms (drop (c .before .before .before .before .args .sp) (c .before .before .before .before .args .stk .now))) (c .before .before .before .before .args .sp - c .before .before .before .before .args .m) (c .before .loop .i) (omega arith) (c .before .loop .inv .2)
+returns c =
+    let at-loop = c .before in
+    let start = at-loop .before .before .before in
+    push-end (at-loop .loop .stk) (body (start .args .p)) (syms (drop (start .args .sp) (start .args .stk .now))) (start .args .sp - start .args .m) (at-loop .loop .i) (omega arith) (at-loop .loop .inv .2)
 
 pub push-spec : {M : Type 1} → statement M
 push-spec =
@@ -76,6 +90,7 @@ push-spec =
     sub-i
     mul-wide
     add-wide
+    add-wide-2
     shared-slice-read-wide
     wide-requires
     add-stk

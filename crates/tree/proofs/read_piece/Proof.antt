@@ -1,35 +1,47 @@
 -- Where the piece is one that is read, what the scan found decides the rows, by the laws of Pieces. Assumes nothing.
 use mathlib.Core.Path.{_∙_}
 use native.Mathlib.Omega.{arith}
-use Rattle.tree.proofs.Pieces.{starts, piece-unread, piece-asks, piece-written, piece-wrong, piece-other, piece-over}
+use Rattle.tree.proofs.Pieces.{start-of-first, starts, piece-unread, piece-asks, piece-written, piece-wrong, piece-other, piece-over}
 use borrow.Author.Needs.{needs}
 use Rattle.tree.proofs.read_piece.Statement.{statement}
 use Rattle.tree.proofs.read_piece.Tie as tie
 
-shared-slice-read-start-of : tie.Need-shared-slice-read-start-of
-shared-slice-read-start-of c = search needs
+kind-of-requires : tie.Need-kind-of-requires
+kind-of-requires c κs = search needs
 
 start-of-requires : tie.Need-start-of-requires
 start-of-requires c κs = search needs
 
 returns : tie.Need-returns
-returns c = piece-unread (c .before .before .before .before .before .before .before .before .before .before .before .before .before .before .args .size) (c .before .start-of .result) (c .before .before .before .before .before .before .before .before .before .before .before .before .before .before .args .elements .now) (c .before .before .before .before .before .before .before .before .before .before .before .before .before .before .pre .0) (c .before .start-of .ensures) (c .if1 .taken) (c .before .before .before .before .before .before .before .before .before .before .before .before .before .before .args .rows .now)
+returns c =
+    let at-start-of = c .before in
+    let start = at-start-of .before .before .before .before .before .before .before .before .before .before in
+    piece-unread (start .args .size) (at-start-of .start-of .result) (start .args .elements .now) (start .pre .0) (start-of-first _ _ _ (omega arith) (at-start-of .start-of .ensures) (at-start-of .before .kind-of .ensures)) (c .if1 .taken) (start .args .rows .now)
 
 scan-requires : tie.Need-scan-requires
-scan-requires c κs = (c .before .before .before .before .before .before .before .before .before .before .before .before .before .before .before .before .before .before .before .pre .1, c .before .before .before .before .before .before .before .before .before .before .before .before .before .before .before .before .before .before .before .pre .2, starts (c .before .before .before .before .before .before .before .before .before .before .before .before .before .before .before .before .before .before .before .args .size) (c .before .before .before .before .before .before .start-of .result) (c .before .before .before .before .before .before .before .before .before .before .before .before .before .before .before .before .before .before .before .args .elements .now) (c .before .before .before .before .before .before .before .before .before .before .before .before .before .before .before .before .before .before .before .pre .0) (c .before .before .before .before .before .before .start-of .ensures) (c .before .before .before .before .before .if1 .left), c .before .before .before .before .before .before .before .before .before .before .before .before .before .before .before .before .before .before .before .pre .4, c .before .before .before .before .before .before .before .before .before .before .before .before .before .before .before .before .before .before .before .pre .5, c .before .before .before .before .before .before .before .before .before .before .before .before .before .before .before .before .before .before .before .pre .6, c .before .before .before .before .before .before .before .before .before .before .before .before .before .before .before .before .before .before .before .pre .7, c .before .before .before .before .before .before .before .before .before .before .before .before .before .before .before .before .before .before .before .pre .8, c .before .before .before .before .before .before .before .before .before .before .before .before .before .before .before .before .before .before .before .pre .9, c .before .before .before .before .before .before .before .before .before .before .before .before .before .before .before .before .before .before .before .pre .10, c .before .before .before .before .before .before .before .before .before .before .before .before .before .before .before .before .before .before .before .pre .11, c .before .before .before .before .before .before .before .before .before .before .before .before .before .before .before .before .before .before .before .pre .12)
+scan-requires c κs =
+    let at-if1 = c .before .before .before .before .before in
+    let at-start-of = at-if1 .before in
+    let start = at-start-of .before .before .before .before .before .before .before .before .before .before in
+    (start .pre .1, start .pre .2, starts (start .args .size) (at-start-of .start-of .result) (start .args .elements .now) (start .pre .0) (start-of-first _ _ _ (omega arith) (at-start-of .start-of .ensures) (at-start-of .before .kind-of .ensures)) (at-if1 .if1 .left), start .pre .4, start .pre .5, start .pre .6, start .pre .7, start .pre .8, start .pre .9)
 
 enum-known-found : tie.Need-enum-known-found
 enum-known-found c = search needs
 
 write-out-requires : tie.Need-write-out-requires
 write-out-requires c κs =
-    let w = piece-asks (c .before .before .before .before .before .before .before .before .before .before .before .before .before .before .before .before .before .before .before .before .before .before .before .before .before .before .before .before .before .before .before .before .before .before .before .before .before .args .size) (c .before .before .before .before .before .before .before .before .before .before .before .before .before .before .before .before .before .before .before .before .before .before .before .before .start-of .result) (c .before .before .before .before .before .before .before .before .before .before .before .before .before .before .before .before .before .before .before .before .before .before .before .before .before .before .before .before .before .before .before .before .before .before .before .before .before .args .elements .now) (c .before .before .before .before .before .before .before .before .before .before .before .before .before .before .before .before .before .before .before .before .before .before .before .before .before .before .before .before .before .before .before .before .before .before .before .before .before .pre .0) (c .before .before .before .before .before .before .before .before .before .before .before .before .before .before .before .before .before .before .before .before .before .before .before .before .start-of .ensures) (c .before .before .before .before .before .before .before .before .before .before .before .before .before .before .before .before .before .scan .result) (c .before .before .before .before .before .before .before .before .before .before .before .before .before .before .before .before .before .scan .last .1 .1 .1 .1 .1 .1 .0) (c .before .before .before .before .before .before .before .before .before .before .before .before .before .before .before .before .before .scan .last .1 .1 .1 .1 .1 .1 .1 .0) (c .before .before .before .before .before .before .before .before .before .before .before .before .before .before .before .before .before .scan .last .1 .1 .1 .1 .1 .1 .1 .1 .0) (c .before .before .before .before .before .before .before .before .before .before .before .before .before .before .before .before .before .before .before .before .before .before .before .before .before .before .before .before .before .before .before .before .before .before .before .before .before .args .kinds .now) (c .before .before .before .before .before .before .before .before .before .before .before .before .before .before .before .before .before .before .before .before .before .before .before .if1 .left) (c .before .before .before .before .before .before .before .before .before .before .before .before .before .before .before .before .before .scan .ensures) (c .before .before .before .before .before .found .given .0 .0) (c .before .before .before .before .before .found .given .1) in
+    let at-found = c .before .before .before .before .before in
+    let at-scan = at-found .before .before .before .before .before .before .before .before .before .before .before .before in
+    let at-if1 = at-scan .before .before .before .before .before .before in
+    let at-start-of = at-if1 .before in
+    let start = at-start-of .before .before .before .before .before .before .before .before .before .before in
+    let w = piece-asks (start .args .size) (at-start-of .start-of .result) (start .args .elements .now) (start .pre .0) (start-of-first _ _ _ (omega arith) (at-start-of .start-of .ensures) (at-start-of .before .kind-of .ensures)) (at-scan .scan .result) (at-scan .scan .last .1 .1 .1 .1 .1 .1 .0) (at-scan .scan .last .1 .1 .1 .1 .1 .1 .1 .0) (at-scan .scan .last .1 .1 .1 .1 .1 .1 .1 .1 .0) (start .args .forms .now) (at-if1 .if1 .left) (at-scan .scan .ensures) (at-found .found .given .0 .0) (at-found .found .given .1) in
     let u = w .1 in
-    let kc = c .before .before .before .before .before .before .before .before .before .before .before .before .before .before .before .before .before .scan .kept .1 .1 .1 .1 .1 .1 .0 ∙ c .before .before .before .before .before .before .before .before .before .before .before .before .before .before .before .before .before .before .before .before .before .before .before .before .before .before .before .before .before .before .before .before .before .before .before .before .before .pre .6 in
-    let kn = c .before .before .before .before .before .before .before .before .before .before .before .before .before .before .before .before .before .scan .kept .1 .1 .1 .1 .1 .1 .1 .0 ∙ c .before .before .before .before .before .before .before .before .before .before .before .before .before .before .before .before .before .before .before .before .before .before .before .before .before .before .before .before .before .before .before .before .before .before .before .before .before .pre .7 in
-    let kh = c .before .before .before .before .before .before .before .before .before .before .before .before .before .before .before .before .before .scan .kept .1 .1 .1 .1 .1 .1 .1 .1 .0 ∙ c .before .before .before .before .before .before .before .before .before .before .before .before .before .before .before .before .before .before .before .before .before .before .before .before .before .before .before .before .before .before .before .before .before .before .before .before .before .pre .8 in
-    let ks = c .before .before .before .before .before .before .before .before .before .before .before .before .before .before .before .before .before .before .before .before .before .before .before .before .before .before .before .before .before .before .before .before .before .before .before .before .before .pre .2 in
-    let kr = c .before .before .before .before .before .before .before .before .before .before .before .before .before .before .before .before .before .before .before .before .before .before .before .before .before .before .before .before .before .before .before .before .before .before .before .before .before .pre .3 in
+    let kc = at-scan .scan .kept .1 .1 .1 .1 .1 .1 .0 ∙ start .pre .6 in
+    let kn = at-scan .scan .kept .1 .1 .1 .1 .1 .1 .1 .0 ∙ start .pre .7 in
+    let kh = at-scan .scan .kept .1 .1 .1 .1 .1 .1 .1 .1 .0 ∙ start .pre .8 in
+    let ks = start .pre .2 in
+    let kr = start .pre .3 in
     (w .0, omega arith, omega arith, omega arith, omega arith, omega arith, w .2)
 
 enum-known-found-2 : tie.Need-enum-known-found-2
@@ -60,7 +72,14 @@ same-length-6 : tie.Need-same-length-6
 same-length-6 c = search needs
 
 returns-2 : tie.Need-returns-2
-returns-2 c = piece-written (c .before .before .before .before .before .before .before .before .before .before .before .before .before .before .before .before .before .before .before .before .before .before .before .before .before .before .before .before .before .before .before .before .before .before .before .before .before .before .before .before .args .size) (c .before .before .before .before .before .before .before .before .before .before .before .before .before .before .before .before .before .before .before .before .before .before .before .before .before .before .before .start-of .result) (c .before .before .before .before .before .before .before .before .before .before .before .before .before .before .before .before .before .before .before .before .before .before .before .before .before .before .before .before .before .before .before .before .before .before .before .before .before .before .before .before .args .elements .now) (c .before .before .before .before .before .before .before .before .before .before .before .before .before .before .before .before .before .before .before .before .before .before .before .before .before .before .before .before .before .before .before .before .before .before .before .before .before .before .before .before .pre .0) (c .before .before .before .before .before .before .before .before .before .before .before .before .before .before .before .before .before .before .before .before .before .before .before .before .before .before .before .start-of .ensures) (c .before .before .before .before .before .before .before .before .before .before .before .before .before .before .before .before .before .before .before .before .scan .result) (c .before .before .before .before .before .before .before .before .before .before .before .before .before .before .before .before .before .before .before .before .scan .last .1 .1 .1 .1 .1 .1 .0) (c .before .before .before .before .before .before .before .before .before .before .before .before .before .before .before .before .before .before .before .before .scan .last .1 .1 .1 .1 .1 .1 .1 .0) (c .before .before .before .before .before .before .before .before .before .before .before .before .before .before .before .before .before .before .before .before .scan .last .1 .1 .1 .1 .1 .1 .1 .1 .0) (c .before .before .before .before .before .before .before .before .before .before .before .before .before .before .before .before .before .before .before .before .before .before .before .before .before .before .before .before .before .before .before .before .before .before .before .before .before .before .before .before .args .kinds .now) (c .before .before .before .before .before .before .before .before .before .before .before .before .before .before .before .before .before .before .before .before .before .before .before .before .before .before .if1 .left) (c .before .before .before .before .before .before .before .before .before .before .before .before .before .before .before .before .before .before .before .before .scan .ensures) (c .before .before .before .before .before .before .before .before .found .given .0 .0) (c .before .before .before .before .before .before .before .before .before .before .before .before .before .before .before .before .before .before .before .before .before .before .before .before .before .before .before .before .before .before .before .before .before .before .before .before .before .before .before .before .args .rows .now) (c .before .before .write-out .last .1 .1 .1 .1 .0) (c .before .before .before .before .before .before .before .before .found .given .1) (c .before .before .write-out .ensures)
+returns-2 c =
+    let at-write-out = c .before .before in
+    let at-found = at-write-out .before .before .before .before .before .before in
+    let at-scan = at-found .before .before .before .before .before .before .before .before .before .before .before .before in
+    let at-if1 = at-scan .before .before .before .before .before .before in
+    let at-start-of = at-if1 .before in
+    let start = at-start-of .before .before .before .before .before .before .before .before .before .before in
+    piece-written (start .args .size) (at-start-of .start-of .result) (start .args .elements .now) (start .pre .0) (start-of-first _ _ _ (omega arith) (at-start-of .start-of .ensures) (at-start-of .before .kind-of .ensures)) (at-scan .scan .result) (at-scan .scan .last .1 .1 .1 .1 .1 .1 .0) (at-scan .scan .last .1 .1 .1 .1 .1 .1 .1 .0) (at-scan .scan .last .1 .1 .1 .1 .1 .1 .1 .1 .0) (start .args .forms .now) (at-if1 .if1 .left) (at-scan .scan .ensures) (at-found .found .given .0 .0) (start .args .rows .now) (at-write-out .write-out .last .1 .1 .1 .1 .0) (at-found .found .given .1) (at-write-out .write-out .ensures)
 
 same-length-7 : tie.Need-same-length-7
 same-length-7 c = search needs
@@ -78,7 +97,13 @@ same-length-11 : tie.Need-same-length-11
 same-length-11 c = search needs
 
 returns-3 : tie.Need-returns-3
-returns-3 c = piece-wrong (c .before .before .before .before .before .before .before .before .before .before .before .before .before .before .before .before .before .before .before .before .before .before .before .before .before .before .before .before .before .before .before .before .before .args .size) (c .before .before .before .before .before .before .before .before .before .before .before .before .before .before .before .before .before .before .before .before .start-of .result) (c .before .before .before .before .before .before .before .before .before .before .before .before .before .before .before .before .before .before .before .before .before .before .before .before .before .before .before .before .before .before .before .before .before .args .elements .now) (c .before .before .before .before .before .before .before .before .before .before .before .before .before .before .before .before .before .before .before .before .before .before .before .before .before .before .before .before .before .before .before .before .before .pre .0) (c .before .before .before .before .before .before .before .before .before .before .before .before .before .before .before .before .before .before .before .before .start-of .ensures) (c .before .before .before .before .before .before .before .before .before .before .before .before .before .scan .result) (c .before .before .before .before .before .before .before .before .before .before .before .before .before .scan .last .1 .1 .1 .1 .1 .1 .0) (c .before .before .before .before .before .before .before .before .before .before .before .before .before .scan .last .1 .1 .1 .1 .1 .1 .1 .0) (c .before .before .before .before .before .before .before .before .before .before .before .before .before .scan .last .1 .1 .1 .1 .1 .1 .1 .1 .0) (c .before .before .before .before .before .before .before .before .before .before .before .before .before .before .before .before .before .before .before .before .before .before .before .before .before .before .before .before .before .before .before .before .before .args .kinds .now) (c .before .before .before .before .before .before .before .before .before .before .before .before .before .before .before .before .before .before .before .if1 .left) (c .before .before .before .before .before .before .before .before .before .before .before .before .before .scan .ensures) (c .before .found2 .given .0 .0) (c .before .found2 .given .1) (c .before .before .before .before .before .before .before .before .before .before .before .before .before .before .before .before .before .before .before .before .before .before .before .before .before .before .before .before .before .before .before .before .before .args .rows .now)
+returns-3 c =
+    let at-found2 = c .before in
+    let at-scan = at-found2 .before .before .before .before .before .before .before .before .before .before .before .before in
+    let at-if1 = at-scan .before .before .before .before .before .before in
+    let at-start-of = at-if1 .before in
+    let start = at-start-of .before .before .before .before .before .before .before .before .before .before in
+    piece-wrong (start .args .size) (at-start-of .start-of .result) (start .args .elements .now) (start .pre .0) (start-of-first _ _ _ (omega arith) (at-start-of .start-of .ensures) (at-start-of .before .kind-of .ensures)) (at-scan .scan .result) (at-scan .scan .last .1 .1 .1 .1 .1 .1 .0) (at-scan .scan .last .1 .1 .1 .1 .1 .1 .1 .0) (at-scan .scan .last .1 .1 .1 .1 .1 .1 .1 .1 .0) (start .args .forms .now) (at-if1 .if1 .left) (at-scan .scan .ensures) (at-found2 .found2 .given .0 .0) (at-found2 .found2 .given .1) (start .args .rows .now)
 
 same-length-12 : tie.Need-same-length-12
 same-length-12 c = search needs
@@ -96,7 +121,13 @@ same-length-16 : tie.Need-same-length-16
 same-length-16 c = search needs
 
 returns-4 : tie.Need-returns-4
-returns-4 c = piece-other (c .before .before .before .before .before .before .before .before .before .before .before .before .before .before .before .before .before .before .before .before .before .before .before .before .before .before .before .before .before .before .before .before .before .args .size) (c .before .before .before .before .before .before .before .before .before .before .before .before .before .before .before .before .before .before .before .before .start-of .result) (c .before .before .before .before .before .before .before .before .before .before .before .before .before .before .before .before .before .before .before .before .before .before .before .before .before .before .before .before .before .before .before .before .before .args .elements .now) (c .before .before .before .before .before .before .before .before .before .before .before .before .before .before .before .before .before .before .before .before .before .before .before .before .before .before .before .before .before .before .before .before .before .pre .0) (c .before .before .before .before .before .before .before .before .before .before .before .before .before .before .before .before .before .before .before .before .start-of .ensures) (c .before .before .before .before .before .before .before .before .before .before .before .before .before .scan .result) (c .before .before .before .before .before .before .before .before .before .before .before .before .before .scan .last .1 .1 .1 .1 .1 .1 .0) (c .before .before .before .before .before .before .before .before .before .before .before .before .before .scan .last .1 .1 .1 .1 .1 .1 .1 .0) (c .before .before .before .before .before .before .before .before .before .before .before .before .before .scan .last .1 .1 .1 .1 .1 .1 .1 .1 .0) (c .before .before .before .before .before .before .before .before .before .before .before .before .before .before .before .before .before .before .before .before .before .before .before .before .before .before .before .before .before .before .before .before .before .args .kinds .now) (c .before .before .before .before .before .before .before .before .before .before .before .before .before .before .before .before .before .before .before .if1 .left) (c .before .before .before .before .before .before .before .before .before .before .before .before .before .scan .ensures) (c .before .found3 .given .0 .0) (c .before .found3 .given .1) (c .before .before .before .before .before .before .before .before .before .before .before .before .before .before .before .before .before .before .before .before .before .before .before .before .before .before .before .before .before .before .before .before .before .args .rows .now)
+returns-4 c =
+    let at-found3 = c .before in
+    let at-scan = at-found3 .before .before .before .before .before .before .before .before .before .before .before .before in
+    let at-if1 = at-scan .before .before .before .before .before .before in
+    let at-start-of = at-if1 .before in
+    let start = at-start-of .before .before .before .before .before .before .before .before .before .before in
+    piece-other (start .args .size) (at-start-of .start-of .result) (start .args .elements .now) (start .pre .0) (start-of-first _ _ _ (omega arith) (at-start-of .start-of .ensures) (at-start-of .before .kind-of .ensures)) (at-scan .scan .result) (at-scan .scan .last .1 .1 .1 .1 .1 .1 .0) (at-scan .scan .last .1 .1 .1 .1 .1 .1 .1 .0) (at-scan .scan .last .1 .1 .1 .1 .1 .1 .1 .1 .0) (start .args .forms .now) (at-if1 .if1 .left) (at-scan .scan .ensures) (at-found3 .found3 .given .0 .0) (at-found3 .found3 .given .1) (start .args .rows .now)
 
 same-length-17 : tie.Need-same-length-17
 same-length-17 c = search needs
@@ -114,13 +145,19 @@ same-length-21 : tie.Need-same-length-21
 same-length-21 c = search needs
 
 returns-5 : tie.Need-returns-5
-returns-5 c = piece-over (c .before .before .before .before .before .before .before .before .before .before .before .before .before .before .before .before .before .before .before .before .before .before .before .before .before .before .before .before .before .before .before .before .before .args .size) (c .before .before .before .before .before .before .before .before .before .before .before .before .before .before .before .before .before .before .before .before .start-of .result) (c .before .before .before .before .before .before .before .before .before .before .before .before .before .before .before .before .before .before .before .before .before .before .before .before .before .before .before .before .before .before .before .before .before .args .elements .now) (c .before .before .before .before .before .before .before .before .before .before .before .before .before .before .before .before .before .before .before .before .before .before .before .before .before .before .before .before .before .before .before .before .before .pre .0) (c .before .before .before .before .before .before .before .before .before .before .before .before .before .before .before .before .before .before .before .before .start-of .ensures) (c .before .before .before .before .before .before .before .before .before .before .before .before .before .scan .result) (c .before .before .before .before .before .before .before .before .before .before .before .before .before .scan .last .1 .1 .1 .1 .1 .1 .0) (c .before .before .before .before .before .before .before .before .before .before .before .before .before .scan .last .1 .1 .1 .1 .1 .1 .1 .0) (c .before .before .before .before .before .before .before .before .before .before .before .before .before .scan .last .1 .1 .1 .1 .1 .1 .1 .1 .0) (c .before .before .before .before .before .before .before .before .before .before .before .before .before .before .before .before .before .before .before .before .before .before .before .before .before .before .before .before .before .before .before .before .before .args .kinds .now) (c .before .before .before .before .before .before .before .before .before .before .before .before .before .before .before .before .before .before .before .if1 .left) (c .before .before .before .before .before .before .before .before .before .before .before .before .before .scan .ensures) (c .before .found4 .given .0 .0) (c .before .found4 .given .1) (c .before .before .before .before .before .before .before .before .before .before .before .before .before .before .before .before .before .before .before .before .before .before .before .before .before .before .before .before .before .before .before .before .before .args .rows .now)
+returns-5 c =
+    let at-found4 = c .before in
+    let at-scan = at-found4 .before .before .before .before .before .before .before .before .before .before .before .before in
+    let at-if1 = at-scan .before .before .before .before .before .before in
+    let at-start-of = at-if1 .before in
+    let start = at-start-of .before .before .before .before .before .before .before .before .before .before in
+    piece-over (start .args .size) (at-start-of .start-of .result) (start .args .elements .now) (start .pre .0) (start-of-first _ _ _ (omega arith) (at-start-of .start-of .ensures) (at-start-of .before .kind-of .ensures)) (at-scan .scan .result) (at-scan .scan .last .1 .1 .1 .1 .1 .1 .0) (at-scan .scan .last .1 .1 .1 .1 .1 .1 .1 .0) (at-scan .scan .last .1 .1 .1 .1 .1 .1 .1 .1 .0) (start .args .forms .now) (at-if1 .if1 .left) (at-scan .scan .ensures) (at-found4 .found4 .given .0 .0) (at-found4 .found4 .given .1) (start .args .rows .now)
 
 pub read-piece-spec : {M : Type 1} → statement M
 read-piece-spec =
     tie.close
     (tie.spec
-    shared-slice-read-start-of
+    kind-of-requires
     start-of-requires
     returns
     scan-requires

@@ -16,17 +16,8 @@ clear-requires c κs = search needs
 least-requires : tie.Need-least-requires
 least-requires c κs = search needs
 
-kinds-requires : tie.Need-kinds-requires
-kinds-requires c κs = search needs
-
-picks-requires : tie.Need-picks-requires
-picks-requires c κs = search needs
-
-sizes-requires : tie.Need-sizes-requires
-sizes-requires c κs = search needs
-
-bodies-requires : tie.Need-bodies-requires
-bodies-requires c κs = search needs
+forms-requires : tie.Need-forms-requires
+forms-requires c κs = search needs
 
 slice-aggregate-scan : tie.Need-slice-aggregate-scan
 slice-aggregate-scan c = search needs
@@ -46,17 +37,12 @@ slice-aggregate-scan-5 c = search needs
 slice-aggregate-scan-6 : tie.Need-slice-aggregate-scan-6
 slice-aggregate-scan-6 c = search needs
 
-slice-aggregate-scan-7 : tie.Need-slice-aggregate-scan-7
-slice-aggregate-scan-7 c = search needs
-
-slice-aggregate-scan-8 : tie.Need-slice-aggregate-scan-8
-slice-aggregate-scan-8 c = search needs
-
-slice-aggregate-scan-9 : tie.Need-slice-aggregate-scan-9
-slice-aggregate-scan-9 c = search needs
-
 scan-requires : tie.Need-scan-requires
-scan-requires c κs = (in-table (c .before .before .before .before .before .before .before .before .before .before .before .before .before .before .before .before .before .before .before .before .before .args .elements .now) (c .before .before .before .before .before .before .before .before .before .before .before .before .before .before .before .before .before .before .before .before .before .args .count) (c .before .before .before .before .before .before .before .before .before .before .before .before .before .least .result) (c .before .before .before .before .before .before .before .before .before .before .before .before .before .least .ensures), in-size (c .before .before .before .before .before .before .before .before .before .before .before .before .before .before .before .before .before .before .before .before .before .args .elements .now) (c .before .before .before .before .before .before .before .before .before .before .before .before .before .before .before .before .before .before .before .before .before .args .count) (c .before .before .before .before .before .before .before .before .before .before .before .before .before .least .result) (c .before .before .before .before .before .before .before .before .before .before .before .before .before .least .ensures), inl refl, zeros-size 2176, zeros-size 8708, zeros-size 51840, zeros-size 10368, zeros-size 10368, c .before .before .before .before .before .before .before .before .before .before .before .before .kinds .ensures, c .before .before .before .before .before .before .before .before .before .before .before .picks .ensures, c .before .before .before .before .before .before .before .before .before .before .sizes .ensures, c .before .before .before .before .before .before .before .before .before .bodies .ensures)
+scan-requires c κs =
+    let at-forms = c .before .before .before .before .before .before in
+    let at-least = at-forms .before in
+    let start = at-least .before .before .before .before .before .before .before .before in
+    (in-table (start .args .elements .now) (start .args .count) (at-least .least .result) (at-least .least .ensures), in-size (start .args .elements .now) (start .args .count) (at-least .least .result) (at-least .least .ensures), inl refl, zeros-size 2176, zeros-size 8708, zeros-size 51840, zeros-size 10368, zeros-size 10368, at-forms .forms .ensures)
 
 enum-known-found : tie.Need-enum-known-found
 enum-known-found c = search needs
@@ -72,12 +58,17 @@ slice-aggregate-write-out-3 c = search needs
 
 write-out-requires : tie.Need-write-out-requires
 write-out-requires c κs =
-    let w = whole-asks (c .before .before .before .before .before .before .before .before .before .before .before .before .before .scan .last .1 .1 .1 .1 .1 .1 .0) (c .before .before .before .before .before .before .before .before .before .before .before .before .before .scan .last .1 .1 .1 .1 .1 .1 .1 .0) (c .before .before .before .before .before .before .before .before .before .before .before .before .before .scan .last .1 .1 .1 .1 .1 .1 .1 .1 .0) (c .before .before .before .before .before .before .before .before .before .before .before .before .before .scan .result) (readingIn (c .before .before .before .before .before .before .before .before .before .before .before .before .before .before .before .before .before .before .before .before .before .before .before .before .before .before .before .before .before .before .before .before .before .before .before .args .text .now) (c .before .before .before .before .before .before .before .before .before .before .before .before .before .before .before .before .before .before .before .before .before .before .before .before .before .before .before .before .before .before .before .before .before .before .before .args .elements .now) (elementsIn (c .before .before .before .before .before .before .before .before .before .before .before .before .before .before .before .before .before .before .before .before .before .before .before .before .before .before .before .before .before .before .before .before .before .before .before .args .elements .now) (c .before .before .before .before .before .before .before .before .before .before .before .before .before .before .before .before .before .before .before .before .before .before .before .before .before .before .before .before .before .before .before .before .before .before .before .args .count))) (told (c .before .before .before .before .before .before .before .before .before .before .before .before .before .scan .result) (c .before .before .before .before .before .before .before .before .before .before .before .before .before .scan .last .1 .1 .1 .1 .1 .1 .0) (c .before .before .before .before .before .before .before .before .before .before .before .before .before .scan .last .1 .1 .1 .1 .1 .1 .1 .0) (c .before .before .before .before .before .before .before .before .before .before .before .before .before .scan .last .1 .1 .1 .1 .1 .1 .1 .1 .0) (c .before .before .before .before .before .before .before .before .before .before .before .before .before .before .before .before .before .before .before .before .before .before .before .before .before .before .before .before .before .before .before .before .before .before .before .args .text .now) (c .before .before .before .before .before .before .before .before .before .before .before .before .before .before .before .before .before .before .before .before .before .before .before .before .before .before .before .before .before .before .before .before .before .before .before .args .elements .now) (c .before .before .before .before .before .before .before .before .before .before .before .before .before .before .before .before .before .before .before .before .before .before .before .before .before .before .before .least .result) (c .before .before .before .before .before .before .before .before .before .before .before .before .before .before .before .before .before .before .before .before .before .before .before .before .before .before .before .before .before .before .before .before .before .before .before .args .count) (c .before .before .before .before .before .before .before .before .before .before .before .before .before .before .before .before .before .before .before .before .before .before .before .before .before .before .before .least .ensures) (c .before .before .before .before .before .before .before .before .before .before .before .before .before .scan .ensures)) (c .before .before .before .before .before .before .found .given .0 .0) (c .before .before .before .before .before .before .found .given .1) in
+    let at-if1 = c .before .before .before .before in
+    let at-found = at-if1 .before .before in
+    let at-scan = at-found .before .before .before .before .before .before .before in
+    let at-least = at-scan .before .before .before .before .before .before .before .before in
+    let start = at-least .before .before .before .before .before .before .before .before in
+    let w = whole-asks (at-scan .scan .last .1 .1 .1 .1 .1 .1 .0) (at-scan .scan .last .1 .1 .1 .1 .1 .1 .1 .0) (at-scan .scan .last .1 .1 .1 .1 .1 .1 .1 .1 .0) (at-scan .scan .result) (readingIn (start .args .text .now) (start .args .elements .now) (elementsIn (start .args .elements .now) (start .args .count))) (told (at-scan .scan .result) (at-scan .scan .last .1 .1 .1 .1 .1 .1 .0) (at-scan .scan .last .1 .1 .1 .1 .1 .1 .1 .0) (at-scan .scan .last .1 .1 .1 .1 .1 .1 .1 .1 .0) (start .args .text .now) (start .args .elements .now) (at-least .least .result) (start .args .count) (at-least .least .ensures) (at-scan .scan .ensures)) (at-found .found .given .0 .0) (at-found .found .given .1) in
     let u = w .1 in
-    let kc = c .before .before .before .before .before .before .before .before .before .before .before .before .before .scan .kept .1 .1 .1 .1 .1 .1 .0 in
-    let kn = c .before .before .before .before .before .before .before .before .before .before .before .before .before .scan .kept .1 .1 .1 .1 .1 .1 .1 .0 in
-    let kh = c .before .before .before .before .before .before .before .before .before .before .before .before .before .scan .kept .1 .1 .1 .1 .1 .1 .1 .1 .0 in
-    (w .0, omega (arith, c .before .before .before .before .if1 .taken), omega (arith, zeros-size 51840), omega (arith, zeros-size 10368), omega (arith, zeros-size 10368), w .1, w .2)
+    let kc = at-scan .scan .kept .1 .1 .1 .1 .1 .1 .0 in
+    let kn = at-scan .scan .kept .1 .1 .1 .1 .1 .1 .1 .0 in
+    let kh = at-scan .scan .kept .1 .1 .1 .1 .1 .1 .1 .1 .0 in
+    (w .0, omega (arith, at-if1 .if1 .taken), omega (arith, zeros-size 51840), omega (arith, zeros-size 10368), omega (arith, zeros-size 10368), w .1, w .2)
 
 enum-known-found-2 : tie.Need-enum-known-found-2
 enum-known-found-2 c = search needs
@@ -89,34 +80,69 @@ enum-known-found-4 : tie.Need-enum-known-found-4
 enum-known-found-4 c = search needs
 
 same-length : tie.Need-same-length
-same-length c = c .before .before .write-out .kept .1 .1 .1 .1 .0 ∙ c .before .before .before .before .before .before .before .before .before .before .before .before .before .before .before .before .before .before .before .before .before .before .before .before .before .before .before .before .before .before .before .before .before .clear .kept .0
+same-length c =
+    let at-write-out = c .before .before in
+    let at-clear = at-write-out .before .before .before .before .before .before .before .before .before .before .before .before .before .before .before .before .before .before .before .before .before .before .before .before .before in
+    at-write-out .write-out .kept .1 .1 .1 .1 .0 ∙ at-clear .clear .kept .0
 
 returns : tie.Need-returns
-returns c = says-tree (c .before .before .before .before .before .before .before .before .before .before .before .before .before .before .before .before .scan .last .1 .1 .1 .1 .1 .1 .0) (c .before .before .before .before .before .before .before .before .before .before .before .before .before .before .before .before .scan .last .1 .1 .1 .1 .1 .1 .1 .0) (c .before .before .before .before .before .before .before .before .before .before .before .before .before .before .before .before .scan .last .1 .1 .1 .1 .1 .1 .1 .1 .0) (c .before .before .before .before .before .before .before .before .before .before .before .before .before .before .before .before .scan .result) (readingIn (c .before .before .before .before .before .before .before .before .before .before .before .before .before .before .before .before .before .before .before .before .before .before .before .before .before .before .before .before .before .before .before .before .before .before .before .before .before .before .args .text .now) (c .before .before .before .before .before .before .before .before .before .before .before .before .before .before .before .before .before .before .before .before .before .before .before .before .before .before .before .before .before .before .before .before .before .before .before .before .before .before .args .elements .now) (elementsIn (c .before .before .before .before .before .before .before .before .before .before .before .before .before .before .before .before .before .before .before .before .before .before .before .before .before .before .before .before .before .before .before .before .before .before .before .before .before .before .args .elements .now) (c .before .before .before .before .before .before .before .before .before .before .before .before .before .before .before .before .before .before .before .before .before .before .before .before .before .before .before .before .before .before .before .before .before .before .before .before .before .before .args .count))) (told (c .before .before .before .before .before .before .before .before .before .before .before .before .before .before .before .before .scan .result) (c .before .before .before .before .before .before .before .before .before .before .before .before .before .before .before .before .scan .last .1 .1 .1 .1 .1 .1 .0) (c .before .before .before .before .before .before .before .before .before .before .before .before .before .before .before .before .scan .last .1 .1 .1 .1 .1 .1 .1 .0) (c .before .before .before .before .before .before .before .before .before .before .before .before .before .before .before .before .scan .last .1 .1 .1 .1 .1 .1 .1 .1 .0) (c .before .before .before .before .before .before .before .before .before .before .before .before .before .before .before .before .before .before .before .before .before .before .before .before .before .before .before .before .before .before .before .before .before .before .before .before .before .before .args .text .now) (c .before .before .before .before .before .before .before .before .before .before .before .before .before .before .before .before .before .before .before .before .before .before .before .before .before .before .before .before .before .before .before .before .before .before .before .before .before .before .args .elements .now) (c .before .before .before .before .before .before .before .before .before .before .before .before .before .before .before .before .before .before .before .before .before .before .before .before .before .before .before .before .before .before .least .result) (c .before .before .before .before .before .before .before .before .before .before .before .before .before .before .before .before .before .before .before .before .before .before .before .before .before .before .before .before .before .before .before .before .before .before .before .before .before .before .args .count) (c .before .before .before .before .before .before .before .before .before .before .before .before .before .before .before .before .before .before .before .before .before .before .before .before .before .before .before .before .before .before .least .ensures) (c .before .before .before .before .before .before .before .before .before .before .before .before .before .before .before .before .scan .ensures)) (c .before .before .before .before .before .before .before .before .before .found .given .0 .0) (length (c .before .before .before .before .before .before .before .before .before .before .before .before .before .before .before .before .before .before .before .before .before .before .before .before .before .before .before .before .before .before .before .before .before .before .before .before .before .before .args .tree .now)) (c .before .before .before .before .before .before .before .before .before .before .before .before .before .before .before .before .before .before .before .before .before .before .before .before .before .before .before .before .before .before .before .before .before .clear .last .0) (c .before .before .write-out .last .1 .1 .1 .1 .0) (c .before .before .before .before .before .before .before .before .before .found .given .1) (omega (arith, c .before .before .before .before .before .before .before .if1 .taken, c .before .before .before .before .before .before .before .before .before .before .before .before .before .before .before .before .before .before .before .before .before .before .before .before .before .before .before .before .before .before .before .before .before .clear .kept .0)) (c .before .before .before .before .before .before .before .before .before .before .before .before .before .before .before .before .before .before .before .before .before .before .before .before .before .before .before .before .before .before .before .before .before .clear .ensures) (c .before .before .write-out .ensures)
+returns c =
+    let at-write-out = c .before .before in
+    let at-if1 = at-write-out .before .before .before .before .before in
+    let at-found = at-if1 .before .before in
+    let at-scan = at-found .before .before .before .before .before .before .before in
+    let at-least = at-scan .before .before .before .before .before .before .before .before in
+    let at-clear = at-least .before .before .before in
+    let start = at-clear .before .before .before .before .before in
+    says-tree (at-scan .scan .last .1 .1 .1 .1 .1 .1 .0) (at-scan .scan .last .1 .1 .1 .1 .1 .1 .1 .0) (at-scan .scan .last .1 .1 .1 .1 .1 .1 .1 .1 .0) (at-scan .scan .result) (readingIn (start .args .text .now) (start .args .elements .now) (elementsIn (start .args .elements .now) (start .args .count))) (told (at-scan .scan .result) (at-scan .scan .last .1 .1 .1 .1 .1 .1 .0) (at-scan .scan .last .1 .1 .1 .1 .1 .1 .1 .0) (at-scan .scan .last .1 .1 .1 .1 .1 .1 .1 .1 .0) (start .args .text .now) (start .args .elements .now) (at-least .least .result) (start .args .count) (at-least .least .ensures) (at-scan .scan .ensures)) (at-found .found .given .0 .0) (length (start .args .tree .now)) (at-clear .clear .last .0) (at-write-out .write-out .last .1 .1 .1 .1 .0) (at-found .found .given .1) (omega (arith, at-if1 .if1 .taken, at-clear .clear .kept .0)) (at-clear .clear .ensures) (at-write-out .write-out .ensures)
 
 same-length-2 : tie.Need-same-length-2
 same-length-2 c = search needs
 
 returns-2 : tie.Need-returns-2
-returns-2 c = rooms _ (c .before .before .before .before .before .before .before .before .before .before .before .before .before .before .before .before .before .before .before .before .before .before .before .before .before .before .clear .last .0) _ _ (readingIn (c .before .before .before .before .before .before .before .before .before .before .before .before .before .before .before .before .before .before .before .before .before .before .before .before .before .before .before .before .before .before .before .args .text .now) (c .before .before .before .before .before .before .before .before .before .before .before .before .before .before .before .before .before .before .before .before .before .before .before .before .before .before .before .before .before .before .before .args .elements .now) (elementsIn (c .before .before .before .before .before .before .before .before .before .before .before .before .before .before .before .before .before .before .before .before .before .before .before .before .before .before .before .before .before .before .before .args .elements .now) (c .before .before .before .before .before .before .before .before .before .before .before .before .before .before .before .before .before .before .before .before .before .before .before .before .before .before .before .before .before .before .before .args .count))) (c .before .before .before .before .before .before .before .before .before .before .before .before .before .before .before .before .before .before .before .before .before .before .before .before .before .before .clear .kept .0) (says-short (c .before .before .before .before .before .before .before .before .before .scan .last .1 .1 .1 .1 .1 .1 .0) (c .before .before .before .before .before .before .before .before .before .scan .last .1 .1 .1 .1 .1 .1 .1 .0) (c .before .before .before .before .before .before .before .before .before .scan .last .1 .1 .1 .1 .1 .1 .1 .1 .0) (c .before .before .before .before .before .before .before .before .before .scan .result) (readingIn (c .before .before .before .before .before .before .before .before .before .before .before .before .before .before .before .before .before .before .before .before .before .before .before .before .before .before .before .before .before .before .before .args .text .now) (c .before .before .before .before .before .before .before .before .before .before .before .before .before .before .before .before .before .before .before .before .before .before .before .before .before .before .before .before .before .before .before .args .elements .now) (elementsIn (c .before .before .before .before .before .before .before .before .before .before .before .before .before .before .before .before .before .before .before .before .before .before .before .before .before .before .before .before .before .before .before .args .elements .now) (c .before .before .before .before .before .before .before .before .before .before .before .before .before .before .before .before .before .before .before .before .before .before .before .before .before .before .before .before .before .before .before .args .count))) (told (c .before .before .before .before .before .before .before .before .before .scan .result) (c .before .before .before .before .before .before .before .before .before .scan .last .1 .1 .1 .1 .1 .1 .0) (c .before .before .before .before .before .before .before .before .before .scan .last .1 .1 .1 .1 .1 .1 .1 .0) (c .before .before .before .before .before .before .before .before .before .scan .last .1 .1 .1 .1 .1 .1 .1 .1 .0) (c .before .before .before .before .before .before .before .before .before .before .before .before .before .before .before .before .before .before .before .before .before .before .before .before .before .before .before .before .before .before .before .args .text .now) (c .before .before .before .before .before .before .before .before .before .before .before .before .before .before .before .before .before .before .before .before .before .before .before .before .before .before .before .before .before .before .before .args .elements .now) (c .before .before .before .before .before .before .before .before .before .before .before .before .before .before .before .before .before .before .before .before .before .before .before .least .result) (c .before .before .before .before .before .before .before .before .before .before .before .before .before .before .before .before .before .before .before .before .before .before .before .before .before .before .before .before .before .before .before .args .count) (c .before .before .before .before .before .before .before .before .before .before .before .before .before .before .before .before .before .before .before .before .before .before .before .least .ensures) (c .before .before .before .before .before .before .before .before .before .scan .ensures)) (c .before .before .found .given .0 .0) (length (c .before .before .before .before .before .before .before .before .before .before .before .before .before .before .before .before .before .before .before .before .before .before .before .before .before .before .clear .last .0)) (c .before .before .before .before .before .before .before .before .before .before .before .before .before .before .before .before .before .before .before .before .before .before .before .before .before .before .clear .last .0) (c .before .before .found .given .1) (c .if1 .left) (c .before .before .before .before .before .before .before .before .before .before .before .before .before .before .before .before .before .before .before .before .before .before .before .before .before .before .clear .ensures ∙ ap zeros (sym (c .before .before .before .before .before .before .before .before .before .before .before .before .before .before .before .before .before .before .before .before .before .before .before .before .before .before .clear .kept .0))))
+returns-2 c =
+    let at-found = c .before .before in
+    let at-scan = at-found .before .before .before .before .before .before .before in
+    let at-least = at-scan .before .before .before .before .before .before .before .before in
+    let at-clear = at-least .before .before .before in
+    let start = at-clear .before .before .before .before .before in
+    rooms _ (at-clear .clear .last .0) _ _ (readingIn (start .args .text .now) (start .args .elements .now) (elementsIn (start .args .elements .now) (start .args .count))) (at-clear .clear .kept .0) (says-short (at-scan .scan .last .1 .1 .1 .1 .1 .1 .0) (at-scan .scan .last .1 .1 .1 .1 .1 .1 .1 .0) (at-scan .scan .last .1 .1 .1 .1 .1 .1 .1 .1 .0) (at-scan .scan .result) (readingIn (start .args .text .now) (start .args .elements .now) (elementsIn (start .args .elements .now) (start .args .count))) (told (at-scan .scan .result) (at-scan .scan .last .1 .1 .1 .1 .1 .1 .0) (at-scan .scan .last .1 .1 .1 .1 .1 .1 .1 .0) (at-scan .scan .last .1 .1 .1 .1 .1 .1 .1 .1 .0) (start .args .text .now) (start .args .elements .now) (at-least .least .result) (start .args .count) (at-least .least .ensures) (at-scan .scan .ensures)) (at-found .found .given .0 .0) (length (at-clear .clear .last .0)) (at-clear .clear .last .0) (at-found .found .given .1) (c .if1 .left) (at-clear .clear .ensures ∙ ap zeros (sym (at-clear .clear .kept .0))))
 
 same-length-3 : tie.Need-same-length-3
 same-length-3 c = search needs
 
 returns-3 : tie.Need-returns-3
-returns-3 c = says-wrong (c .before .before .before .before .before .before .before .before .scan .last .1 .1 .1 .1 .1 .1 .0) (c .before .before .before .before .before .before .before .before .scan .last .1 .1 .1 .1 .1 .1 .1 .0) (c .before .before .before .before .before .before .before .before .scan .last .1 .1 .1 .1 .1 .1 .1 .1 .0) (c .before .before .before .before .before .before .before .before .scan .result) (readingIn (c .before .before .before .before .before .before .before .before .before .before .before .before .before .before .before .before .before .before .before .before .before .before .before .before .before .before .before .before .before .before .args .text .now) (c .before .before .before .before .before .before .before .before .before .before .before .before .before .before .before .before .before .before .before .before .before .before .before .before .before .before .before .before .before .before .args .elements .now) (elementsIn (c .before .before .before .before .before .before .before .before .before .before .before .before .before .before .before .before .before .before .before .before .before .before .before .before .before .before .before .before .before .before .args .elements .now) (c .before .before .before .before .before .before .before .before .before .before .before .before .before .before .before .before .before .before .before .before .before .before .before .before .before .before .before .before .before .before .args .count))) (told (c .before .before .before .before .before .before .before .before .scan .result) (c .before .before .before .before .before .before .before .before .scan .last .1 .1 .1 .1 .1 .1 .0) (c .before .before .before .before .before .before .before .before .scan .last .1 .1 .1 .1 .1 .1 .1 .0) (c .before .before .before .before .before .before .before .before .scan .last .1 .1 .1 .1 .1 .1 .1 .1 .0) (c .before .before .before .before .before .before .before .before .before .before .before .before .before .before .before .before .before .before .before .before .before .before .before .before .before .before .before .before .before .before .args .text .now) (c .before .before .before .before .before .before .before .before .before .before .before .before .before .before .before .before .before .before .before .before .before .before .before .before .before .before .before .before .before .before .args .elements .now) (c .before .before .before .before .before .before .before .before .before .before .before .before .before .before .before .before .before .before .before .before .before .before .least .result) (c .before .before .before .before .before .before .before .before .before .before .before .before .before .before .before .before .before .before .before .before .before .before .before .before .before .before .before .before .before .before .args .count) (c .before .before .before .before .before .before .before .before .before .before .before .before .before .before .before .before .before .before .before .before .before .before .least .ensures) (c .before .before .before .before .before .before .before .before .scan .ensures)) (c .before .found2 .given .0 .0) (length (c .before .before .before .before .before .before .before .before .before .before .before .before .before .before .before .before .before .before .before .before .before .before .before .before .before .before .before .before .before .before .args .tree .now)) (c .before .before .before .before .before .before .before .before .before .before .before .before .before .before .before .before .before .before .before .before .before .before .before .before .before .clear .last .0) (c .before .found2 .given .1) (c .before .before .before .before .before .before .before .before .before .before .before .before .before .before .before .before .before .before .before .before .before .before .before .before .before .clear .ensures)
+returns-3 c =
+    let at-found2 = c .before in
+    let at-scan = at-found2 .before .before .before .before .before .before .before in
+    let at-least = at-scan .before .before .before .before .before .before .before .before in
+    let at-clear = at-least .before .before .before in
+    let start = at-clear .before .before .before .before .before in
+    says-wrong (at-scan .scan .last .1 .1 .1 .1 .1 .1 .0) (at-scan .scan .last .1 .1 .1 .1 .1 .1 .1 .0) (at-scan .scan .last .1 .1 .1 .1 .1 .1 .1 .1 .0) (at-scan .scan .result) (readingIn (start .args .text .now) (start .args .elements .now) (elementsIn (start .args .elements .now) (start .args .count))) (told (at-scan .scan .result) (at-scan .scan .last .1 .1 .1 .1 .1 .1 .0) (at-scan .scan .last .1 .1 .1 .1 .1 .1 .1 .0) (at-scan .scan .last .1 .1 .1 .1 .1 .1 .1 .1 .0) (start .args .text .now) (start .args .elements .now) (at-least .least .result) (start .args .count) (at-least .least .ensures) (at-scan .scan .ensures)) (at-found2 .found2 .given .0 .0) (length (start .args .tree .now)) (at-clear .clear .last .0) (at-found2 .found2 .given .1) (at-clear .clear .ensures)
 
 same-length-4 : tie.Need-same-length-4
 same-length-4 c = search needs
 
 returns-4 : tie.Need-returns-4
-returns-4 c = says-other (c .before .before .before .before .before .before .before .before .scan .last .1 .1 .1 .1 .1 .1 .0) (c .before .before .before .before .before .before .before .before .scan .last .1 .1 .1 .1 .1 .1 .1 .0) (c .before .before .before .before .before .before .before .before .scan .last .1 .1 .1 .1 .1 .1 .1 .1 .0) (c .before .before .before .before .before .before .before .before .scan .result) (readingIn (c .before .before .before .before .before .before .before .before .before .before .before .before .before .before .before .before .before .before .before .before .before .before .before .before .before .before .before .before .before .before .args .text .now) (c .before .before .before .before .before .before .before .before .before .before .before .before .before .before .before .before .before .before .before .before .before .before .before .before .before .before .before .before .before .before .args .elements .now) (elementsIn (c .before .before .before .before .before .before .before .before .before .before .before .before .before .before .before .before .before .before .before .before .before .before .before .before .before .before .before .before .before .before .args .elements .now) (c .before .before .before .before .before .before .before .before .before .before .before .before .before .before .before .before .before .before .before .before .before .before .before .before .before .before .before .before .before .before .args .count))) (told (c .before .before .before .before .before .before .before .before .scan .result) (c .before .before .before .before .before .before .before .before .scan .last .1 .1 .1 .1 .1 .1 .0) (c .before .before .before .before .before .before .before .before .scan .last .1 .1 .1 .1 .1 .1 .1 .0) (c .before .before .before .before .before .before .before .before .scan .last .1 .1 .1 .1 .1 .1 .1 .1 .0) (c .before .before .before .before .before .before .before .before .before .before .before .before .before .before .before .before .before .before .before .before .before .before .before .before .before .before .before .before .before .before .args .text .now) (c .before .before .before .before .before .before .before .before .before .before .before .before .before .before .before .before .before .before .before .before .before .before .before .before .before .before .before .before .before .before .args .elements .now) (c .before .before .before .before .before .before .before .before .before .before .before .before .before .before .before .before .before .before .before .before .before .before .least .result) (c .before .before .before .before .before .before .before .before .before .before .before .before .before .before .before .before .before .before .before .before .before .before .before .before .before .before .before .before .before .before .args .count) (c .before .before .before .before .before .before .before .before .before .before .before .before .before .before .before .before .before .before .before .before .before .before .least .ensures) (c .before .before .before .before .before .before .before .before .scan .ensures)) (c .before .found3 .given .0 .0) (length (c .before .before .before .before .before .before .before .before .before .before .before .before .before .before .before .before .before .before .before .before .before .before .before .before .before .before .before .before .before .before .args .tree .now)) (c .before .before .before .before .before .before .before .before .before .before .before .before .before .before .before .before .before .before .before .before .before .before .before .before .before .clear .last .0) (c .before .found3 .given .1) (c .before .before .before .before .before .before .before .before .before .before .before .before .before .before .before .before .before .before .before .before .before .before .before .before .before .clear .ensures)
+returns-4 c =
+    let at-found3 = c .before in
+    let at-scan = at-found3 .before .before .before .before .before .before .before in
+    let at-least = at-scan .before .before .before .before .before .before .before .before in
+    let at-clear = at-least .before .before .before in
+    let start = at-clear .before .before .before .before .before in
+    says-other (at-scan .scan .last .1 .1 .1 .1 .1 .1 .0) (at-scan .scan .last .1 .1 .1 .1 .1 .1 .1 .0) (at-scan .scan .last .1 .1 .1 .1 .1 .1 .1 .1 .0) (at-scan .scan .result) (readingIn (start .args .text .now) (start .args .elements .now) (elementsIn (start .args .elements .now) (start .args .count))) (told (at-scan .scan .result) (at-scan .scan .last .1 .1 .1 .1 .1 .1 .0) (at-scan .scan .last .1 .1 .1 .1 .1 .1 .1 .0) (at-scan .scan .last .1 .1 .1 .1 .1 .1 .1 .1 .0) (start .args .text .now) (start .args .elements .now) (at-least .least .result) (start .args .count) (at-least .least .ensures) (at-scan .scan .ensures)) (at-found3 .found3 .given .0 .0) (length (start .args .tree .now)) (at-clear .clear .last .0) (at-found3 .found3 .given .1) (at-clear .clear .ensures)
 
 same-length-5 : tie.Need-same-length-5
 same-length-5 c = search needs
 
 returns-5 : tie.Need-returns-5
-returns-5 c = says-over (c .before .before .before .before .before .before .before .before .scan .last .1 .1 .1 .1 .1 .1 .0) (c .before .before .before .before .before .before .before .before .scan .last .1 .1 .1 .1 .1 .1 .1 .0) (c .before .before .before .before .before .before .before .before .scan .last .1 .1 .1 .1 .1 .1 .1 .1 .0) (c .before .before .before .before .before .before .before .before .scan .result) (readingIn (c .before .before .before .before .before .before .before .before .before .before .before .before .before .before .before .before .before .before .before .before .before .before .before .before .before .before .before .before .before .before .args .text .now) (c .before .before .before .before .before .before .before .before .before .before .before .before .before .before .before .before .before .before .before .before .before .before .before .before .before .before .before .before .before .before .args .elements .now) (elementsIn (c .before .before .before .before .before .before .before .before .before .before .before .before .before .before .before .before .before .before .before .before .before .before .before .before .before .before .before .before .before .before .args .elements .now) (c .before .before .before .before .before .before .before .before .before .before .before .before .before .before .before .before .before .before .before .before .before .before .before .before .before .before .before .before .before .before .args .count))) (told (c .before .before .before .before .before .before .before .before .scan .result) (c .before .before .before .before .before .before .before .before .scan .last .1 .1 .1 .1 .1 .1 .0) (c .before .before .before .before .before .before .before .before .scan .last .1 .1 .1 .1 .1 .1 .1 .0) (c .before .before .before .before .before .before .before .before .scan .last .1 .1 .1 .1 .1 .1 .1 .1 .0) (c .before .before .before .before .before .before .before .before .before .before .before .before .before .before .before .before .before .before .before .before .before .before .before .before .before .before .before .before .before .before .args .text .now) (c .before .before .before .before .before .before .before .before .before .before .before .before .before .before .before .before .before .before .before .before .before .before .before .before .before .before .before .before .before .before .args .elements .now) (c .before .before .before .before .before .before .before .before .before .before .before .before .before .before .before .before .before .before .before .before .before .before .least .result) (c .before .before .before .before .before .before .before .before .before .before .before .before .before .before .before .before .before .before .before .before .before .before .before .before .before .before .before .before .before .before .args .count) (c .before .before .before .before .before .before .before .before .before .before .before .before .before .before .before .before .before .before .before .before .before .before .least .ensures) (c .before .before .before .before .before .before .before .before .scan .ensures)) (c .before .found4 .given .0 .0) (length (c .before .before .before .before .before .before .before .before .before .before .before .before .before .before .before .before .before .before .before .before .before .before .before .before .before .before .before .before .before .before .args .tree .now)) (c .before .before .before .before .before .before .before .before .before .before .before .before .before .before .before .before .before .before .before .before .before .before .before .before .before .clear .last .0) (c .before .found4 .given .1) (c .before .before .before .before .before .before .before .before .before .before .before .before .before .before .before .before .before .before .before .before .before .before .before .before .before .clear .ensures)
+returns-5 c =
+    let at-found4 = c .before in
+    let at-scan = at-found4 .before .before .before .before .before .before .before in
+    let at-least = at-scan .before .before .before .before .before .before .before .before in
+    let at-clear = at-least .before .before .before in
+    let start = at-clear .before .before .before .before .before in
+    says-over (at-scan .scan .last .1 .1 .1 .1 .1 .1 .0) (at-scan .scan .last .1 .1 .1 .1 .1 .1 .1 .0) (at-scan .scan .last .1 .1 .1 .1 .1 .1 .1 .1 .0) (at-scan .scan .result) (readingIn (start .args .text .now) (start .args .elements .now) (elementsIn (start .args .elements .now) (start .args .count))) (told (at-scan .scan .result) (at-scan .scan .last .1 .1 .1 .1 .1 .1 .0) (at-scan .scan .last .1 .1 .1 .1 .1 .1 .1 .0) (at-scan .scan .last .1 .1 .1 .1 .1 .1 .1 .1 .0) (start .args .text .now) (start .args .elements .now) (at-least .least .result) (start .args .count) (at-least .least .ensures) (at-scan .scan .ensures)) (at-found4 .found4 .given .0 .0) (length (start .args .tree .now)) (at-clear .clear .last .0) (at-found4 .found4 .given .1) (at-clear .clear .ensures)
 
 pub read-tree-spec : {M : Type 1} → statement M
 read-tree-spec =
@@ -124,19 +150,13 @@ read-tree-spec =
     (tie.spec
     clear-requires
     least-requires
-    kinds-requires
-    picks-requires
-    sizes-requires
-    bodies-requires
+    forms-requires
     slice-aggregate-scan
     slice-aggregate-scan-2
     slice-aggregate-scan-3
     slice-aggregate-scan-4
     slice-aggregate-scan-5
     slice-aggregate-scan-6
-    slice-aggregate-scan-7
-    slice-aggregate-scan-8
-    slice-aggregate-scan-9
     scan-requires
     enum-known-found
     slice-aggregate-write-out

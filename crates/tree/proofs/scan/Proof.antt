@@ -17,7 +17,7 @@ use Rattle.tree.proofs.scan.Statement.{statement}
 use Rattle.tree.proofs.scan.Tie as tie
 
 abbrev Inv-loop : tie.InvT-loop
-Inv-loop from text elements count stk₀ frames₀ cells₀ next₀ heads₀ kinds picks sizes bodies sp₀ fp₀ depth₀ used₀ at₀ stk frames cells next heads sp fp depth used at =
+Inv-loop from text elements count stk₀ frames₀ cells₀ next₀ heads₀ forms sp₀ fp₀ depth₀ used₀ at₀ stk frames cells next heads sp fp depth used at =
     (length stk ≡ 2176)
     × (sp ≤ 2176)
     × (length frames ≡ 8708)
@@ -28,22 +28,26 @@ Inv-loop from text elements count stk₀ frames₀ cells₀ next₀ heads₀ kin
     × Going text elements count (readingFrom (symOf from) (sameName text elements) (terminalsOf count elements)) (syms (drop sp stk)) frames cells next heads fp depth used at
 
 abbrev μ-loop : tie.MeasureT-loop
-μ-loop from text elements count stk₀ frames₀ cells₀ next₀ heads₀ kinds picks sizes bodies sp₀ fp₀ depth₀ used₀ at₀ stk frames cells next heads sp fp depth used at = turns.to-do count stk sp at
+μ-loop from text elements count stk₀ frames₀ cells₀ next₀ heads₀ forms sp₀ fp₀ depth₀ used₀ at₀ stk frames cells next heads sp fp depth used at = turns.to-do count stk sp at
 
 begin-requires : tie.Need-begin-requires Inv-loop μ-loop
-begin-requires c κs = (c .before .before .before .before .before .before .before .before .before .before .before .before .before .before .pre .3, c .before .before .before .before .before .before .before .before .before .before .before .before .before .before .pre .4, c .before .before .before .before .before .before .before .before .before .before .before .before .before .before .pre .7)
+begin-requires c κs =
+    let start = c .before .before .before .before .before .before .before .before .before .before .before in
+    (start .pre .3, start .pre .4, start .pre .7)
 
 loop-holds : tie.Need-loop-holds Inv-loop μ-loop
-loop-holds c = (
-  c .before .before .before .before .before .before .begin .kept .1 .0 ∙ c .before .before .before .before .before .before .before .before .before .before .before .before .before .before .before .before .before .before .before .before .before .pre .3,
-  omega arith,
-  c .before .before .before .before .before .before .begin .kept .1 .1 .0 ∙ c .before .before .before .before .before .before .before .before .before .before .before .before .before .before .before .before .before .before .before .before .before .pre .4,
-  c .before .before .before .before .before .before .before .before .before .before .before .before .before .before .before .before .before .before .before .before .before .pre .5,
-  c .before .before .before .before .before .before .before .before .before .before .before .before .before .before .before .before .before .before .before .before .before .pre .6,
-  c .before .before .before .before .before .before .begin .kept .1 .1 .1 .0 ∙ c .before .before .before .before .before .before .before .before .before .before .before .before .before .before .before .before .before .before .before .before .before .pre .7,
-  omega arith,
-  turns.first-turn (c .before .before .before .before .before .before .before .before .before .before .before .before .before .before .before .before .before .before .before .before .before .args .text .now) (c .before .before .before .before .before .before .before .before .before .before .before .before .before .before .before .before .before .before .before .before .before .args .elements .now) (c .before .before .before .before .before .before .before .before .before .before .before .before .before .before .before .before .before .before .before .before .before .args .count) (c .before .before .before .before .before .before .before .before .before .before .before .before .before .before .before .before .before .before .before .before .before .args .from) (c .before .before .before .before .before .before .begin .last .1 .0) (c .before .before .before .before .before .before .begin .last .1 .1 .0) (c .before .before .before .before .before .before .before .before .before .before .before .before .before .before .before .before .before .before .before .before .before .args .cells .now) (c .before .before .before .before .before .before .before .before .before .before .before .before .before .before .before .before .before .before .before .before .before .args .next .now) (c .before .before .before .before .before .before .begin .last .1 .1 .1 .0) (c .before .before .before .before .before .before .begin .ensures .0) (c .before .before .before .before .before .before .begin .kept .1 .1 .0 ∙ c .before .before .before .before .before .before .before .before .before .before .before .before .before .before .before .before .before .before .before .before .before .pre .4) (c .before .before .before .before .before .before .begin .ensures .1) (c .before .before .before .before .before .before .begin .ensures .2) (c .before .before .before .before .before .before .before .before .before .before .before .before .before .before .before .before .before .before .before .before .before .pre .2),
-)
+loop-holds c =
+    let at-begin = c .before .before .before .before .before .before in
+    let start = at-begin .before .before .before .before .before .before .before .before .before .before .before .before in (
+      at-begin .begin .kept .1 .0 ∙ start .pre .3,
+      omega arith,
+      at-begin .begin .kept .1 .1 .0 ∙ start .pre .4,
+      start .pre .5,
+      start .pre .6,
+      at-begin .begin .kept .1 .1 .1 .0 ∙ start .pre .7,
+      omega arith,
+      turns.first-turn (start .args .text .now) (start .args .elements .now) (start .args .count) (start .args .from) (at-begin .begin .last .1 .0) (at-begin .begin .last .1 .1 .0) (start .args .cells .now) (start .args .next .now) (at-begin .begin .last .1 .1 .1 .0) (at-begin .begin .ensures .0) (at-begin .begin .kept .1 .1 .0 ∙ start .pre .4) (at-begin .begin .ensures .1) (at-begin .begin .ensures .2) (start .pre .2),
+    )
 
 mul-top : tie.Need-mul-top Inv-loop μ-loop
 mul-top c = omega arith
@@ -67,10 +71,17 @@ same-length-5 : tie.Need-same-length-5 Inv-loop μ-loop
 same-length-5 c = search needs
 
 returns : tie.Need-returns Inv-loop μ-loop
-returns c = going.ends-early (c .before .before .before .before .before .before .before .before .before .before .before .before .before .before .before .before .before .before .before .before .before .before .before .before .before .before .args .text .now) (c .before .before .before .before .before .before .before .before .before .before .before .before .before .before .before .before .before .before .before .before .before .before .before .before .before .before .args .elements .now) (c .before .before .before .before .before .before .before .before .before .before .before .before .before .before .before .before .before .before .before .before .before .before .before .before .before .before .args .count) _ (turns.at-tok (c .before .before .before .before .before .before .before .before .before .before .before .before .before .before .before .before .before .before .before .before .before .before .before .before .before .before .args .text .now) (c .before .before .before .before .before .before .before .before .before .before .before .before .before .before .before .before .before .before .before .before .before .before .before .before .before .before .args .elements .now) (c .before .before .before .before .before .before .before .before .before .before .before .before .before .before .before .before .before .before .before .before .before .before .before .before .before .before .args .count) (c .before .before .before .before .loop .stk) (c .before .before .before .before .loop .sp) (c .before .before .before .before .loop .inv .0) (c .before .before .before .before .loop .inv .7) (c .before .before .before .loop-test .taken) (c .before .if1 .taken)) (c .if2 .taken)
+returns c =
+    let at-if1 = c .before in
+    let at-loop-test = at-if1 .before .before in
+    let at-loop = at-loop-test .before in
+    let start = at-loop .before .before .before .before .before .before .before .before .before .before .before .before .before .before .before .before .before .before .before in
+    going.ends-early (start .args .text .now) (start .args .elements .now) (start .args .count) _ (turns.at-tok (start .args .text .now) (start .args .elements .now) (start .args .count) (at-loop .loop .stk) (at-loop .loop .sp) (at-loop .loop .inv .0) (at-loop .loop .inv .7) (at-loop-test .loop-test .taken) (at-if1 .if1 .taken)) (c .if2 .taken)
 
 next-kind-requires : tie.Need-next-kind-requires Inv-loop μ-loop
-next-kind-requires c κs = (c .before .before .before .before .before .before .before .before .before .before .before .before .before .before .before .before .before .before .before .before .before .before .before .before .before .before .pre .8, c .before .before .before .before .before .before .before .before .before .before .before .before .before .before .before .before .before .before .before .before .before .before .before .before .before .before .pre .0)
+next-kind-requires c κs =
+    let start = c .before .before .before .before .before .before .before .before .before .before .before .before .before .before .before .before .before .before .before .before .before .before .before in
+    (start .pre .8, start .pre .0)
 
 same-length-6 : tie.Need-same-length-6 Inv-loop μ-loop
 same-length-6 c = search needs
@@ -88,7 +99,14 @@ same-length-10 : tie.Need-same-length-10 Inv-loop μ-loop
 same-length-10 c = search needs
 
 returns-2 : tie.Need-returns-2 Inv-loop μ-loop
-returns-2 c = going.wrong-kind (c .before .before .before .before .before .before .before .before .before .before .before .before .before .before .before .before .before .before .before .before .before .before .before .before .before .before .before .before .args .text .now) (c .before .before .before .before .before .before .before .before .before .before .before .before .before .before .before .before .before .before .before .before .before .before .before .before .before .before .before .before .args .elements .now) (c .before .before .before .before .before .before .before .before .before .before .before .before .before .before .before .before .before .before .before .before .before .before .before .before .before .before .before .before .args .count) _ (turns.at-tok (c .before .before .before .before .before .before .before .before .before .before .before .before .before .before .before .before .before .before .before .before .before .before .before .before .before .before .before .before .args .text .now) (c .before .before .before .before .before .before .before .before .before .before .before .before .before .before .before .before .before .before .before .before .before .before .before .before .before .before .before .before .args .elements .now) (c .before .before .before .before .before .before .before .before .before .before .before .before .before .before .before .before .before .before .before .before .before .before .before .before .before .before .before .before .args .count) (c .before .before .before .before .before .before .loop .stk) (c .before .before .before .before .before .before .loop .sp) (c .before .before .before .before .before .before .loop .inv .0) (c .before .before .before .before .before .before .loop .inv .7) (c .before .before .before .before .before .loop-test .taken) (c .before .before .before .if1 .taken)) (c .before .next-kind .result) (c .before .before .if2 .left) (c .before .next-kind .ensures) (c .if3 .taken)
+returns-2 c =
+    let at-next-kind = c .before in
+    let at-if2 = at-next-kind .before in
+    let at-if1 = at-if2 .before in
+    let at-loop-test = at-if1 .before .before in
+    let at-loop = at-loop-test .before in
+    let start = at-loop .before .before .before .before .before .before .before .before .before .before .before .before .before .before .before .before .before .before .before in
+    going.wrong-kind (start .args .text .now) (start .args .elements .now) (start .args .count) _ (turns.at-tok (start .args .text .now) (start .args .elements .now) (start .args .count) (at-loop .loop .stk) (at-loop .loop .sp) (at-loop .loop .inv .0) (at-loop .loop .inv .7) (at-loop-test .loop-test .taken) (at-if1 .if1 .taken)) (at-next-kind .next-kind .result) (at-if2 .if2 .left) (at-next-kind .next-kind .ensures) (c .if3 .taken)
 
 add-sp : tie.Need-add-sp Inv-loop μ-loop
 add-sp c = omega arith
@@ -97,25 +115,42 @@ add-at : tie.Need-add-at Inv-loop μ-loop
 add-at c = omega arith
 
 loop-less : tie.Need-loop-less Inv-loop μ-loop
-loop-less c = turns.less-eat (c .before .before .before .before .before .before .before .before .before .before .before .before .before .before .before .before .before .before .before .before .before .before .before .before .before .before .before .before .args .text .now) (c .before .before .before .before .before .before .before .before .before .before .before .before .before .before .before .before .before .before .before .before .before .before .before .before .before .before .before .before .args .elements .now) (c .before .before .before .before .before .before .before .before .before .before .before .before .before .before .before .before .before .before .before .before .before .before .before .before .before .before .before .before .args .count) (c .before .before .before .before .before .before .loop .stk) (c .before .before .before .before .before .before .loop .sp) (c .before .before .before .before .before .before .loop .inv .0) (c .before .before .before .before .before .before .loop .at) (c .before .before .before .before .before .loop-test .taken) (c .before .before .before .if1 .taken) (c .before .before .if2 .left)
+loop-less c =
+    let at-if2 = c .before .before in
+    let at-if1 = at-if2 .before in
+    let at-loop-test = at-if1 .before .before in
+    let at-loop = at-loop-test .before in
+    let start = at-loop .before .before .before .before .before .before .before .before .before .before .before .before .before .before .before .before .before .before .before in
+    turns.less-eat (start .args .text .now) (start .args .elements .now) (start .args .count) (at-loop .loop .stk) (at-loop .loop .sp) (at-loop .loop .inv .0) (at-loop .loop .at) (at-loop-test .loop-test .taken) (at-if1 .if1 .taken) (at-if2 .if2 .left)
 
 loop-again : tie.Need-loop-again Inv-loop μ-loop
-loop-again c = (
-  c .before .before .before .before .before .before .loop .inv .0,
-  omega arith,
-  c .before .before .before .before .before .before .loop .inv .2,
-  c .before .before .before .before .before .before .loop .inv .3,
-  c .before .before .before .before .before .before .loop .inv .4,
-  c .before .before .before .before .before .before .loop .inv .5,
-  omega arith,
-  going.right-kind (c .before .before .before .before .before .before .before .before .before .before .before .before .before .before .before .before .before .before .before .before .before .before .before .before .before .before .before .before .args .text .now) (c .before .before .before .before .before .before .before .before .before .before .before .before .before .before .before .before .before .before .before .before .before .before .before .before .before .before .before .before .args .elements .now) (c .before .before .before .before .before .before .before .before .before .before .before .before .before .before .before .before .before .before .before .before .before .before .before .before .before .before .before .before .args .count) _ (turns.at-tok (c .before .before .before .before .before .before .before .before .before .before .before .before .before .before .before .before .before .before .before .before .before .before .before .before .before .before .before .before .args .text .now) (c .before .before .before .before .before .before .before .before .before .before .before .before .before .before .before .before .before .before .before .before .before .before .before .before .before .before .before .before .args .elements .now) (c .before .before .before .before .before .before .before .before .before .before .before .before .before .before .before .before .before .before .before .before .before .before .before .before .before .before .before .before .args .count) (c .before .before .before .before .before .before .loop .stk) (c .before .before .before .before .before .before .loop .sp) (c .before .before .before .before .before .before .loop .inv .0) (c .before .before .before .before .before .before .loop .inv .7) (c .before .before .before .before .before .loop-test .taken) (c .before .before .before .if1 .taken)) (c .before .next-kind .result) (c .before .before .if2 .left) (c .before .next-kind .ensures) (c .if3 .left),
-)
+loop-again c =
+    let at-next-kind = c .before in
+    let at-if2 = at-next-kind .before in
+    let at-if1 = at-if2 .before in
+    let at-loop-test = at-if1 .before .before in
+    let at-loop = at-loop-test .before in
+    let start = at-loop .before .before .before .before .before .before .before .before .before .before .before .before .before .before .before .before .before .before .before in (
+      at-loop .loop .inv .0,
+      omega arith,
+      at-loop .loop .inv .2,
+      at-loop .loop .inv .3,
+      at-loop .loop .inv .4,
+      at-loop .loop .inv .5,
+      omega arith,
+      going.right-kind (start .args .text .now) (start .args .elements .now) (start .args .count) _ (turns.at-tok (start .args .text .now) (start .args .elements .now) (start .args .count) (at-loop .loop .stk) (at-loop .loop .sp) (at-loop .loop .inv .0) (at-loop .loop .inv .7) (at-loop-test .loop-test .taken) (at-if1 .if1 .taken)) (at-next-kind .next-kind .result) (at-if2 .if2 .left) (at-next-kind .next-kind .ensures) (c .if3 .left),
+    )
 
 next-kind-requires-2 : tie.Need-next-kind-requires-2 Inv-loop μ-loop
-next-kind-requires-2 c κs = (c .before .before .before .before .before .before .before .before .before .before .before .before .before .before .before .before .before .before .before .before .before .before .before .before .before .before .pre .8, c .before .before .before .before .before .before .before .before .before .before .before .before .before .before .before .before .before .before .before .before .before .before .before .before .before .before .pre .0)
+next-kind-requires-2 c κs =
+    let start = c .before .before .before .before .before .before .before .before .before .before .before .before .before .before .before .before .before .before .before .before .before .before .before in
+    (start .pre .8, start .pre .0)
 
 pick-requires : tie.Need-pick-requires Inv-loop μ-loop
-pick-requires c κs = (c .before .before .before .before .before .before .before .before .before .before .before .before .before .before .before .before .before .before .before .before .before .before .before .before .before .before .before .pre .9, omega arith, kind-small (c .before .before .before .before .before .before .before .before .before .before .before .before .before .before .before .before .before .before .before .before .before .before .before .before .before .before .before .args .count) (c .before .before .before .before .before .before .before .before .before .before .before .before .before .before .before .before .before .before .before .before .before .before .before .before .before .before .before .args .elements .now) (c .before .before .before .before .before .loop .at) (c .next-kind2 .result) (c .next-kind2 .ensures))
+pick-requires c κs =
+    let at-loop = c .before .before .before .before .before in
+    let start = at-loop .before .before .before .before .before .before .before .before .before .before .before .before .before .before .before .before .before .before .before in
+    (start .pre .8, omega arith, kind-small (start .args .count) (start .args .elements .now) (at-loop .loop .at) (c .next-kind2 .result) (c .next-kind2 .ensures))
 
 same-length-11 : tie.Need-same-length-11 Inv-loop μ-loop
 same-length-11 c = search needs
@@ -133,53 +168,113 @@ same-length-15 : tie.Need-same-length-15 Inv-loop μ-loop
 same-length-15 c = search needs
 
 returns-3 : tie.Need-returns-3 Inv-loop μ-loop
-returns-3 c = going.no-rule (c .before .before .before .before .before .before .before .before .before .before .before .before .before .before .before .before .before .before .before .before .before .before .before .before .before .before .before .before .before .args .text .now) (c .before .before .before .before .before .before .before .before .before .before .before .before .before .before .before .before .before .before .before .before .before .before .before .before .before .before .before .before .before .args .elements .now) (c .before .before .before .before .before .before .before .before .before .before .before .before .before .before .before .before .before .before .before .before .before .before .before .before .before .before .before .before .before .args .count) _ (turns.at-nt (c .before .before .before .before .before .before .before .before .before .before .before .before .before .before .before .before .before .before .before .before .before .before .before .before .before .before .before .before .before .args .text .now) (c .before .before .before .before .before .before .before .before .before .before .before .before .before .before .before .before .before .before .before .before .before .before .before .before .before .before .before .before .before .args .elements .now) (c .before .before .before .before .before .before .before .before .before .before .before .before .before .before .before .before .before .before .before .before .before .before .before .before .before .before .before .before .before .args .count) (c .before .before .before .before .before .before .before .loop .stk) (c .before .before .before .before .before .before .before .loop .sp) (c .before .before .before .before .before .before .before .loop .inv .0) (c .before .before .before .before .before .before .before .loop .inv .7) (c .before .before .before .before .before .before .loop-test .taken) (c .before .before .before .before .if1 .left) (c .before .before .before .if4 .taken)) (ap (predict (getD (c .before .before .before .before .before .before .before .loop .stk) (c .before .before .before .before .before .before .before .loop .sp) 0 - 68)) (sym (c .before .before .next-kind2 .ensures)) ∙ sym (c .before .pick .ensures) ∙ c .if5 .taken)
+returns-3 c =
+    let at-pick = c .before in
+    let at-next-kind2 = at-pick .before in
+    let at-if4 = at-next-kind2 .before in
+    let at-if1 = at-if4 .before in
+    let at-loop-test = at-if1 .before .before in
+    let at-loop = at-loop-test .before in
+    let start = at-loop .before .before .before .before .before .before .before .before .before .before .before .before .before .before .before .before .before .before .before in
+    going.no-rule (start .args .text .now) (start .args .elements .now) (start .args .count) _ (turns.at-nt (start .args .text .now) (start .args .elements .now) (start .args .count) (at-loop .loop .stk) (at-loop .loop .sp) (at-loop .loop .inv .0) (at-loop .loop .inv .7) (at-loop-test .loop-test .taken) (at-if1 .if1 .left) (at-if4 .if4 .taken)) (ap (predict (getD (at-loop .loop .stk) (at-loop .loop .sp) 0 - 68)) (sym (at-next-kind2 .next-kind2 .ensures)) ∙ sym (at-pick .pick .ensures) ∙ c .if5 .taken)
 
 sub-p : tie.Need-sub-p Inv-loop μ-loop
 sub-p c = omega arith
 
 body-len-requires : tie.Need-body-len-requires Inv-loop μ-loop
-body-len-requires c κs = (c .before .before .before .before .before .before .before .before .before .before .before .before .before .before .before .before .before .before .before .before .before .before .before .before .before .before .before .before .before .pre .10, turns.rule-in (c .before .before .before .before .before .before .before .before .before .before .before .before .before .before .before .before .before .before .before .before .before .before .before .before .before .before .before .before .before .args .text .now) (c .before .before .before .before .before .before .before .before .before .before .before .before .before .before .before .before .before .before .before .before .before .before .before .before .before .before .before .before .before .args .elements .now) (c .before .before .before .before .before .before .before .before .before .before .before .before .before .before .before .before .before .before .before .before .before .before .before .before .before .before .before .before .before .args .count) (c .before .before .before .before .before .before .before .loop .stk) (c .before .before .before .before .before .before .before .loop .sp) (c .before .before .before .before .before .before .before .loop .inv .0) (c .before .before .before .before .before .before .before .loop .at) (c .before .before .next-kind2 .result) (c .before .pick .result) (c .before .before .before .before .before .before .loop-test .taken) (c .before .before .before .before .if1 .left) (c .before .before .before .if4 .taken) (c .before .before .next-kind2 .ensures) (c .before .pick .ensures) (c .if5 .left))
+body-len-requires c κs =
+    let at-pick = c .before in
+    let at-next-kind2 = at-pick .before in
+    let at-if4 = at-next-kind2 .before in
+    let at-if1 = at-if4 .before in
+    let at-loop-test = at-if1 .before .before in
+    let at-loop = at-loop-test .before in
+    let start = at-loop .before .before .before .before .before .before .before .before .before .before .before .before .before .before .before .before .before .before .before in
+    (start .pre .8, turns.rule-in (start .args .text .now) (start .args .elements .now) (start .args .count) (at-loop .loop .stk) (at-loop .loop .sp) (at-loop .loop .inv .0) (at-loop .loop .at) (at-next-kind2 .next-kind2 .result) (at-pick .pick .result) (at-loop-test .loop-test .taken) (at-if1 .if1 .left) (at-if4 .if4 .taken) (at-next-kind2 .next-kind2 .ensures) (at-pick .pick .ensures) (c .if5 .left))
 
 add-push : tie.Need-add-push Inv-loop μ-loop
 add-push c = omega arith
 
 push-requires : tie.Need-push-requires Inv-loop μ-loop
-push-requires c κs = (c .before .body-len .ensures, turns.rule-room (c .before .before .before .before .before .before .before .before .before .before .before .before .before .before .before .before .before .before .before .before .before .before .before .before .before .before .before .before .before .before .before .args .text .now) (c .before .before .before .before .before .before .before .before .before .before .before .before .before .before .before .before .before .before .before .before .before .before .before .before .before .before .before .before .before .before .before .args .elements .now) (c .before .before .before .before .before .before .before .before .before .before .before .before .before .before .before .before .before .before .before .before .before .before .before .before .before .before .before .before .before .before .before .args .count) (c .before .before .before .before .before .before .before .before .before .loop .stk) (c .before .before .before .before .before .before .before .before .before .loop .sp) (c .before .before .before .before .before .before .before .before .before .loop .inv .0) (c .before .before .before .before .before .before .before .before .before .loop .at) (c .before .before .before .before .next-kind2 .result) (c .before .before .before .pick .result) (c .before .before .before .before .before .before .before .before .loop-test .taken) (c .before .before .before .before .before .before .if1 .left) (c .before .before .before .before .before .if4 .taken) (c .before .before .before .before .next-kind2 .ensures) (c .before .before .before .pick .ensures) (c .before .before .if5 .left) (c .before .before .before .before .before .before .before .before .before .loop .inv .7) (c .before .body-len .result) (c .before .body-len .ensures), omega arith, c .before .before .before .before .before .before .before .before .before .before .before .before .before .before .before .before .before .before .before .before .before .before .before .before .before .before .before .before .before .before .before .pre .11)
+push-requires c κs =
+    let at-body-len = c .before in
+    let at-if5 = at-body-len .before in
+    let at-pick = at-if5 .before in
+    let at-next-kind2 = at-pick .before in
+    let at-if4 = at-next-kind2 .before in
+    let at-if1 = at-if4 .before in
+    let at-loop-test = at-if1 .before .before in
+    let at-loop = at-loop-test .before in
+    let start = at-loop .before .before .before .before .before .before .before .before .before .before .before .before .before .before .before .before .before .before .before in
+    (at-body-len .body-len .ensures, turns.rule-room (start .args .text .now) (start .args .elements .now) (start .args .count) (at-loop .loop .stk) (at-loop .loop .sp) (at-loop .loop .inv .0) (at-loop .loop .at) (at-next-kind2 .next-kind2 .result) (at-pick .pick .result) (at-loop-test .loop-test .taken) (at-if1 .if1 .left) (at-if4 .if4 .taken) (at-next-kind2 .next-kind2 .ensures) (at-pick .pick .ensures) (at-if5 .if5 .left) (at-loop .loop .inv .7) (at-body-len .body-len .result) (at-body-len .body-len .ensures), omega arith, start .pre .8)
 
 add-sp-2 : tie.Need-add-sp-2 Inv-loop μ-loop
 add-sp-2 c = omega arith
 
 sub-sp : tie.Need-sub-sp Inv-loop μ-loop
-sub-sp c = turns.rule-room (c .before .before .before .before .before .before .before .before .before .before .before .before .before .before .before .before .before .before .before .before .before .before .before .before .before .before .before .before .before .before .before .before .before .before .args .text .now) (c .before .before .before .before .before .before .before .before .before .before .before .before .before .before .before .before .before .before .before .before .before .before .before .before .before .before .before .before .before .before .before .before .before .before .args .elements .now) (c .before .before .before .before .before .before .before .before .before .before .before .before .before .before .before .before .before .before .before .before .before .before .before .before .before .before .before .before .before .before .before .before .before .before .args .count) (c .before .before .before .before .before .before .before .before .before .before .before .before .loop .stk) (c .before .before .before .before .before .before .before .before .before .before .before .before .loop .sp) (c .before .before .before .before .before .before .before .before .before .before .before .before .loop .inv .0) (c .before .before .before .before .before .before .before .before .before .before .before .before .loop .at) (c .before .before .before .before .before .before .before .next-kind2 .result) (c .before .before .before .before .before .before .pick .result) (c .before .before .before .before .before .before .before .before .before .before .before .loop-test .taken) (c .before .before .before .before .before .before .before .before .before .if1 .left) (c .before .before .before .before .before .before .before .before .if4 .taken) (c .before .before .before .before .before .before .before .next-kind2 .ensures) (c .before .before .before .before .before .before .pick .ensures) (c .before .before .before .before .before .if5 .left) (c .before .before .before .before .before .before .before .before .before .before .before .before .loop .inv .7) (c .before .before .before .before .body-len .result) (c .before .before .before .before .body-len .ensures)
+sub-sp c =
+    let at-body-len = c .before .before .before .before in
+    let at-if5 = at-body-len .before in
+    let at-pick = at-if5 .before in
+    let at-next-kind2 = at-pick .before in
+    let at-if4 = at-next-kind2 .before in
+    let at-if1 = at-if4 .before in
+    let at-loop-test = at-if1 .before .before in
+    let at-loop = at-loop-test .before in
+    let start = at-loop .before .before .before .before .before .before .before .before .before .before .before .before .before .before .before .before .before .before .before in
+    turns.rule-room (start .args .text .now) (start .args .elements .now) (start .args .count) (at-loop .loop .stk) (at-loop .loop .sp) (at-loop .loop .inv .0) (at-loop .loop .at) (at-next-kind2 .next-kind2 .result) (at-pick .pick .result) (at-loop-test .loop-test .taken) (at-if1 .if1 .left) (at-if4 .if4 .taken) (at-next-kind2 .next-kind2 .ensures) (at-pick .pick .ensures) (at-if5 .if5 .left) (at-loop .loop .inv .7) (at-body-len .body-len .result) (at-body-len .body-len .ensures)
 
 loop-less-2 : tie.Need-loop-less-2 Inv-loop μ-loop
-loop-less-2 c = turns.rule-less (c .before .before .before .before .before .before .before .before .before .before .before .before .before .before .before .before .before .before .before .before .before .before .before .before .before .before .before .before .before .before .before .before .before .before .args .text .now) (c .before .before .before .before .before .before .before .before .before .before .before .before .before .before .before .before .before .before .before .before .before .before .before .before .before .before .before .before .before .before .before .before .before .before .args .elements .now) (c .before .before .before .before .before .before .before .before .before .before .before .before .before .before .before .before .before .before .before .before .before .before .before .before .before .before .before .before .before .before .before .before .before .before .args .count) (c .before .before .before .before .before .before .before .before .before .before .before .before .loop .stk) (c .before .before .before .before .before .before .before .before .before .before .before .before .loop .sp) (c .before .before .before .before .before .before .before .before .before .before .before .before .loop .inv .0) (c .before .before .before .before .before .before .before .before .before .before .before .before .loop .at) (c .before .before .before .before .before .before .before .next-kind2 .result) (c .before .before .before .before .before .before .pick .result) (c .before .before .before .before .before .before .before .before .before .before .before .loop-test .taken) (c .before .before .before .before .before .before .before .before .before .if1 .left) (c .before .before .before .before .before .before .before .before .if4 .taken) (c .before .before .before .before .before .before .before .next-kind2 .ensures) (c .before .before .before .before .before .before .pick .ensures) (c .before .before .before .before .before .if5 .left) _ (c .before .before .push .ensures)
+loop-less-2 c =
+    let at-push = c .before .before in
+    let at-if5 = at-push .before .before .before in
+    let at-pick = at-if5 .before in
+    let at-next-kind2 = at-pick .before in
+    let at-if4 = at-next-kind2 .before in
+    let at-if1 = at-if4 .before in
+    let at-loop-test = at-if1 .before .before in
+    let at-loop = at-loop-test .before in
+    let start = at-loop .before .before .before .before .before .before .before .before .before .before .before .before .before .before .before .before .before .before .before in
+    turns.rule-less (start .args .text .now) (start .args .elements .now) (start .args .count) (at-loop .loop .stk) (at-loop .loop .sp) (at-loop .loop .inv .0) (at-loop .loop .at) (at-next-kind2 .next-kind2 .result) (at-pick .pick .result) (at-loop-test .loop-test .taken) (at-if1 .if1 .left) (at-if4 .if4 .taken) (at-next-kind2 .next-kind2 .ensures) (at-pick .pick .ensures) (at-if5 .if5 .left) _ (at-push .push .ensures)
 
 loop-again-2 : tie.Need-loop-again-2 Inv-loop μ-loop
-loop-again-2 c = (
-  c .before .before .push .kept .1 .0 ∙ c .before .before .before .before .before .before .before .before .before .before .before .before .loop .inv .0,
-  omega arith,
-  c .before .before .before .before .before .before .before .before .before .before .before .before .loop .inv .2,
-  c .before .before .before .before .before .before .before .before .before .before .before .before .loop .inv .3,
-  c .before .before .before .before .before .before .before .before .before .before .before .before .loop .inv .4,
-  c .before .before .before .before .before .before .before .before .before .before .before .before .loop .inv .5,
-  c .before .before .before .before .before .before .before .before .before .before .before .before .loop .inv .6,
-  turns.rule-on (c .before .before .before .before .before .before .before .before .before .before .before .before .before .before .before .before .before .before .before .before .before .before .before .before .before .before .before .before .before .before .before .before .before .before .args .text .now) (c .before .before .before .before .before .before .before .before .before .before .before .before .before .before .before .before .before .before .before .before .before .before .before .before .before .before .before .before .before .before .before .before .before .before .args .elements .now) (c .before .before .before .before .before .before .before .before .before .before .before .before .before .before .before .before .before .before .before .before .before .before .before .before .before .before .before .before .before .before .before .before .before .before .args .count) (c .before .before .before .before .before .before .before .before .before .before .before .before .loop .stk) (c .before .before .before .before .before .before .before .before .before .before .before .before .loop .sp) (c .before .before .before .before .before .before .before .before .before .before .before .before .loop .inv .0) (c .before .before .before .before .before .before .before .before .before .before .before .before .loop .at) (c .before .before .before .before .before .before .before .next-kind2 .result) (c .before .before .before .before .before .before .pick .result) (c .before .before .before .before .before .before .before .before .before .before .before .loop-test .taken) (c .before .before .before .before .before .before .before .before .before .if1 .left) (c .before .before .before .before .before .before .before .before .if4 .taken) (c .before .before .before .before .before .before .before .next-kind2 .ensures) (c .before .before .before .before .before .before .pick .ensures) (c .before .before .before .before .before .if5 .left) (c .before .before .before .before .before .before .before .before .before .before .before .before .loop .inv .7) (c .before .before .before .before .body-len .result) (c .before .before .push .last .1 .0) (c .before .before .before .before .body-len .ensures) (c .before .before .push .ensures),
-)
+loop-again-2 c =
+    let at-push = c .before .before in
+    let at-body-len = at-push .before .before in
+    let at-if5 = at-body-len .before in
+    let at-pick = at-if5 .before in
+    let at-next-kind2 = at-pick .before in
+    let at-if4 = at-next-kind2 .before in
+    let at-if1 = at-if4 .before in
+    let at-loop-test = at-if1 .before .before in
+    let at-loop = at-loop-test .before in
+    let start = at-loop .before .before .before .before .before .before .before .before .before .before .before .before .before .before .before .before .before .before .before in (
+      at-push .push .kept .1 .0 ∙ at-loop .loop .inv .0,
+      omega arith,
+      at-loop .loop .inv .2,
+      at-loop .loop .inv .3,
+      at-loop .loop .inv .4,
+      at-loop .loop .inv .5,
+      at-loop .loop .inv .6,
+      turns.rule-on (start .args .text .now) (start .args .elements .now) (start .args .count) (at-loop .loop .stk) (at-loop .loop .sp) (at-loop .loop .inv .0) (at-loop .loop .at) (at-next-kind2 .next-kind2 .result) (at-pick .pick .result) (at-loop-test .loop-test .taken) (at-if1 .if1 .left) (at-if4 .if4 .taken) (at-next-kind2 .next-kind2 .ensures) (at-pick .pick .ensures) (at-if5 .if5 .left) (at-loop .loop .inv .7) (at-body-len .body-len .result) (at-push .push .last .1 .0) (at-body-len .body-len .ensures) (at-push .push .ensures),
+    )
 
 do-act-requires : tie.Need-do-act-requires Inv-loop μ-loop
 do-act-requires c κs =
-    let g = c .before .before .before .before .before .before .before .before .loop .inv .7 in
-    let u = turns.room-rows (c .before .before .before .before .before .before .before .before .before .before .before .before .before .before .before .before .before .before .before .before .before .before .before .before .before .before .before .before .before .before .args .text .now) (c .before .before .before .before .before .before .before .before .before .before .before .before .before .before .before .before .before .before .before .before .before .before .before .before .before .before .before .before .before .before .args .elements .now) (c .before .before .before .before .before .before .before .before .before .before .before .before .before .before .before .before .before .before .before .before .before .before .before .before .before .before .before .before .before .before .args .count) (c .before .before .before .before .before .before .before .before .loop .stk) (c .before .before .before .before .before .before .before .before .loop .sp) (c .before .before .before .before .before .before .before .before .loop .inv .0) g (c .before .before .before .before .before .before .before .loop-test .taken) (omega arith) in (
-      turns.room-frames (c .before .before .before .before .before .before .before .before .before .before .before .before .before .before .before .before .before .before .before .before .before .before .before .before .before .before .before .before .before .before .args .text .now) (c .before .before .before .before .before .before .before .before .before .before .before .before .before .before .before .before .before .before .before .before .before .before .before .before .before .before .before .before .before .before .args .elements .now) (c .before .before .before .before .before .before .before .before .before .before .before .before .before .before .before .before .before .before .before .before .before .before .before .before .before .before .before .before .before .before .args .count) (c .before .before .before .before .before .before .before .before .loop .stk) (c .before .before .before .before .before .before .before .before .loop .sp) (c .before .before .before .before .before .before .before .before .loop .inv .0) g (c .before .before .before .before .before .before .before .loop-test .taken) (c .before .before .before .before .before .before .before .before .loop .inv .2) (c .before .before .before .before .if4 .left),
-      going.frames-bound (c .before .before .before .before .before .before .before .before .before .before .before .before .before .before .before .before .before .before .before .before .before .before .before .before .before .before .before .before .before .before .args .text .now) (c .before .before .before .before .before .before .before .before .before .before .before .before .before .before .before .before .before .before .before .before .before .before .before .before .before .before .before .before .before .before .args .elements .now) (c .before .before .before .before .before .before .before .before .before .before .before .before .before .before .before .before .before .before .before .before .before .before .before .before .before .before .before .before .before .before .args .count) _ g,
+    let at-if4 = c .before .before .before .before in
+    let at-loop-test = at-if4 .before .before .before in
+    let at-loop = at-loop-test .before in
+    let start = at-loop .before .before .before .before .before .before .before .before .before .before .before .before .before .before .before .before .before .before .before in
+    let g = at-loop .loop .inv .7 in
+    let u = turns.room-rows (start .args .text .now) (start .args .elements .now) (start .args .count) (at-loop .loop .stk) (at-loop .loop .sp) (at-loop .loop .inv .0) g (at-loop-test .loop-test .taken) (omega arith) in (
+      turns.room-frames (start .args .text .now) (start .args .elements .now) (start .args .count) (at-loop .loop .stk) (at-loop .loop .sp) (at-loop .loop .inv .0) g (at-loop-test .loop-test .taken) (at-loop .loop .inv .2) (at-if4 .if4 .left),
+      going.frames-bound (start .args .text .now) (start .args .elements .now) (start .args .count) _ g,
       omega arith,
       omega arith,
       omega arith,
       omega arith,
-      going.depth-bound (c .before .before .before .before .before .before .before .before .before .before .before .before .before .before .before .before .before .before .before .before .before .before .before .before .before .before .before .before .before .before .args .text .now) (c .before .before .before .before .before .before .before .before .before .before .before .before .before .before .before .before .before .before .before .before .before .before .before .before .before .before .before .before .before .before .args .elements .now) (c .before .before .before .before .before .before .before .before .before .before .before .before .before .before .before .before .before .before .before .before .before .before .before .before .before .before .before .before .before .before .args .count) _ g,
-      going.base-bound (c .before .before .before .before .before .before .before .before .before .before .before .before .before .before .before .before .before .before .before .before .before .before .before .before .before .before .before .before .before .before .args .text .now) (c .before .before .before .before .before .before .before .before .before .before .before .before .before .before .before .before .before .before .before .before .before .before .before .before .before .before .before .before .before .before .args .elements .now) (c .before .before .before .before .before .before .before .before .before .before .before .before .before .before .before .before .before .before .before .before .before .before .before .before .before .before .before .before .before .before .args .count) _ g,
+      going.depth-bound (start .args .text .now) (start .args .elements .now) (start .args .count) _ g,
+      going.base-bound (start .args .text .now) (start .args .elements .now) (start .args .count) _ g,
     )
 
 enum-known-r : tie.Need-enum-known-r Inv-loop μ-loop
@@ -189,20 +284,31 @@ add-sp-3 : tie.Need-add-sp-3 Inv-loop μ-loop
 add-sp-3 c = omega arith
 
 loop-less-3 : tie.Need-loop-less-3 Inv-loop μ-loop
-loop-less-3 c = turns.less-act (c .before .before .before .before .before .before .before .before .before .before .before .before .before .before .before .before .before .before .before .before .before .before .before .before .before .before .before .before .before .before .before .before .before .before .before .before .before .before .before .before .before .before .args .text .now) (c .before .before .before .before .before .before .before .before .before .before .before .before .before .before .before .before .before .before .before .before .before .before .before .before .before .before .before .before .before .before .before .before .before .before .before .before .before .before .before .before .before .before .args .elements .now) (c .before .before .before .before .before .before .before .before .before .before .before .before .before .before .before .before .before .before .before .before .before .before .before .before .before .before .before .before .before .before .before .before .before .before .before .before .before .before .before .before .before .before .args .count) (c .before .before .before .before .before .before .before .before .before .before .before .before .before .before .before .before .before .before .before .before .loop .stk) (c .before .before .before .before .before .before .before .before .before .before .before .before .before .before .before .before .before .before .before .before .loop .sp) (c .before .before .before .before .before .before .before .before .before .before .before .before .before .before .before .before .before .before .before .before .loop .inv .0) (c .before .before .before .before .before .before .before .before .before .before .before .before .before .before .before .before .before .before .before .before .loop .at) (c .before .before .before .before .before .before .before .before .before .before .before .before .before .before .before .before .before .before .before .loop-test .taken) (c .before .before .before .before .before .before .before .before .before .before .before .before .before .before .before .before .if4 .left)
+loop-less-3 c =
+    let at-if4 = c .before .before .before .before .before .before .before .before .before .before .before .before .before .before .before .before in
+    let at-loop-test = at-if4 .before .before .before in
+    let at-loop = at-loop-test .before in
+    let start = at-loop .before .before .before .before .before .before .before .before .before .before .before .before .before .before .before .before .before .before .before in
+    turns.less-act (start .args .text .now) (start .args .elements .now) (start .args .count) (at-loop .loop .stk) (at-loop .loop .sp) (at-loop .loop .inv .0) (at-loop .loop .at) (at-loop-test .loop-test .taken) (at-if4 .if4 .left)
 
 loop-again-3 : tie.Need-loop-again-3 Inv-loop μ-loop
 loop-again-3 c =
-    let g = turns.at-act (c .before .before .before .before .before .before .before .before .before .before .before .before .before .before .before .before .before .before .before .before .before .before .before .before .before .before .before .before .before .before .before .before .before .before .before .before .before .before .before .before .before .before .args .text .now) (c .before .before .before .before .before .before .before .before .before .before .before .before .before .before .before .before .before .before .before .before .before .before .before .before .before .before .before .before .before .before .before .before .before .before .before .before .before .before .before .before .before .before .args .elements .now) (c .before .before .before .before .before .before .before .before .before .before .before .before .before .before .before .before .before .before .before .before .before .before .before .before .before .before .before .before .before .before .before .before .before .before .before .before .before .before .before .before .before .before .args .count) (c .before .before .before .before .before .before .before .before .before .before .before .before .before .before .before .before .before .before .before .before .loop .stk) (c .before .before .before .before .before .before .before .before .before .before .before .before .before .before .before .before .before .before .before .before .loop .sp) (c .before .before .before .before .before .before .before .before .before .before .before .before .before .before .before .before .before .before .before .before .loop .inv .0) (c .before .before .before .before .before .before .before .before .before .before .before .before .before .before .before .before .before .before .before .before .loop .inv .7) (c .before .before .before .before .before .before .before .before .before .before .before .before .before .before .before .before .before .before .before .loop-test .taken) (c .before .before .before .before .before .before .before .before .before .before .before .before .before .before .before .before .if4 .left) in
-    let d = c .before .before .before .before .before .before .before .before .before .before .before .do-act in (
-      c .before .before .before .before .before .before .before .before .before .before .before .before .before .before .before .before .before .before .before .before .loop .inv .0,
+    let at-r = c .before in
+    let at-do-act = at-r .before .before .before .before .before .before .before .before .before .before in
+    let at-if4 = at-do-act .before .before .before .before .before in
+    let at-loop-test = at-if4 .before .before .before in
+    let at-loop = at-loop-test .before in
+    let start = at-loop .before .before .before .before .before .before .before .before .before .before .before .before .before .before .before .before .before .before .before in
+    let g = turns.at-act (start .args .text .now) (start .args .elements .now) (start .args .count) (at-loop .loop .stk) (at-loop .loop .sp) (at-loop .loop .inv .0) (at-loop .loop .inv .7) (at-loop-test .loop-test .taken) (at-if4 .if4 .left) in
+    let d = at-do-act .do-act in (
+      at-loop .loop .inv .0,
       omega arith,
-      d .kept .1 .1 .1 .1 .0 ∙ c .before .before .before .before .before .before .before .before .before .before .before .before .before .before .before .before .before .before .before .before .loop .inv .2,
-      d .kept .1 .1 .1 .1 .1 .0 ∙ c .before .before .before .before .before .before .before .before .before .before .before .before .before .before .before .before .before .before .before .before .loop .inv .3,
-      d .kept .1 .1 .1 .1 .1 .1 .0 ∙ c .before .before .before .before .before .before .before .before .before .before .before .before .before .before .before .before .before .before .before .before .loop .inv .4,
-      d .kept .1 .1 .1 .1 .1 .1 .1 .0 ∙ c .before .before .before .before .before .before .before .before .before .before .before .before .before .before .before .before .before .before .before .before .loop .inv .5,
-      c .before .before .before .before .before .before .before .before .before .before .before .before .before .before .before .before .before .before .before .before .loop .inv .6,
-      going.goes-by (c .before .before .before .before .before .before .before .before .before .before .before .before .before .before .before .before .before .before .before .before .before .before .before .before .before .before .before .before .before .before .before .before .before .before .before .before .before .before .before .before .before .before .args .text .now) (c .before .before .before .before .before .before .before .before .before .before .before .before .before .before .before .before .before .before .before .before .before .before .before .before .before .before .before .before .before .before .before .before .before .before .before .before .before .before .before .before .before .before .args .elements .now) (c .before .before .before .before .before .before .before .before .before .before .before .before .before .before .before .before .before .before .before .before .before .before .before .before .before .before .before .before .before .before .before .before .before .before .before .before .before .before .before .before .before .before .args .count) _ g (d .result) _ (d .last .1 .1 .1 .1 .0) (d .last .1 .1 .1 .1 .1 .0) (d .last .1 .1 .1 .1 .1 .1 .0) (d .last .1 .1 .1 .1 .1 .1 .1 .0) (c .before .r .given .1) (d .ensures (g .state) (g .held) (g .deep)),
+      d .kept .1 .1 .1 .1 .0 ∙ at-loop .loop .inv .2,
+      d .kept .1 .1 .1 .1 .1 .0 ∙ at-loop .loop .inv .3,
+      d .kept .1 .1 .1 .1 .1 .1 .0 ∙ at-loop .loop .inv .4,
+      d .kept .1 .1 .1 .1 .1 .1 .1 .0 ∙ at-loop .loop .inv .5,
+      at-loop .loop .inv .6,
+      going.goes-by (start .args .text .now) (start .args .elements .now) (start .args .count) _ g (d .result) _ (d .last .1 .1 .1 .1 .0) (d .last .1 .1 .1 .1 .1 .0) (d .last .1 .1 .1 .1 .1 .1 .0) (d .last .1 .1 .1 .1 .1 .1 .1 .0) (at-r .r .given .1) (d .ensures (g .state) (g .held) (g .deep)),
     )
 
 enum-told : tie.Need-enum-told Inv-loop μ-loop
@@ -212,25 +318,50 @@ minus-requires : tie.Need-minus-requires Inv-loop μ-loop
 minus-requires c κs = search needs
 
 same-length-16 : tie.Need-same-length-16 Inv-loop μ-loop
-same-length-16 c = c .before .before .before .before .before .before .before .before .before .before .before .before .before .before .before .before .before .before .before .before .loop .inv .0 ∙ sym (c .before .before .before .before .before .before .before .before .before .before .before .before .before .before .before .before .before .before .before .before .before .before .before .before .before .before .before .before .before .before .before .before .before .before .before .before .before .before .before .before .before .before .pre .3)
+same-length-16 c =
+    let at-loop = c .before .before .before .before .before .before .before .before .before .before .before .before .before .before .before .before .before .before .before .before in
+    let start = at-loop .before .before .before .before .before .before .before .before .before .before .before .before .before .before .before .before .before .before .before in
+    at-loop .loop .inv .0 ∙ sym (start .pre .3)
 
 same-length-17 : tie.Need-same-length-17 Inv-loop μ-loop
-same-length-17 c = c .before .before .before .before .before .before .before .before .before .before .before .do-act .kept .1 .1 .1 .1 .0 ∙ c .before .before .before .before .before .before .before .before .before .before .before .before .before .before .before .before .before .before .before .before .loop .inv .2 ∙ sym (c .before .before .before .before .before .before .before .before .before .before .before .before .before .before .before .before .before .before .before .before .before .before .before .before .before .before .before .before .before .before .before .before .before .before .before .before .before .before .before .before .before .before .pre .4)
+same-length-17 c =
+    let at-do-act = c .before .before .before .before .before .before .before .before .before .before .before in
+    let at-loop = at-do-act .before .before .before .before .before .before .before .before .before in
+    let start = at-loop .before .before .before .before .before .before .before .before .before .before .before .before .before .before .before .before .before .before .before in
+    at-do-act .do-act .kept .1 .1 .1 .1 .0 ∙ at-loop .loop .inv .2 ∙ sym (start .pre .4)
 
 same-length-18 : tie.Need-same-length-18 Inv-loop μ-loop
-same-length-18 c = c .before .before .before .before .before .before .before .before .before .before .before .do-act .kept .1 .1 .1 .1 .1 .0 ∙ c .before .before .before .before .before .before .before .before .before .before .before .before .before .before .before .before .before .before .before .before .loop .inv .3 ∙ sym (c .before .before .before .before .before .before .before .before .before .before .before .before .before .before .before .before .before .before .before .before .before .before .before .before .before .before .before .before .before .before .before .before .before .before .before .before .before .before .before .before .before .before .pre .5)
+same-length-18 c =
+    let at-do-act = c .before .before .before .before .before .before .before .before .before .before .before in
+    let at-loop = at-do-act .before .before .before .before .before .before .before .before .before in
+    let start = at-loop .before .before .before .before .before .before .before .before .before .before .before .before .before .before .before .before .before .before .before in
+    at-do-act .do-act .kept .1 .1 .1 .1 .1 .0 ∙ at-loop .loop .inv .3 ∙ sym (start .pre .5)
 
 same-length-19 : tie.Need-same-length-19 Inv-loop μ-loop
-same-length-19 c = c .before .before .before .before .before .before .before .before .before .before .before .do-act .kept .1 .1 .1 .1 .1 .1 .0 ∙ c .before .before .before .before .before .before .before .before .before .before .before .before .before .before .before .before .before .before .before .before .loop .inv .4 ∙ sym (c .before .before .before .before .before .before .before .before .before .before .before .before .before .before .before .before .before .before .before .before .before .before .before .before .before .before .before .before .before .before .before .before .before .before .before .before .before .before .before .before .before .before .pre .6)
+same-length-19 c =
+    let at-do-act = c .before .before .before .before .before .before .before .before .before .before .before in
+    let at-loop = at-do-act .before .before .before .before .before .before .before .before .before in
+    let start = at-loop .before .before .before .before .before .before .before .before .before .before .before .before .before .before .before .before .before .before .before in
+    at-do-act .do-act .kept .1 .1 .1 .1 .1 .1 .0 ∙ at-loop .loop .inv .4 ∙ sym (start .pre .6)
 
 same-length-20 : tie.Need-same-length-20 Inv-loop μ-loop
-same-length-20 c = c .before .before .before .before .before .before .before .before .before .before .before .do-act .kept .1 .1 .1 .1 .1 .1 .1 .0 ∙ c .before .before .before .before .before .before .before .before .before .before .before .before .before .before .before .before .before .before .before .before .loop .inv .5 ∙ sym (c .before .before .before .before .before .before .before .before .before .before .before .before .before .before .before .before .before .before .before .before .before .before .before .before .before .before .before .before .before .before .before .before .before .before .before .before .before .before .before .before .before .before .pre .7)
+same-length-20 c =
+    let at-do-act = c .before .before .before .before .before .before .before .before .before .before .before in
+    let at-loop = at-do-act .before .before .before .before .before .before .before .before .before in
+    let start = at-loop .before .before .before .before .before .before .before .before .before .before .before .before .before .before .before .before .before .before .before in
+    at-do-act .do-act .kept .1 .1 .1 .1 .1 .1 .1 .0 ∙ at-loop .loop .inv .5 ∙ sym (start .pre .7)
 
 returns-4 : tie.Need-returns-4 Inv-loop μ-loop
 returns-4 c =
-    let g = turns.at-act (c .before .before .before .before .before .before .before .before .before .before .before .before .before .before .before .before .before .before .before .before .before .before .before .before .before .before .before .before .before .before .before .before .before .before .before .before .before .before .before .before .before .before .args .text .now) (c .before .before .before .before .before .before .before .before .before .before .before .before .before .before .before .before .before .before .before .before .before .before .before .before .before .before .before .before .before .before .before .before .before .before .before .before .before .before .before .before .before .before .args .elements .now) (c .before .before .before .before .before .before .before .before .before .before .before .before .before .before .before .before .before .before .before .before .before .before .before .before .before .before .before .before .before .before .before .before .before .before .before .before .before .before .before .before .before .before .args .count) (c .before .before .before .before .before .before .before .before .before .before .before .before .before .before .before .before .before .before .before .before .loop .stk) (c .before .before .before .before .before .before .before .before .before .before .before .before .before .before .before .before .before .before .before .before .loop .sp) (c .before .before .before .before .before .before .before .before .before .before .before .before .before .before .before .before .before .before .before .before .loop .inv .0) (c .before .before .before .before .before .before .before .before .before .before .before .before .before .before .before .before .before .before .before .before .loop .inv .7) (c .before .before .before .before .before .before .before .before .before .before .before .before .before .before .before .before .before .before .before .loop-test .taken) (c .before .before .before .before .before .before .before .before .before .before .before .before .before .before .before .before .if4 .left) in
-    let d = c .before .before .before .before .before .before .before .before .before .before .before .do-act in
-    going.name-differs-here (c .before .before .before .before .before .before .before .before .before .before .before .before .before .before .before .before .before .before .before .before .before .before .before .before .before .before .before .before .before .before .before .before .before .before .before .before .before .before .before .before .before .before .args .text .now) (c .before .before .before .before .before .before .before .before .before .before .before .before .before .before .before .before .before .before .before .before .before .before .before .before .before .before .before .before .before .before .before .before .before .before .before .before .before .before .before .before .before .before .args .elements .now) (c .before .before .before .before .before .before .before .before .before .before .before .before .before .before .before .before .before .before .before .before .before .before .before .before .before .before .before .before .before .before .before .before .before .before .before .before .before .before .before .before .before .before .args .count) _ g (d .result) (d .last .1 .1 .1 .1 .0) (d .last .1 .1 .1 .1 .1 .0) (d .last .1 .1 .1 .1 .1 .1 .0) (d .last .1 .1 .1 .1 .1 .1 .1 .0) _ _ _ (c .minus .result) (c .before .enum-told .given .1) (c .minus .ensures) (d .ensures (g .state) (g .held) (g .deep))
+    let at-enum-told = c .before in
+    let at-do-act = at-enum-told .before .before .before .before .before .before .before .before .before .before in
+    let at-if4 = at-do-act .before .before .before .before .before in
+    let at-loop-test = at-if4 .before .before .before in
+    let at-loop = at-loop-test .before in
+    let start = at-loop .before .before .before .before .before .before .before .before .before .before .before .before .before .before .before .before .before .before .before in
+    let g = turns.at-act (start .args .text .now) (start .args .elements .now) (start .args .count) (at-loop .loop .stk) (at-loop .loop .sp) (at-loop .loop .inv .0) (at-loop .loop .inv .7) (at-loop-test .loop-test .taken) (at-if4 .if4 .left) in
+    let d = at-do-act .do-act in
+    going.name-differs-here (start .args .text .now) (start .args .elements .now) (start .args .count) _ g (d .result) (d .last .1 .1 .1 .1 .0) (d .last .1 .1 .1 .1 .1 .0) (d .last .1 .1 .1 .1 .1 .1 .0) (d .last .1 .1 .1 .1 .1 .1 .1 .0) _ _ _ (c .minus .result) (at-enum-told .enum-told .given .1) (c .minus .ensures) (d .ensures (g .state) (g .held) (g .deep))
 
 enum-told-2 : tie.Need-enum-told-2 Inv-loop μ-loop
 enum-told-2 c = search needs
@@ -239,25 +370,50 @@ minus-requires-2 : tie.Need-minus-requires-2 Inv-loop μ-loop
 minus-requires-2 c κs = search needs
 
 same-length-21 : tie.Need-same-length-21 Inv-loop μ-loop
-same-length-21 c = c .before .before .before .before .before .before .before .before .before .before .before .before .before .before .before .before .before .before .before .before .loop .inv .0 ∙ sym (c .before .before .before .before .before .before .before .before .before .before .before .before .before .before .before .before .before .before .before .before .before .before .before .before .before .before .before .before .before .before .before .before .before .before .before .before .before .before .before .before .before .before .pre .3)
+same-length-21 c =
+    let at-loop = c .before .before .before .before .before .before .before .before .before .before .before .before .before .before .before .before .before .before .before .before in
+    let start = at-loop .before .before .before .before .before .before .before .before .before .before .before .before .before .before .before .before .before .before .before in
+    at-loop .loop .inv .0 ∙ sym (start .pre .3)
 
 same-length-22 : tie.Need-same-length-22 Inv-loop μ-loop
-same-length-22 c = c .before .before .before .before .before .before .before .before .before .before .before .do-act .kept .1 .1 .1 .1 .0 ∙ c .before .before .before .before .before .before .before .before .before .before .before .before .before .before .before .before .before .before .before .before .loop .inv .2 ∙ sym (c .before .before .before .before .before .before .before .before .before .before .before .before .before .before .before .before .before .before .before .before .before .before .before .before .before .before .before .before .before .before .before .before .before .before .before .before .before .before .before .before .before .before .pre .4)
+same-length-22 c =
+    let at-do-act = c .before .before .before .before .before .before .before .before .before .before .before in
+    let at-loop = at-do-act .before .before .before .before .before .before .before .before .before in
+    let start = at-loop .before .before .before .before .before .before .before .before .before .before .before .before .before .before .before .before .before .before .before in
+    at-do-act .do-act .kept .1 .1 .1 .1 .0 ∙ at-loop .loop .inv .2 ∙ sym (start .pre .4)
 
 same-length-23 : tie.Need-same-length-23 Inv-loop μ-loop
-same-length-23 c = c .before .before .before .before .before .before .before .before .before .before .before .do-act .kept .1 .1 .1 .1 .1 .0 ∙ c .before .before .before .before .before .before .before .before .before .before .before .before .before .before .before .before .before .before .before .before .loop .inv .3 ∙ sym (c .before .before .before .before .before .before .before .before .before .before .before .before .before .before .before .before .before .before .before .before .before .before .before .before .before .before .before .before .before .before .before .before .before .before .before .before .before .before .before .before .before .before .pre .5)
+same-length-23 c =
+    let at-do-act = c .before .before .before .before .before .before .before .before .before .before .before in
+    let at-loop = at-do-act .before .before .before .before .before .before .before .before .before in
+    let start = at-loop .before .before .before .before .before .before .before .before .before .before .before .before .before .before .before .before .before .before .before in
+    at-do-act .do-act .kept .1 .1 .1 .1 .1 .0 ∙ at-loop .loop .inv .3 ∙ sym (start .pre .5)
 
 same-length-24 : tie.Need-same-length-24 Inv-loop μ-loop
-same-length-24 c = c .before .before .before .before .before .before .before .before .before .before .before .do-act .kept .1 .1 .1 .1 .1 .1 .0 ∙ c .before .before .before .before .before .before .before .before .before .before .before .before .before .before .before .before .before .before .before .before .loop .inv .4 ∙ sym (c .before .before .before .before .before .before .before .before .before .before .before .before .before .before .before .before .before .before .before .before .before .before .before .before .before .before .before .before .before .before .before .before .before .before .before .before .before .before .before .before .before .before .pre .6)
+same-length-24 c =
+    let at-do-act = c .before .before .before .before .before .before .before .before .before .before .before in
+    let at-loop = at-do-act .before .before .before .before .before .before .before .before .before in
+    let start = at-loop .before .before .before .before .before .before .before .before .before .before .before .before .before .before .before .before .before .before .before in
+    at-do-act .do-act .kept .1 .1 .1 .1 .1 .1 .0 ∙ at-loop .loop .inv .4 ∙ sym (start .pre .6)
 
 same-length-25 : tie.Need-same-length-25 Inv-loop μ-loop
-same-length-25 c = c .before .before .before .before .before .before .before .before .before .before .before .do-act .kept .1 .1 .1 .1 .1 .1 .1 .0 ∙ c .before .before .before .before .before .before .before .before .before .before .before .before .before .before .before .before .before .before .before .before .loop .inv .5 ∙ sym (c .before .before .before .before .before .before .before .before .before .before .before .before .before .before .before .before .before .before .before .before .before .before .before .before .before .before .before .before .before .before .before .before .before .before .before .before .before .before .before .before .before .before .pre .7)
+same-length-25 c =
+    let at-do-act = c .before .before .before .before .before .before .before .before .before .before .before in
+    let at-loop = at-do-act .before .before .before .before .before .before .before .before .before in
+    let start = at-loop .before .before .before .before .before .before .before .before .before .before .before .before .before .before .before .before .before .before .before in
+    at-do-act .do-act .kept .1 .1 .1 .1 .1 .1 .1 .0 ∙ at-loop .loop .inv .5 ∙ sym (start .pre .7)
 
 returns-5 : tie.Need-returns-5 Inv-loop μ-loop
 returns-5 c =
-    let g = turns.at-act (c .before .before .before .before .before .before .before .before .before .before .before .before .before .before .before .before .before .before .before .before .before .before .before .before .before .before .before .before .before .before .before .before .before .before .before .before .before .before .before .before .before .before .args .text .now) (c .before .before .before .before .before .before .before .before .before .before .before .before .before .before .before .before .before .before .before .before .before .before .before .before .before .before .before .before .before .before .before .before .before .before .before .before .before .before .before .before .before .before .args .elements .now) (c .before .before .before .before .before .before .before .before .before .before .before .before .before .before .before .before .before .before .before .before .before .before .before .before .before .before .before .before .before .before .before .before .before .before .before .before .before .before .before .before .before .before .args .count) (c .before .before .before .before .before .before .before .before .before .before .before .before .before .before .before .before .before .before .before .before .loop .stk) (c .before .before .before .before .before .before .before .before .before .before .before .before .before .before .before .before .before .before .before .before .loop .sp) (c .before .before .before .before .before .before .before .before .before .before .before .before .before .before .before .before .before .before .before .before .loop .inv .0) (c .before .before .before .before .before .before .before .before .before .before .before .before .before .before .before .before .before .before .before .before .loop .inv .7) (c .before .before .before .before .before .before .before .before .before .before .before .before .before .before .before .before .before .before .before .loop-test .taken) (c .before .before .before .before .before .before .before .before .before .before .before .before .before .before .before .before .if4 .left) in
-    let d = c .before .before .before .before .before .before .before .before .before .before .before .do-act in
-    going.too-deep-here (c .before .before .before .before .before .before .before .before .before .before .before .before .before .before .before .before .before .before .before .before .before .before .before .before .before .before .before .before .before .before .before .before .before .before .before .before .before .before .before .before .before .before .args .text .now) (c .before .before .before .before .before .before .before .before .before .before .before .before .before .before .before .before .before .before .before .before .before .before .before .before .before .before .before .before .before .before .before .before .before .before .before .before .before .before .before .before .before .before .args .elements .now) (c .before .before .before .before .before .before .before .before .before .before .before .before .before .before .before .before .before .before .before .before .before .before .before .before .before .before .before .before .before .before .before .before .before .before .before .before .before .before .before .before .before .before .args .count) _ g (d .result) (d .last .1 .1 .1 .1 .0) (d .last .1 .1 .1 .1 .1 .0) (d .last .1 .1 .1 .1 .1 .1 .0) (d .last .1 .1 .1 .1 .1 .1 .1 .0) _ _ _ (c .minus2 .result) (c .before .enum-told2 .given .1) (c .minus2 .ensures) (d .ensures (g .state) (g .held) (g .deep))
+    let at-enum-told2 = c .before in
+    let at-do-act = at-enum-told2 .before .before .before .before .before .before .before .before .before .before in
+    let at-if4 = at-do-act .before .before .before .before .before in
+    let at-loop-test = at-if4 .before .before .before in
+    let at-loop = at-loop-test .before in
+    let start = at-loop .before .before .before .before .before .before .before .before .before .before .before .before .before .before .before .before .before .before .before in
+    let g = turns.at-act (start .args .text .now) (start .args .elements .now) (start .args .count) (at-loop .loop .stk) (at-loop .loop .sp) (at-loop .loop .inv .0) (at-loop .loop .inv .7) (at-loop-test .loop-test .taken) (at-if4 .if4 .left) in
+    let d = at-do-act .do-act in
+    going.too-deep-here (start .args .text .now) (start .args .elements .now) (start .args .count) _ g (d .result) (d .last .1 .1 .1 .1 .0) (d .last .1 .1 .1 .1 .1 .0) (d .last .1 .1 .1 .1 .1 .1 .0) (d .last .1 .1 .1 .1 .1 .1 .1 .0) _ _ _ (c .minus2 .result) (at-enum-told2 .enum-told2 .given .1) (c .minus2 .ensures) (d .ensures (g .state) (g .held) (g .deep))
 
 same-length-26 : tie.Need-same-length-26 Inv-loop μ-loop
 same-length-26 c = search needs
@@ -275,7 +431,11 @@ same-length-30 : tie.Need-same-length-30 Inv-loop μ-loop
 same-length-30 c = search needs
 
 returns-6 : tie.Need-returns-6 Inv-loop μ-loop
-returns-6 c = going.too-much (c .before .before .before .before .before .before .before .before .before .before .before .before .before .before .before .before .before .before .before .before .before .before .before .before .args .text .now) (c .before .before .before .before .before .before .before .before .before .before .before .before .before .before .before .before .before .before .before .before .before .before .before .before .args .elements .now) (c .before .before .before .before .before .before .before .before .before .before .before .before .before .before .before .before .before .before .before .before .before .before .before .before .args .count) _ (turns.at-end (c .before .before .before .before .before .before .before .before .before .before .before .before .before .before .before .before .before .before .before .before .before .before .before .before .args .text .now) (c .before .before .before .before .before .before .before .before .before .before .before .before .before .before .before .before .before .before .before .before .before .before .before .before .args .elements .now) (c .before .before .before .before .before .before .before .before .before .before .before .before .before .before .before .before .before .before .before .before .before .before .before .before .args .count) (c .before .before .loop .stk) (c .before .before .loop .sp) (c .before .before .loop .inv .0) (c .before .before .loop .inv .7) (c .before .loop-test .left)) (c .if6 .taken)
+returns-6 c =
+    let at-loop-test = c .before in
+    let at-loop = at-loop-test .before in
+    let start = at-loop .before .before .before .before .before .before .before .before .before .before .before .before .before .before .before .before .before .before .before in
+    going.too-much (start .args .text .now) (start .args .elements .now) (start .args .count) _ (turns.at-end (start .args .text .now) (start .args .elements .now) (start .args .count) (at-loop .loop .stk) (at-loop .loop .sp) (at-loop .loop .inv .0) (at-loop .loop .inv .7) (at-loop-test .loop-test .left)) (c .if6 .taken)
 
 same-length-31 : tie.Need-same-length-31 Inv-loop μ-loop
 same-length-31 c = search needs
@@ -293,7 +453,11 @@ same-length-35 : tie.Need-same-length-35 Inv-loop μ-loop
 same-length-35 c = search needs
 
 returns-7 : tie.Need-returns-7 Inv-loop μ-loop
-returns-7 c = going.ends (c .before .before .before .before .before .before .before .before .before .before .before .before .before .before .before .before .before .before .before .before .before .before .before .before .args .text .now) (c .before .before .before .before .before .before .before .before .before .before .before .before .before .before .before .before .before .before .before .before .before .before .before .before .args .elements .now) (c .before .before .before .before .before .before .before .before .before .before .before .before .before .before .before .before .before .before .before .before .before .before .before .before .args .count) _ (turns.at-end (c .before .before .before .before .before .before .before .before .before .before .before .before .before .before .before .before .before .before .before .before .before .before .before .before .args .text .now) (c .before .before .before .before .before .before .before .before .before .before .before .before .before .before .before .before .before .before .before .before .before .before .before .before .args .elements .now) (c .before .before .before .before .before .before .before .before .before .before .before .before .before .before .before .before .before .before .before .before .before .before .before .before .args .count) (c .before .before .loop .stk) (c .before .before .loop .sp) (c .before .before .loop .inv .0) (c .before .before .loop .inv .7) (c .before .loop-test .left)) (c .if6 .left) (c .before .before .loop .inv .6) (c .before .before .before .before .before .before .before .before .before .before .before .before .before .before .before .before .before .before .before .before .before .before .before .before .pre .1)
+returns-7 c =
+    let at-loop-test = c .before in
+    let at-loop = at-loop-test .before in
+    let start = at-loop .before .before .before .before .before .before .before .before .before .before .before .before .before .before .before .before .before .before .before in
+    going.ends (start .args .text .now) (start .args .elements .now) (start .args .count) _ (turns.at-end (start .args .text .now) (start .args .elements .now) (start .args .count) (at-loop .loop .stk) (at-loop .loop .sp) (at-loop .loop .inv .0) (at-loop .loop .inv .7) (at-loop-test .loop-test .left)) (c .if6 .left) (at-loop .loop .inv .6) (start .pre .1)
 
 pub scan-spec : {M : Type 1} → statement M
 scan-spec =
