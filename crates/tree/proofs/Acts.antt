@@ -58,17 +58,24 @@ seven (suc (suc (suc (suc (suc (suc (suc a))))))) d0 d1 d2 d3 d4 d5 d6 = at-leas
 by-seven : (a : ℕ) → 7 ≤ a → a ≡ suc (suc (suc (suc (suc (suc (suc (a - 7)))))))
 by-seven a h = omega arith
 
+-- the innermost frame's name
+pub nameless : (alike : ℕ → ℕ → Bool) (n k : ℕ) → n ≡ 0 → false ≡ isNamed alike n (k - 1)
+nameless alike n k e = sym (ap (λ (x : ℕ). isNamed alike x (k - 1)) e)
+
+pub named-by : (alike : ℕ → ℕ → Bool) (n k j : ℕ) (b : Bool) → (n ≡ 0 → ⊥) → j ≡ k - 1 → b ≡ alike (n - 1) j → b ≡ isNamed alike n (k - 1)
+named-by alike zero k j b d q e = absurd (d refl)
+named-by alike (suc n) k j b d q e = let z : suc n - 1 ≡ n = omega arith in e ∙ ap₂ alike z q
+
 module _ (frames cells next heads : List ℕ) (fp used depth k : ℕ) (alike : ℕ → ℕ → Bool) (s : State) (held : Held frames cells next heads fp used (s .frames)) (deep : s .depth ≡ depth) where
   abbrev After : Did → List ℕ → List ℕ → List ℕ → List ℕ → ℕ → Type 0
   After r f c n h a = Done r f c n h (usedAfter a used) (does alike a k s)
 
-  pub act-opens : (a : ℕ) → a ≡ 0 → 4 ≤ fp → fp ≤ length frames
-      → After (Went (record { fp = fp - 4; depth = depth; used = used })) (set (set (set (set frames (fp - 4) k) (fp - 4 + 1) k) (fp - 4 + 2) used) (fp - 4 + 3) 0) cells next heads a
+  pub act-opens : (a : ℕ) (F : List ℕ) → a ≡ 0 → 4 ≤ fp → fp ≤ length frames → F ≡ set (set (set (set frames (fp - 4) k) (fp - 4 + 1) k) (fp - 4 + 2) used) (fp - 4 + 3) 0
+      → After (Went (record { fp = fp - 4; depth = depth; used = used })) F cells next heads a
   unfolding does
-  act-opens a z l m =
-      let F : List ℕ = set (set (set (set frames (fp - 4) k) (fp - 4 + 1) k) (fp - 4 + 2) used) (fp - 4 + 3) 0 in
-      let e : drop (fp - 4) F ≡ k ∷ k ∷ used ∷ 0 ∷ drop fp frames = four-pushed frames (fp - 4) fp k k used 0 (omega arith) m in
-      let n : length F ≡ length frames = simp length-set in
+  act-opens a F z l m q =
+      let e : drop (fp - 4) F ≡ k ∷ k ∷ used ∷ 0 ∷ drop fp frames = ap (drop (fp - 4)) q ∙ four-pushed frames (fp - 4) fp k k used 0 (omega arith) m in
+      let n : length F ≡ length frames = ap length q ∙ simp length-set in
       let rm = held .room in
       subst (After (Went (record { fp = fp - 4; depth = depth; used = used })) F cells next heads) (sym z) (
         record {
@@ -145,35 +152,24 @@ module _ (frames cells next heads : List ℕ) (fp used depth k : ℕ) (alike : �
         refl,
       )
 
-  -- the innermost frame's name
-  name-is : (n : ℕ) → n ≡ getD frames (fp + 3) 0 → top (s .frames) .name ≡ n
-  name-is n e = sym (holding.top-name (held .framed)) ∙ getD-drop fp frames 3 0 ∙ sym e
-
-  judged : (b : Bool) → (n : ℕ) → n ≡ getD frames (fp + 3) 0 → isNamed alike n (k - 1) ≡ b → does alike 4 k s ≡ pickStep b (go s) (stop name-differs)
+  -- by the name of the innermost frame
+  judged : (b : Bool) → b ≡ isNamed alike (getD frames (fp + 3) 0) (k - 1) → does alike 4 k s ≡ pickStep b (go s) (stop name-differs)
   unfolding does
-  judged b n e q = ap (λ (x : Bool). pickStep x (go s) (stop name-differs)) (ap (λ (x : ℕ). isNamed alike x (k - 1)) (name-is n e) ∙ q)
+  judged b q =
+      let e : top (s .frames) .name ≡ getD frames (fp + 3) 0 = sym (holding.top-name (held .framed)) ∙ getD-drop fp frames 3 0 in
+      ap (λ (x : Bool). pickStep x (go s) (stop name-differs)) (ap (λ (x : ℕ). isNamed alike x (k - 1)) e ∙ sym q)
 
-  pub act-nameless : (a n : ℕ) → a ≡ 4 → n ≡ getD frames (fp + 3) 0 → n ≡ 0 → After Differs frames cells next heads a
-  act-nameless a n z e q =
-      subst (After Differs frames cells next heads) (sym z)
-      (subst (λ (x : Step State Refusal). Done Differs frames cells next heads (usedAfter 4 used) x) (sym (judged false n e (ap (λ (x : ℕ). isNamed alike x (k - 1)) q))) tt)
-
-  told : (n j : ℕ) (b : Bool) → (n ≡ 0 → ⊥) → j ≡ k - 1 → b ≡ alike (n - 1) j → isNamed alike n (k - 1) ≡ b
-  told zero j b d q e = absurd (d refl)
-  told (suc n) j b d q e = let z : suc n - 1 ≡ n = omega arith in sym (e ∙ ap₂ alike z q)
-
-  pub act-same : (a n j : ℕ) (b : Bool) → a ≡ 4 → n ≡ getD frames (fp + 3) 0 → (n ≡ 0 → ⊥) → j ≡ k - 1 → b ≡ alike (n - 1) j → b ≡ true
+  pub act-same : (a : ℕ) (b : Bool) → a ≡ 4 → b ≡ isNamed alike (getD frames (fp + 3) 0) (k - 1) → b ≡ true
       → After (Went (record { fp = fp; depth = depth; used = used })) frames cells next heads a
-  act-same a n j b z e d q t h =
+  act-same a b z q h =
       subst (After (Went (record { fp = fp; depth = depth; used = used })) frames cells next heads) (sym z)
-      (subst (λ (x : Step State Refusal). Done (Went (record { fp = fp; depth = depth; used = used })) frames cells next heads (usedAfter 4 used) x) (sym (judged true n e (told n j b d q t ∙ h)))
+      (subst (λ (x : Step State Refusal). Done (Went (record { fp = fp; depth = depth; used = used })) frames cells next heads (usedAfter 4 used) x) (sym (judged true (sym h ∙ q)))
       (held, deep, refl))
 
-  pub act-differs : (a n j : ℕ) (b : Bool) → a ≡ 4 → n ≡ getD frames (fp + 3) 0 → (n ≡ 0 → ⊥) → j ≡ k - 1 → b ≡ alike (n - 1) j → b ≡ false
-      → After Differs frames cells next heads a
-  act-differs a n j b z e d q t h =
+  pub act-differs : (a : ℕ) (b : Bool) → a ≡ 4 → b ≡ isNamed alike (getD frames (fp + 3) 0) (k - 1) → b ≡ false → After Differs frames cells next heads a
+  act-differs a b z q h =
       subst (After Differs frames cells next heads) (sym z)
-      (subst (λ (x : Step State Refusal). Done Differs frames cells next heads (usedAfter 4 used) x) (sym (judged false n e (told n j b d q t ∙ h))) tt)
+      (subst (λ (x : Step State Refusal). Done Differs frames cells next heads (usedAfter 4 used) x) (sym (judged false (sym h ∙ q))) tt)
 
   pub act-deeper : (a : ℕ) → a ≡ 5 → depth < 32 → After (Went (record { fp = fp; depth = depth + 1; used = used })) frames cells next heads a
   unfolding does
@@ -191,23 +187,34 @@ module _ (frames cells next heads : List ℕ) (fp used depth k : ℕ) (alike : �
       subst (After (Went (record { fp = fp; depth = r; used = used })) frames cells next heads) (sym z)
       (held, ap (λ (x : ℕ). x - 1) deep ∙ sym q, refl)
 
-  pub act-row : (a i o b n m : ℕ) (c′ n′ h′ : List ℕ) → (a ≡ 0 → ⊥) → (a ≡ 1 → ⊥) → (a ≡ 2 → ⊥) → (a ≡ 3 → ⊥) → (a ≡ 4 → ⊥) → (a ≡ 5 → ⊥) → (a ≡ 6 → ⊥)
-      → i ≡ getD frames fp 0 → o ≡ getD frames (fp + 1) 0 → b ≡ getD frames (fp + 2) 0 → n ≡ k - i → m ≡ used - b + 1 → b ≤ used
-      → fp + 4 ≤ length frames → 5 * used + 5 ≤ length cells → used < length next → used + 1 < length heads
-      → c′ ≡ sets cells (5 * used) ((a - 7) ∷ i ∷ n ∷ m ∷ o ∷ []) → n′ ≡ set next used (getD heads b 0) → h′ ≡ set (set heads b (used + 1)) (used + 1) 0
+  abbrev firstWord : ℕ
+  firstWord = getD frames fp 0
+
+  abbrev baseWord : ℕ
+  baseWord = getD frames (fp + 2) 0
+
+  pub act-row : (a : ℕ) (c′ n′ h′ : List ℕ) → (a ≡ 0 → ⊥) → (a ≡ 1 → ⊥) → (a ≡ 2 → ⊥) → (a ≡ 3 → ⊥) → (a ≡ 4 → ⊥) → (a ≡ 5 → ⊥) → (a ≡ 6 → ⊥)
+      → baseWord ≤ used → fp + 4 ≤ length frames → 5 * used + 5 ≤ length cells → used < length next → used + 1 < length heads
+      → c′ ≡ sets cells (5 * used) ((a - 7) ∷ firstWord ∷ (k - firstWord) ∷ (used - baseWord + 1) ∷ getD frames (fp + 1) 0 ∷ [])
+      → n′ ≡ set next used (getD heads baseWord 0) → h′ ≡ set (set heads baseWord (used + 1)) (used + 1) 0
       → After (Went (record { fp = fp; depth = depth; used = used + 1 })) frames c′ n′ h′ a
   unfolding does
-  act-row a i o b n m c′ n′ h′ d0 d1 d2 d3 d4 d5 d6 ei eo eb en em lb lf lc ln lh qc qn qh =
+  act-row a c′ n′ h′ d0 d1 d2 d3 d4 d5 d6 lb lf lc ln lh qc qn qh =
+      let i : ℕ = firstWord in
+      let o : ℕ = getD frames (fp + 1) 0 in
+      let b : ℕ = baseWord in
+      let n : ℕ = k - i in
+      let m : ℕ = used - b + 1 in
       let z : a ≡ suc (suc (suc (suc (suc (suc (suc (a - 7))))))) = by-seven a (seven a d0 d1 d2 d3 d4 d5 d6) in
       let rm = held .room in
       let f : ℕ = a - 7 in
       let C : List ℕ = sets cells (5 * used) (f ∷ i ∷ n ∷ m ∷ o ∷ []) in
-      let w0 : getD (drop fp frames) 0 0 ≡ i = getD-drop fp frames 0 0 ∙ ap (λ (x : ℕ). getD frames x 0) (plain fp) ∙ sym ei in
-      let w1 : getD (drop fp frames) 1 0 ≡ o = getD-drop fp frames 1 0 ∙ sym eo in
-      let w2 : getD (drop fp frames) 2 0 ≡ b = getD-drop fp frames 2 0 ∙ sym eb in
+      let w0 : getD (drop fp frames) 0 0 ≡ i = getD-drop fp frames 0 0 ∙ ap (λ (x : ℕ). getD frames x 0) (plain fp) in
+      let w1 : getD (drop fp frames) 1 0 ≡ o = getD-drop fp frames 1 0 in
+      let w2 : getD (drop fp frames) 2 0 ≡ b = getD-drop fp frames 2 0 in
       let r : rowAt C used ≡ record { form = f; first = getD (drop fp frames) 0 0; count = k - getD (drop fp frames) 0 0; rows = used - getD (drop fp frames) 2 0 + 1; operator = getD (drop fp frames) 1 0 } =
       row-stored cells used f i n m o lc
-      ∙ (λ j. record { form = f; first = sym w0 j; count = (en ∙ ap (λ (x : ℕ). k - x) (sym w0)) j; rows = (em ∙ ap (λ (x : ℕ). used - x + 1) (sym w2)) j; operator = sym w1 j }) in
+      ∙ (λ j. record { form = f; first = sym w0 j; count = ap (λ (x : ℕ). k - x) (sym w0) j; rows = ap (λ (x : ℕ). used - x + 1) (sym w2) j; operator = sym w1 j }) in
       let fr : Frames C (set next used (getD heads b 0)) (set (set heads b (used + 1)) (used + 1) 0) (used + 1) (drop fp frames) (onTop (rowed f k) (s .frames)) =
       holding.framed-row cells C next heads used b (λ j l. sets-below (f ∷ i ∷ n ∷ m ∷ o ∷ []) cells (5 * used) j l) ln lh lb (held .within) (held .bare) f k refl (sym w2) (held .framed)
       (simp length-drop (omega arith)) r in

@@ -14,7 +14,7 @@ ghost use Rattle.places.specs.Sizes.{mostElements};
 ghost use Rattle.ll.specs.Grammar.{look};
 ghost use Rattle.forms.specs.Rules.{body};
 ghost use Rattle.forms.specs.Picks.{predict};
-ghost use Rattle.forms.specs.Tree.{State, Row, does};
+ghost use Rattle.forms.specs.Tree.{State, Row, isNamed, does};
 ghost use Rattle.forms.specs.Reading.{readingFrom};
 ghost use Rattle.alike.specs.Alike.{sameName};
 ghost use Rattle.tables.specs.Symbols.{symOf, syms};
@@ -193,6 +193,62 @@ fn put_row(
     heads[used + 1] = 0;
 }
 
+// A frame more, below the others.
+fn open_frame(k: u64, frames: &mut [u64], fp: usize, used: usize)
+    requires { ⌜ (4 ≤ fp) × (fp ≤ length (now frames)) ⌝ }
+    ensures { λ _. ⌜ now (frames .exit) ≡ set (set (set (set (now (frames .entry)) (fp - 4) k) (fp - 4 + 1) k) (fp - 4 + 2) used) (fp - 4 + 3) 0 ⌝ }
+{
+    let p = fp - FRAME;
+    frames[p] = k;
+    frames[p + 1] = k;
+    frames[p + 2] = used as u64;
+    frames[p + 3] = 0;
+}
+
+// Whether the element just read is the name of the innermost frame.
+fn is_named(text: &[u8], elements: &[u64], frames: &[u64], fp: usize, k: u64) -> bool
+    requires { ⌜ fp + 4 ≤ length (now frames) ⌝ }
+    ensures { λ r. ⌜ r ≡ isNamed (sameName (now (text .entry)) (now (elements .entry))) (getD (now (frames .entry)) (fp + 3) 0) (k - 1) ⌝ }
+{
+    let n = frames[fp + 3];
+    if n == 0 {
+        return false;
+    }
+    alike::same_name(text, elements, (n - 1) as usize, minus(k, 1) as usize)
+}
+
+// The row of a form: what the innermost frame holds.
+fn complete_row(
+    form: u64,
+    k: u64,
+    frames: &[u64],
+    cells: &mut [u64],
+    next: &mut [u64],
+    heads: &mut [u64],
+    fp: usize,
+    used: usize,
+)
+    requires { ⌜ (fp + 4 ≤ length (now frames)) × (5 * used + 5 ≤ length (now cells)) × (used < length (now next)) × (used + 1 < length (now heads)) × (getD (now frames) (fp + 2) 0 ≤ used) ⌝ }
+    ensures { λ _. ⌜ (now (cells .exit) ≡ sets (now (cells .entry)) (5 * used) (form ∷ getD (now (frames .entry)) fp 0 ∷ (k - getD (now (frames .entry)) fp 0) ∷ (used - getD (now (frames .entry)) (fp + 2) 0 + 1) ∷ getD (now (frames .entry)) (fp + 1) 0 ∷ [])) × (now (next .exit) ≡ set (now (next .entry)) used (getD (now (heads .entry)) (getD (now (frames .entry)) (fp + 2) 0) 0)) × (now (heads .exit) ≡ set (set (now (heads .entry)) (getD (now (frames .entry)) (fp + 2) 0) (used + 1)) (used + 1) 0) ⌝ }
+{
+    let i = frames[fp];
+    let o = frames[fp + 1];
+    let base = frames[fp + 2] as usize;
+    let rows = (used - base + 1) as u64;
+    put_row(
+        cells,
+        next,
+        heads,
+        used,
+        base,
+        form,
+        i,
+        minus(k, i),
+        rows,
+        o,
+    );
+}
+
 // An action when k elements were read.
 fn do_act(
     a: u64,
@@ -211,17 +267,17 @@ fn do_act(
     ensures { λ r. ⌜ ((s : State) → Held (now (frames .entry)) (now (cells .entry)) (now (next .entry)) (now (heads .entry)) fp used (s .frames) → s .depth ≡ depth → Done r (now (frames .exit)) (now (cells .exit)) (now (next .exit)) (now (heads .exit)) (usedAfter a used) (does (sameName (now (text .entry)) (now (elements .entry))) a k s)) ⌝ }
 {
     if a == OPENS {
-        let p = fp - FRAME;
-        frames[p] = k;
-        frames[p + 1] = k;
-        frames[p + 2] = used as u64;
-        frames[p + 3] = 0;
-        return Did::Went(Moved { fp: p, depth, used });
+        open_frame(k, frames, fp, used);
+        return Did::Went(Moved {
+            fp: fp - FRAME,
+            depth,
+            used,
+        });
     }
     if a == CLOSES {
-        if fp + 8 <= frames.len() {
+        if fp + 2 * FRAME <= frames.len() {
             return Did::Went(Moved {
-                fp: fp + 4,
+                fp: fp + FRAME,
                 depth,
                 used,
             });
@@ -237,11 +293,7 @@ fn do_act(
         return Did::Went(Moved { fp, depth, used });
     }
     if a == SAME {
-        let n = frames[fp + 3];
-        if n == 0 {
-            return Did::Differs;
-        }
-        if alike::same_name(text, elements, (n - 1) as usize, minus(k, 1) as usize) {
+        if is_named(text, elements, frames, fp, k) {
             return Did::Went(Moved { fp, depth, used });
         }
         return Did::Differs;
@@ -257,29 +309,14 @@ fn do_act(
         return Did::Deep;
     }
     if a == SHALLOWER {
+        let less = minus(depth as u64, 1) as usize;
         return Did::Went(Moved {
             fp,
-            depth: minus(depth as u64, 1) as usize,
+            depth: less,
             used,
         });
     }
-    let i = frames[fp];
-    let o = frames[fp + 1];
-    let base = frames[fp + 2] as usize;
-    let count = minus(k, i);
-    let rows = (used - base + 1) as u64;
-    put_row(
-        cells,
-        next,
-        heads,
-        used,
-        base,
-        a - ROW_OF,
-        i,
-        count,
-        rows,
-        o,
-    );
+    complete_row(a - ROW_OF, k, frames, cells, next, heads, fp, used);
     Did::Went(Moved {
         fp,
         depth,

@@ -1,0 +1,50 @@
+-- `tree::is_named` meets its contract. A frame with no name has none like it. Assumes nothing.
+use mathlib.Core.Path.{refl}
+use Rattle.alike.specs.Alike.{sameName}
+use Rattle.tree.proofs.Acts.{nameless, named-by}
+use borrow.Author.Needs.{needs}
+use Rattle.tree.proofs.is_named.Statement.{statement}
+use Rattle.tree.proofs.is_named.Tie as tie
+
+add-n : tie.Need-add-n
+add-n c = search needs
+
+mul-n : tie.Need-mul-n
+mul-n c = search needs
+
+shared-slice-read-n : tie.Need-shared-slice-read-n
+shared-slice-read-n c = search needs
+
+returns : tie.Need-returns
+returns c =
+    let start = c .before .before .before .before .before in
+    nameless (sameName (start .args .text .now) (start .args .elements .now)) _ (start .args .k) (c .if1 .taken)
+
+sub-same-name : tie.Need-sub-same-name
+sub-same-name c = search needs
+
+minus-requires : tie.Need-minus-requires
+minus-requires c κs = search needs
+
+same-name-requires : tie.Need-same-name-requires
+same-name-requires c κs = search needs
+
+returns-2 : tie.Need-returns-2
+returns-2 c =
+    let at-minus = c .before in
+    let at-if1 = at-minus .before in
+    let start = at-if1 .before .before .before .before .before in
+    named-by (sameName (start .args .text .now) (start .args .elements .now)) _ (start .args .k) (at-minus .minus .result) (c .same-name .result) (at-if1 .if1 .left) (at-minus .minus .ensures) (c .same-name .ensures)
+
+pub is-named-spec : {M : Type 1} → statement M
+is-named-spec =
+    tie.close
+    (tie.spec
+    add-n
+    mul-n
+    shared-slice-read-n
+    returns
+    sub-same-name
+    minus-requires
+    same-name-requires
+    returns-2)
