@@ -6,32 +6,40 @@ use Prim.Native.Nat.{ℕ, zero, suc, _+_, _-_, _*_, _/_, _≤_, _<_, min}
 use native.Mathlib.Nat.{not-suc-le-zero, le-of-suc-le-suc}
 use native.Mathlib.Numerals.{add-one}
 use native.Mathlib.Omega.{arith}
+use borrow.Author.Tests.{lt-ltb}
 use mir.Syntax.{w64}
 use mir.Val.{Fits}
 use lib.ListN.{length, getD, take, drop, length-drop, drop-of-length-le}
 use lib.Seq.{drop-cons, drop-drop, getD-drop}
 use Rattle.pieces.specs.Cutting.{more, pieceSize, cut}
 use Rattle.pieces.specs.Kinds.{closesPiece, opensPiece, piecesOf}
-use Rattle.places.specs.Places.{kindsOf}
+use Rattle.places.specs.Places.{rowWords, rowsIn, cellAt, kindsOf}
 use Rattle.pieces.proofs.Cutting.{more-none, more-on, size-le, cut-first}
 
 pub kinds-length : (n : ℕ) (t : List ℕ) → length (kindsOf n t) ≡ n
 unfolding kindsOf
 kinds-length zero t = refl
-kinds-length (suc n) t = ap suc (kinds-length n (drop 3 t))
+kinds-length (suc n) t = ap suc (kinds-length n (drop rowWords t))
 
-pub kinds-at : (n i : ℕ) (t : List ℕ) → i < n → getD t (3 * i) 0 ≡ getD (kindsOf n t) i 0
-unfolding kindsOf
-kinds-at zero i t h = absurd (not-suc-le-zero h)
-kinds-at (suc n) zero t h = refl
-kinds-at (suc n) (suc i) t h =
-    ap (λ (k : ℕ). getD t k 0) (omega arith) ∙ sym (getD-drop 3 t (3 * i) 0) ∙ kinds-at n i (drop 3 t) (le-of-suc-le-suc h)
+-- the one law that knows where a row has its kind
+pub kind-at : (t : List ℕ) (n i : ℕ) → rowWords * n ≤ length t → i < n → cellAt t i 0 ≡ getD (kindsOf n t) i 0
+unfolding cellAt kindsOf
+kind-at t n i l h = rw (lt-ltb i (rowsIn t) (omega arith)) (go n i t h)
+  where
+    go : (n i : ℕ) (t : List ℕ) → i < n → getD t (rowWords * i + 0) 0 ≡ getD (kindsOf n t) i 0
+    go zero i t h = absurd (not-suc-le-zero h)
+    go (suc n) zero t h = refl
+    go (suc n) (suc i) t h =
+        ap (λ (k : ℕ). getD t k 0) (omega arith) ∙ sym (getD-drop rowWords t (rowWords * i + 0) 0) ∙ go n i (drop rowWords t) (le-of-suc-le-suc h)
+
+pub kind-here : (t : List ℕ) (n i k : ℕ) → rowWords * n ≤ length t → i < n → k ≡ cellAt t i 0 → k ≡ getD (kindsOf n t) i 0
+kind-here t n i k l h e = e ∙ kind-at t n i l h
 
 pub kinds-past : (n i : ℕ) (t : List ℕ) → n ≤ i → _≡_ {A = ℕ} 0 (getD (kindsOf n t) i 0)
 unfolding kindsOf
 kinds-past zero i t h = refl
 kinds-past (suc n) zero t h = absurd (not-suc-le-zero h)
-kinds-past (suc n) (suc i) t h = kinds-past n i (drop 3 t) (le-of-suc-le-suc h)
+kinds-past (suc n) (suc i) t h = kinds-past n i (drop rowWords t) (le-of-suc-le-suc h)
 
 next : (from m : ℕ) → suc (from + m) ≡ from + (m + 1)
 next from m = omega arith
@@ -106,10 +114,10 @@ unfolding cut
 count-end n t at c total h l = omega (arith, rw (past n t at l) at h)
 
 -- the answers of `piece_size`
-module _ (t : List ℕ) (count n from : ℕ) (e : n ≡ min count (length t / 3)) where
-  pub size-none : n ≤ from → _≡_ {A = ℕ} 0 (pieceSize closesPiece opensPiece (drop from (kindsOf (min count (length t / 3)) t)))
+module _ (t : List ℕ) (count rows n from : ℕ) (d : rows ≡ rowsIn t) (e : n ≡ min count rows) where
+  pub size-none : n ≤ from → _≡_ {A = ℕ} 0 (pieceSize closesPiece opensPiece (drop from (kindsOf (min count (rowsIn t)) t)))
   unfolding pieceSize
-  size-none h = rw (← e, past n t from h)
+  size-none h = rw (← d, ← e, past n t from h)
 
-  pub size-known : (r : ℕ) → r ≡ pieceSize closesPiece opensPiece (drop from (kindsOf n t)) → r ≡ pieceSize closesPiece opensPiece (drop from (kindsOf (min count (length t / 3)) t))
-  size-known r h = rw (← e) h
+  pub size-known : (r : ℕ) → r ≡ pieceSize closesPiece opensPiece (drop from (kindsOf n t)) → r ≡ pieceSize closesPiece opensPiece (drop from (kindsOf (min count (rowsIn t)) t))
+  size-known r h = rw (← d, ← e) h

@@ -1,5 +1,5 @@
 -- The ways that a piece is told by its kinds, in the code's terms: each premise is what a call or a test gives. Assumes nothing.
-use mathlib.Core.Path.{_≡_, sym}
+use mathlib.Core.Path.{_≡_, sym, _∙_}
 use mathlib.Core.Bool.{Bool, true, false, not, _&&_}
 use mathlib.Core.List.{List}
 use Prim.Native.Nat.{ℕ, _+_, _*_, _≤_, _<_}
@@ -12,18 +12,18 @@ use lib.ListN.{length, getD, drop, length-drop, List·getD-eq-default}
 use lib.Seq.{getD-drop, getD-take, length-take-le}
 use Rattle.classes.proofs.Laws.{by-test}
 use Rattle.pieces.specs.Kinds.{mark, pieceAt, isName, isHeading, behindWord, hasName, endsAt, isClosing, claimMark, markOf}
-use Rattle.places.specs.Places.{kindsOf}
+use Rattle.places.specs.Places.{rowWords, cellAt, kindsOf}
 use Rattle.pieces.specs.declared.Mark.{Mark}
-use Rattle.pieces.proofs.Laws.{kinds-length, kinds-at}
+use Rattle.pieces.proofs.Laws.{kinds-length, kind-at}
 
 module _ (n : ℕ) (t : List ℕ) (from count : ℕ) (r : from + count ≤ n) where
   pub piece-length : length (pieceAt n t from count) ≡ count
   unfolding pieceAt
   piece-length = length-take-le count (drop from (kindsOf n t)) (omega (arith, length-drop from (kindsOf n t), kinds-length n t))
 
-  pub piece-kind : (i : ℕ) → i < count → getD t (3 * (from + i)) 0 ≡ getD (pieceAt n t from count) i 0
+  pub piece-kind : (i k : ℕ) → rowWords * n ≤ length t → i < count → k ≡ cellAt t (from + i) 0 → k ≡ getD (pieceAt n t from count) i 0
   unfolding pieceAt
-  piece-kind i h = rw (getD-take, getD-drop) (kinds-at n (from + i) t (omega arith))
+  piece-kind i k l h e = rw (getD-take, getD-drop) (e ∙ kind-at t n (from + i) l (omega arith))
 
   pub piece-past : (i : ℕ) → count ≤ i → _≡_ {A = ℕ} 0 (getD (pieceAt n t from count) i 0)
   piece-past i h = sym (List·getD-eq-default (pieceAt n t from count) 0 {n = i} (omega (arith, piece-length)))

@@ -12,7 +12,7 @@ use lib.Seq.{sets, length-sets, sets-eq}
 use Rattle.classes.proofs.Laws.{by-test}
 use Rattle.pieces.specs.Cutting.{pieceSize, cut}
 use Rattle.pieces.specs.Kinds.{pieceAt, closesPiece, opensPiece, piecesOf, isHeading, isClosing, hasName, isName, claimMark, markOf}
-use Rattle.places.specs.Places.{kindsOf}
+use Rattle.places.specs.Places.{rowWords, rowsIn, kindsOf}
 use Rattle.pieces.specs.Records.{nameOf, recordOf, recordsFrom, piecesIn, marking, recordTable}
 use Rattle.pieces.specs.declared.Mark.{Mark}
 use Rattle.pieces.specs.declared.Marking.the-variants.{Marked, TooMany, TableShort}
@@ -47,7 +47,7 @@ place-small p =
     small : Mark → Type 0
     small m = m .place ≤ 2
 
-pub place-fits : (n from : ℕ) (t p : List ℕ) (m : Mark) → m ≡ markOf p → 3 * n ≤ length t → length t < 2 ^ 64 → from < n → from + m .place < 2 ^ 64
+pub place-fits : (n from : ℕ) (t p : List ℕ) (m : Mark) → m ≡ markOf p → rowWords * n ≤ length t → length t < 2 ^ 64 → from < n → from + m .place < 2 ^ 64
 place-fits n from t p m e h k l = omega (arith, place-small p, ap (λ (x : Mark). x .place) e)
 
 sets-append : (t : List ℕ) (w : ℕ) (xs ys : List ℕ) → sets t w (xs ++ ys) ≡ sets (sets t w xs) (w + length xs) ys
@@ -115,10 +115,10 @@ all-there xs words h =
     drop-zeros (suc w) (suc k) = rw (suc-sub-suc w k) (drop-zeros w k)
 
 -- the answers, and the table with each
-module _ (table : List ℕ) (count n words c : ℕ) (e : n ≡ min count (length table / 3)) (p : c ≡ length (piecesOf (kindsOf n table))) where
+module _ (table : List ℕ) (count rows n words c : ℕ) (d : rows ≡ rowsIn table) (e : n ≡ min count rows) (p : c ≡ length (piecesOf (kindsOf n table))) where
   whole : piecesIn table count ≡ piecesOf (kindsOf n table)
   unfolding piecesIn
-  whole = rw (← e)
+  whole = rw (← d, ← e)
 
   pub too-many : 1024 < c → TooMany ≡ marking (length (piecesIn table count)) words
   unfolding marking
@@ -148,6 +148,3 @@ module _ (table : List ℕ) (count n words c : ℕ) (e : n ≡ min count (length
 
   pub room-all : (v : List ℕ) → v ≡ replicate words 0 → c ≤ words / 8 → 8 * length (piecesOf (kindsOf n table)) ≤ length v
   room-all v z k = omega (arith, ap length z ∙ length-replicate {A = ℕ} words 0)
-
-pub least-room : (table : List ℕ) (count n : ℕ) → n ≡ min count (length table / 3) → 3 * n ≤ length table
-least-room table count n e = omega arith

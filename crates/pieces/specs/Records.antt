@@ -7,7 +7,7 @@ use lib.Dec.{eqb, ltb}
 use lib.ListN.{length, replicate}
 use Rattle.places.specs.Sizes.{mostPieces}
 use Rattle.pieces.specs.Kinds.{piecesOf, markOf}
-use Rattle.places.specs.Places.{kindsOf}
+use Rattle.places.specs.Places.{rowsIn, kindsOf}
 use Rattle.pieces.specs.declared.Mark.{Mark}
 use Rattle.pieces.specs.declared.Marking.{Marking}
 use Rattle.pieces.specs.declared.Marking.the-variants.{Marked, TooMany, TableShort}
@@ -27,7 +27,7 @@ recordsFrom at (p ∷ ps) = recordOf at (length p) (markOf p) ++ recordsFrom (at
 
 -- the pieces of the elements that count: no more than the table has
 unfoldable pub piecesIn : List ℕ → ℕ → List (List ℕ)
-piecesIn table count = piecesOf (kindsOf (min count (length table / 3)) table)
+piecesIn table count = piecesOf (kindsOf (min count (rowsIn table)) table)
 
 -- n pieces: 9, "more than 1,024 pieces"; 10, "item table short", "rows it has"
 unfoldable pub marking : ℕ → ℕ → Marking

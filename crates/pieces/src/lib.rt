@@ -6,7 +6,7 @@ ghost use lib.ListN.{length, getD, drop, take};
 ghost use lib.Seq.{sets};
 ghost use Rattle.pieces.specs.Cutting.{pieceSize};
 ghost use Rattle.pieces.specs.Kinds.{pieceAt, isName, closesPiece, opensPiece, piecesOf, isHeading, behindWord, endsAt, claimMark, markOf};
-ghost use Rattle.places.specs.Places.{kindsOf};
+ghost use Rattle.places.specs.Places.{rowWords, rowsIn, kindsOf};
 ghost use Rattle.pieces.specs.Records.{nameOf, recordOf, recordsFrom, piecesIn, marking, recordTable};
 
 // How many pieces were marked; or refusal 9; or refusal 10 with the rows that the table has.
@@ -36,15 +36,19 @@ fn opens_piece(k: u64) -> bool
 
 // The kind of an element, 0 past the last.
 fn kind_at(elements: &[u64], n: usize, i: usize) -> u64
-    requires { ⌜ 3 * n ≤ length (now elements) ⌝ }
+    requires { ⌜ rowWords * n ≤ length (now elements) ⌝ }
     ensures { λ r. ⌜ r ≡ getD (kindsOf n (now (elements .entry))) i 0 ⌝ }
 {
-    if i < n { elements[3 * i] } else { 0 }
+    if i < n {
+        places::kind_of(elements, i)
+    } else {
+        0
+    }
 }
 
 // How many elements the piece has that begins at an element that there is.
 fn size_at(elements: &[u64], n: usize, from: usize) -> usize
-    requires { ⌜ (3 * n ≤ length (now elements)) × (from < n) ⌝ }
+    requires { ⌜ (rowWords * n ≤ length (now elements)) × (from < n) ⌝ }
     ensures { λ r. ⌜ r ≡ pieceSize closesPiece opensPiece (drop from (kindsOf n (now (elements .entry)))) ⌝ }
 {
     let mut closed = closes_piece(kind_at(elements, n, from));
@@ -62,9 +66,9 @@ fn size_at(elements: &[u64], n: usize, from: usize) -> usize
 
 // How many elements the piece has that begins at an element, 0 past the last.
 pub fn piece_size(elements: &[u64], count: usize, from: usize) -> usize
-    ensures { λ r. ⌜ r ≡ pieceSize closesPiece opensPiece (drop from (kindsOf (min count (length (now (elements .entry)) / 3)) (now (elements .entry)))) ⌝ }
+    ensures { λ r. ⌜ r ≡ pieceSize closesPiece opensPiece (drop from (kindsOf (min count (rowsIn (now (elements .entry)))) (now (elements .entry)))) ⌝ }
 {
-    let n = lent::least(count, elements.len() / 3);
+    let n = lent::least(count, places::rows_in(elements));
     if n <= from {
         return 0;
     }
@@ -72,7 +76,7 @@ pub fn piece_size(elements: &[u64], count: usize, from: usize) -> usize
 }
 
 fn count_pieces(elements: &[u64], n: usize) -> usize
-    requires { ⌜ 3 * n ≤ length (now elements) ⌝ }
+    requires { ⌜ rowWords * n ≤ length (now elements) ⌝ }
     ensures { λ r. ⌜ r ≡ length (piecesOf (kindsOf n (now (elements .entry)))) ⌝ }
 {
     let mut at: usize = 0;
@@ -86,18 +90,18 @@ fn count_pieces(elements: &[u64], n: usize) -> usize
 
 // The kind of the i-th element of a piece, 0 past its last.
 fn kind_in(elements: &[u64], n: usize, from: usize, count: usize, i: usize) -> u64
-    requires { ⌜ (3 * n ≤ length (now elements)) × (from + count ≤ n) ⌝ }
+    requires { ⌜ (rowWords * n ≤ length (now elements)) × (from + count ≤ n) ⌝ }
     ensures { λ r. ⌜ r ≡ getD (pieceAt n (now (elements .entry)) from count) i 0 ⌝ }
 {
     if i < count {
-        elements[3 * (from + i)]
+        places::kind_of(elements, from + i)
     } else {
         0
     }
 }
 
 fn is_heading(elements: &[u64], n: usize, from: usize, count: usize) -> bool
-    requires { ⌜ (3 * n ≤ length (now elements)) × (from + count ≤ n) ⌝ }
+    requires { ⌜ (rowWords * n ≤ length (now elements)) × (from + count ≤ n) ⌝ }
     ensures { λ r. ⌜ r ≡ isHeading (pieceAt n (now (elements .entry)) from count) ⌝ }
 {
     if count != 3 {
@@ -111,7 +115,7 @@ fn is_heading(elements: &[u64], n: usize, from: usize, count: usize) -> bool
 
 // Where the name of a closing would stand: behind `end` and perhaps `package`.
 fn behind_word(elements: &[u64], n: usize, from: usize, count: usize) -> usize
-    requires { ⌜ (3 * n ≤ length (now elements)) × (from + count ≤ n) ⌝ }
+    requires { ⌜ (rowWords * n ≤ length (now elements)) × (from + count ≤ n) ⌝ }
     ensures { λ r. ⌜ r ≡ behindWord (pieceAt n (now (elements .entry)) from count) ⌝ }
 {
     if kind_in(elements, n, from, count, 1) == 98 {
@@ -129,7 +133,7 @@ pub struct Mark {
 
 // A piece that begins with `end`, its name's place aside.
 fn closes_with(elements: &[u64], n: usize, from: usize, count: usize, at: usize) -> bool
-    requires { ⌜ (3 * n ≤ length (now elements)) × (from + count ≤ n) × (at ≤ 3) ⌝ }
+    requires { ⌜ (rowWords * n ≤ length (now elements)) × (from + count ≤ n) × (at ≤ 3) ⌝ }
     ensures { λ r. ⌜ r ≡ endsAt (pieceAt n (now (elements .entry)) from count) at ⌝ }
 {
     let first = kind_in(elements, n, from, count, 0);
@@ -138,7 +142,7 @@ fn closes_with(elements: &[u64], n: usize, from: usize, count: usize, at: usize)
 }
 
 fn mark_claim(elements: &[u64], n: usize, from: usize, count: usize) -> Mark
-    requires { ⌜ (3 * n ≤ length (now elements)) × (from + count ≤ n) ⌝ }
+    requires { ⌜ (rowWords * n ≤ length (now elements)) × (from + count ≤ n) ⌝ }
     ensures { λ r. ⌜ r ≡ claimMark (pieceAt n (now (elements .entry)) from count) ⌝ }
 {
     if !is_name(kind_in(elements, n, from, count, 1)) {
@@ -155,7 +159,7 @@ fn mark_claim(elements: &[u64], n: usize, from: usize, count: usize) -> Mark
 }
 
 fn mark_piece(elements: &[u64], n: usize, from: usize, count: usize) -> Mark
-    requires { ⌜ (3 * n ≤ length (now elements)) × (from + count ≤ n) ⌝ }
+    requires { ⌜ (rowWords * n ≤ length (now elements)) × (from + count ≤ n) ⌝ }
     ensures { λ r. ⌜ r ≡ markOf (pieceAt n (now (elements .entry)) from count) ⌝ }
 {
     if is_heading(elements, n, from, count) {
@@ -199,7 +203,7 @@ fn write_record(items: &mut [u64], w: usize, from: usize, count: usize, m: Mark)
 
 // Marks every piece: its record stands at its number.
 fn write_records(elements: &[u64], n: usize, items: &mut [u64])
-    requires { ⌜ (3 * n ≤ length (now elements)) × (8 * length (piecesOf (kindsOf n (now elements))) ≤ length (now items)) ⌝ }
+    requires { ⌜ (rowWords * n ≤ length (now elements)) × (8 * length (piecesOf (kindsOf n (now elements))) ≤ length (now items)) ⌝ }
     ensures { λ _. ⌜ now (items .exit) ≡ sets (now (items .entry)) 0 (recordsFrom 0 (piecesOf (kindsOf n (now (elements .entry))))) ⌝ }
 {
     let mut at: usize = 0;
@@ -220,7 +224,7 @@ pub fn mark_pieces(elements: &[u64], count: usize, items: &mut [u64]) -> Marking
 {
     let rows = items.len() / 8;
     lent::clear(items);
-    let n = lent::least(count, elements.len() / 3);
+    let n = lent::least(count, places::rows_in(elements));
     let pieces = count_pieces(elements, n);
     if places::MOST_PIECES < pieces {
         return Marking::TooMany;

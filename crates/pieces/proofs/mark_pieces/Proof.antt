@@ -7,6 +7,9 @@ use Rattle.pieces.proofs.mark_pieces.Tie as tie
 clear-requires : tie.Need-clear-requires
 clear-requires c κs = search needs
 
+rows-in-requires : tie.Need-rows-in-requires
+rows-in-requires c κs = search needs
+
 least-requires : tie.Need-least-requires
 least-requires c κs = search needs
 
@@ -39,6 +42,7 @@ mark-pieces-spec =
     tie.close
     (tie.spec
     clear-requires
+    rows-in-requires
     least-requires
     count-pieces-requires
     same-length

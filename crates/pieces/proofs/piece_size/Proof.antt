@@ -4,6 +4,9 @@ use Rattle.pieces.proofs.Laws.{size-none, size-known}
 use Rattle.pieces.proofs.piece_size.Statement.{statement}
 use Rattle.pieces.proofs.piece_size.Tie as tie
 
+rows-in-requires : tie.Need-rows-in-requires
+rows-in-requires c κs = search needs
+
 least-requires : tie.Need-least-requires
 least-requires c κs = search needs
 
@@ -17,4 +20,4 @@ returns-2 : tie.Need-returns-2
 returns-2 c = search size-known
 
 pub piece-size-spec : {M : Type 1} → statement M
-piece-size-spec = tie.close (tie.spec least-requires returns size-at-requires returns-2)
+piece-size-spec = tie.close (tie.spec rows-in-requires least-requires returns size-at-requires returns-2)
