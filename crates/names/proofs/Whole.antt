@@ -5,15 +5,16 @@ use mathlib.Core.List.{List}
 use Prim.Native.Nat.{ℕ, _/_, _≤_, _<_, min}
 use native.Mathlib.Omega.{arith}
 use lib.ListN.{length, getD}
+use Rattle.places.specs.Places.{rowsIn}
 use Rattle.records.specs.Tallies.{oneIf}
 use Rattle.names.specs.Names.{recordsIn, linkOf, ownOf, twinOf, anyTwin, filled, linksTable, ownsTable, twinsTable}
 use Rattle.names.specs.Chains.{Chained, First, Marking}
 use Rattle.names.proofs.Tables.{filled-same}
 use Rattle.names.proofs.Twins.{owns-first, marks-twins, marks-any}
 
-pub links-whole : (text table items t : List ℕ) (count rows m : ℕ) → rows ≡ min count (length table / 3) → t ≡ filled (linkOf text table items) rows m → t ≡ linksTable text table count items m
+pub links-whole : (text table items t : List ℕ) (count all rows m : ℕ) → all ≡ rowsIn table → rows ≡ min count all → t ≡ filled (linkOf text table items) rows m → t ≡ linksTable text table count items m
 unfolding linksTable
-links-whole text table items t count rows m e h = h ∙ ap (λ (r : ℕ). filled (linkOf text table items) r m) e
+links-whole text table items t count all rows m d e h = h ∙ ap (λ (r : ℕ). filled (linkOf text table items) r m) (e ∙ ap (min count) d)
 
 module _ (items : List ℕ) (n : ℕ) (e : n ≡ min (length items / 8) 1024) where
   pub records-all : n ≡ recordsIn items

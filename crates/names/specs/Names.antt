@@ -6,6 +6,7 @@ use mathlib.Core.List.{List, [], _∷_}
 use lib.Dec.{eqb, ltb}
 use lib.ListN.{length}
 use Rattle.places.specs.Sizes.{mostPieces}
+use Rattle.places.specs.Places.{rowsIn}
 use Rattle.alike.specs.Alike.{sameName}
 use Rattle.records.specs.Records.{wordAt, isClaim}
 use Rattle.records.specs.Tallies.{oneIf}
@@ -74,7 +75,7 @@ filled f n m = each (below f n) 0 m
 
 -- for each of `count` elements that the table has, the first record that claims its name
 unfoldable pub linksTable : List ℕ → List ℕ → ℕ → List ℕ → ℕ → List ℕ
-linksTable text table count items m = filled (linkOf text table items) (min count (length table / 3)) m
+linksTable text table count items m = filled (linkOf text table items) (min count (rowsIn table)) m
 
 -- for each record, the first that claims its name
 unfoldable pub ownsTable : List ℕ → List ℕ → List ℕ → ℕ → List ℕ

@@ -238,7 +238,7 @@ pub fn link_names(
     let mut heads = [0u64; BUCKETS];
     let mut next = [0u64; MOST_PIECES];
     chain_names(text, elements, items, n, &mut heads, &mut next);
-    let rows = lent::least(count, elements.len() / 3);
+    let rows = lent::least(count, places::rows_in(elements));
     write_links(text, elements, items, rows, &heads, &next, links);
     let mut own = [0u64; MOST_PIECES];
     own_links(
