@@ -10,6 +10,7 @@ use lib.Dec.{eqb, ltb}
 use lib.ListN.{length, getD, drop, set, drop-of-length-le, length-set}
 use lib.Seq.{drop-drop, getD-set-same, getD-set-other}
 use Rattle.places.specs.Places.{cellAt}
+use Rattle.places.specs.Places as places
 use Rattle.records.specs.Records.{wordAt}
 use Rattle.forms.specs.Tree.{Row}
 use Rattle.integers.specs.declared.Folded.{Folded}
@@ -32,23 +33,23 @@ use Rattle.folds.proofs.Expressions.{outcome-row, outcome-none}
 use Rattle.folds.proofs.Rows.{rows-length, rows-from}
 
 -- where an element of the piece stands
-module _ (table items : List ℕ) (i j from count : ℕ) (p : from ≡ wordAt items i 1) (q : count ≡ wordAt items i 2) where
-  none : min count (length table / 3 - from) ≤ j → length table / 3 ≡ elementIn table items i j
+module _ (table items : List ℕ) (i j from count n : ℕ) (o : n ≡ places.rowsIn table) (p : from ≡ wordAt items i 1) (q : count ≡ wordAt items i 2) where
+  none : min count (n - from) ≤ j → n ≡ elementIn table items i j
   unfolding elementIn
-  none h = rw (← p, ← q, le-ltb j (min count (length table / 3 - from)) h)
+  none h = rw (← o, ← p, ← q, le-ltb j (min count (n - from)) h)
 
-  pub outside-table : length table / 3 ≤ from → length table / 3 ≡ elementIn table items i j
+  pub outside-table : n ≤ from → n ≡ elementIn table items i j
   outside-table h = none (omega arith)
 
-  pub past-table : length table / 3 - from ≤ j → length table / 3 ≡ elementIn table items i j
+  pub past-table : n - from ≤ j → n ≡ elementIn table items i j
   past-table h = none (omega arith)
 
-  pub past-piece : count ≤ j → length table / 3 ≡ elementIn table items i j
+  pub past-piece : count ≤ j → n ≡ elementIn table items i j
   past-piece h = none (omega arith)
 
-  pub in-piece : j < length table / 3 - from → j < count → from + j ≡ elementIn table items i j
+  pub in-piece : j < n - from → j < count → from + j ≡ elementIn table items i j
   unfolding elementIn
-  in-piece h k = rw (← p, ← q, lt-ltb j (min count (length table / 3 - from)) (omega arith))
+  in-piece h k = rw (← o, ← p, ← q, lt-ltb j (min count (n - from)) (omega arith))
 
 module _ (text table items links : List ℕ) (i j e : ℕ) (p : e ≡ elementIn table items i j) where
   pub value-there : (v : Value) → v ≡ useIn text table items links i e → v ≡ nameValue text table items links i j
@@ -59,13 +60,9 @@ module _ (text table items links : List ℕ) (i j e : ℕ) (p : e ≡ elementIn 
   unfolding literalAt
   literal-there r z = rw (← p) z
 
-  pub kind-there : e < length table / 3 → getD table (3 * e) 0 ≡ kindIn table items i j
-  unfolding kindIn cellAt
-  kind-there h = let z : 3 * e + 0 ≡ 3 * e = omega arith in rw (← p, lt-ltb e (length table / 3) h, z)
-
-  pub kind-nowhere : length table / 3 ≤ e → _≡_ {A = ℕ} 0 (kindIn table items i j)
-  unfolding kindIn cellAt
-  kind-nowhere h = rw (← p, le-ltb e (length table / 3) h)
+  pub kind-there : (k : ℕ) → k ≡ cellAt table e 0 → k ≡ kindIn table items i j
+  unfolding kindIn
+  kind-there k h = rw (← p) h
 
 pub name-there : (text table items links : List ℕ) (i j : ℕ) (v : Value) (r : Outcome) → v ≡ nameValue text table items links i j → r ≡ operandOf v → r ≡ nameIn text table items links i j
 unfolding nameIn

@@ -6,6 +6,7 @@ use lib.Dec.{ltb, leb}
 use lib.ListN.{length, getD}
 use Rattle.places.specs.Sizes.{mostElements}
 use Rattle.places.specs.Places.{cellAt}
+use Rattle.places.specs.Places as places
 use Rattle.records.specs.Records.{wordAt}
 use Rattle.forms.specs.Tree.{Row}
 use Rattle.folding.specs.declared.Outcome.{Outcome}
@@ -19,7 +20,7 @@ use Rattle.folds.specs.Rows.{rowsIn}
 -- where element j of piece i stands in the element table; behind its last, where the piece has none
 unfoldable pub elementIn : List ℕ → List ℕ → ℕ → ℕ → ℕ
 elementIn table items i j =
-    cond (ltb j (min (wordAt items i 2) (length table / 3 - wordAt items i 1))) (wordAt items i 1 + j) (length table / 3)
+    cond (ltb j (min (wordAt items i 2) (places.rowsIn table - wordAt items i 1))) (wordAt items i 1 + j) (places.rowsIn table)
 
 -- element j of piece i used as a name
 unfoldable pub nameValue : List ℕ → List ℕ → List ℕ → List ℕ → ℕ → ℕ → Value

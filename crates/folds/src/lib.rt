@@ -21,7 +21,7 @@ ghost use Rattle.folds.specs.Folds.{elementIn, nameValue, nameIn, litera
 fn element_in(elements: &[u64], items: &[u64], i: usize, j: u64) -> usize
     ensures { λ r. ⌜ r ≡ elementIn (now (elements .entry)) (now (items .entry)) i j ⌝ }
 {
-    let n = elements.len() / 3;
+    let n = places::rows_in(elements);
     let from = records::word(items, i, 1) as usize;
     let count = records::word(items, i, 2);
     if n <= from {
@@ -75,11 +75,7 @@ fn literal_outcome(text: &[u8], elements: &[u64], items: &[u64], i: usize, j: u6
 fn kind_in(elements: &[u64], items: &[u64], i: usize, j: u64) -> u64
     ensures { λ r. ⌜ r ≡ kindIn (now (elements .entry)) (now (items .entry)) i j ⌝ }
 {
-    let e = element_in(elements, items, i, j);
-    if e < elements.len() / 3 {
-        return elements[3 * e];
-    }
-    0
+    places::kind_of(elements, element_in(elements, items, i, j))
 }
 
 // What row k comes to, by what its operands do.

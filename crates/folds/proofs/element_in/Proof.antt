@@ -7,6 +7,9 @@ use Rattle.folds.proofs.element_in.Lts as lts
 use Rattle.records.proofs.word.Reads as word-reads
 use Rattle.folds.proofs.Turns.{outside-table, past-table, past-piece, in-piece}
 
+rows-in-requires : tie.Need-rows-in-requires
+rows-in-requires c κs = search needs
+
 word-requires : tie.Need-word-requires
 word-requires c κs = search needs
 
@@ -35,6 +38,7 @@ pub element-in-spec : {M : Type 1} → statement M
 element-in-spec =
     tie.close
     (tie.spec
+    rows-in-requires
     word-requires
     word-requires-2
     returns
