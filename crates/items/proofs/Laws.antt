@@ -11,8 +11,8 @@ use lib.Dec.{eqb, ltb}
 use lib.ListN.{length, getD, drop, take, set, length-drop}
 use lib.Seq.{drop-drop, drop-cons, getD-drop, sets, length-sets}
 use Rattle.classes.proofs.Laws.{by-test}
-use Rattle.places.specs.Places.{kindsOf}
-use Rattle.pieces.proofs.Laws.{kinds-length, kinds-at}
+use Rattle.places.specs.Places.{rowsIn, cellAt, kindsOf}
+use Rattle.pieces.proofs.Laws.{kinds-length, kind-at}
 use Rattle.records.specs.Records.{wordAt, isItem, isClaim}
 use Rattle.names.specs.Language.{languageOf}
 use Rattle.folding.specs.declared.Outcome.{Outcome}
@@ -79,33 +79,33 @@ cut (suc k) (x ∷ l) = rw (suc-min-suc k (length l)) (ap (λ (m : List ℕ). x 
 
 -- past m kinds without it
 abbrev pub Down : (table items : List ℕ) (i from most m : ℕ) → Type 0
-Down table items i from most m = anyDown (take (most - m) (drop (from + m) (kindsOf (length table / 3) table))) ≡ goesDownIn table items i
+Down table items i from most m = anyDown (take (most - m) (drop (from + m) (kindsOf (rowsIn table) table))) ≡ goesDownIn table items i
 
-pub down-start : (table items : List ℕ) (i from count most space : ℕ) → from ≡ wordAt items i 1 → count ≡ wordAt items i 2 → space ≡ length table / 3 - from → most ≡ min count space → Down table items i from most 0
+pub down-start : (table items : List ℕ) (i n from count most space : ℕ) → n ≡ rowsIn table → from ≡ wordAt items i 1 → count ≡ wordAt items i 2 → space ≡ n - from → most ≡ min count space → Down table items i from most 0
 unfolding goesDownIn
-down-start table items i from count most space p q w g =
-    let a : most - 0 ≡ min count (length (drop from (kindsOf (length table / 3) table))) = omega (arith, length-drop from (kindsOf (length table / 3) table), kinds-length (length table / 3) table) in
+down-start table items i n from count most space o p q w g =
+    let a : most - 0 ≡ min count (length (drop from (kindsOf (rowsIn table) table))) = omega (arith, length-drop from (kindsOf (rowsIn table) table), kinds-length (rowsIn table) table) in
     let b : from + 0 ≡ from = omega arith in
-    rw (a, b, cut count (drop from (kindsOf (length table / 3) table)), p, q)
+    rw (a, b, cut count (drop from (kindsOf (rowsIn table) table)), p, q)
 
 module _ (table items : List ℕ) (i from most m : ℕ) (inv : Down table items i from most m) where
   abbrev ks : List ℕ
-  ks = kindsOf (length table / 3) table
+  ks = kindsOf (rowsIn table) table
 
-  module _ (space count : ℕ) (l : m < most) (w : space ≡ length table / 3 - from) (g : most ≡ min count space) where
-    opened-down : anyDown (take (most - m) (drop (from + m) ks)) ≡ (eqb (getD table (3 * (from + m)) 0) 58 || anyDown (take (most - (m + 1)) (drop (from + (m + 1)) ks)))
+  module _ (n space count k : ℕ) (l : m < most) (o : n ≡ rowsIn table) (w : space ≡ n - from) (g : most ≡ min count space) (e : k ≡ cellAt table (from + m) 0) where
+    opened-down : anyDown (take (most - m) (drop (from + m) ks)) ≡ (eqb k 58 || anyDown (take (most - (m + 1)) (drop (from + (m + 1)) ks)))
     unfolding anyDown
     opened-down =
         let a : most - m ≡ suc (most - (m + 1)) = omega arith in
         let b : suc (from + m) ≡ from + (m + 1) = omega arith in
-        let k : from + m < length ks = omega (arith, kinds-length (length table / 3) table) in
-        rw (a, drop-cons ks (from + m) 0 k, b, ← kinds-at (length table / 3) (from + m) table (omega arith))
+        let h : from + m < length ks = omega (arith, kinds-length (rowsIn table) table) in
+        rw (a, drop-cons ks (from + m) 0 h, b, ← kind-at table (rowsIn table) (from + m) (omega arith) (omega arith), ← e)
 
-    pub down-hit : getD table (3 * (from + m)) 0 ≡ 58 → true ≡ goesDownIn table items i
-    down-hit h = sym (opened-down ∙ rw (eq-eqb (getD table (3 * (from + m)) 0) 58 h)) ∙ inv
+    pub down-hit : k ≡ 58 → true ≡ goesDownIn table items i
+    down-hit h = sym (opened-down ∙ rw (eq-eqb k 58 h)) ∙ inv
 
-    pub down-turn : (getD table (3 * (from + m)) 0 ≡ 58 → ⊥) → Down table items i from most (m + 1)
-    down-turn h = sym (opened-down ∙ rw (ne-eqb (getD table (3 * (from + m)) 0) 58 h)) ∙ inv
+    pub down-turn : (k ≡ 58 → ⊥) → Down table items i from most (m + 1)
+    down-turn h = sym (opened-down ∙ rw (ne-eqb k 58 h)) ∙ inv
 
   pub down-end : most ≤ m → false ≡ goesDownIn table items i
   unfolding anyDown

@@ -6,7 +6,7 @@ use mathlib.Core.List.{List, [], _∷_}
 use lib.Dec.{eqb, ltb}
 use lib.ListN.{length, getD, drop, take}
 use lib.Seq.{sets}
-use Rattle.places.specs.Places.{kindsOf}
+use Rattle.places.specs.Places.{rowsIn, kindsOf}
 use Rattle.records.specs.Records.{wordAt, isItem, isClaim}
 use Rattle.names.specs.Language.{languageOf}
 use Rattle.folding.specs.declared.Outcome.{Outcome}
@@ -32,7 +32,7 @@ anyDown (k ∷ ks) = eqb k 58 || anyDown ks
 
 -- the word downto stands in piece i
 unfoldable pub goesDownIn : List ℕ → List ℕ → ℕ → Bool
-goesDownIn table items i = anyDown (take (wordAt items i 2) (drop (wordAt items i 1) (kindsOf (length table / 3) table)))
+goesDownIn table items i = anyDown (take (wordAt items i 2) (drop (wordAt items i 1) (kindsOf (rowsIn table) table)))
 
 -- the name of piece i has another claim, the language's included
 unfoldable pub doubledIn : List ℕ → List ℕ → List ℕ → List ℕ → ℕ → Bool

@@ -37,13 +37,13 @@ fn rows_held(rows: &[u64], items: &[u64], i: usize) -> usize
 fn goes_down(elements: &[u64], items: &[u64], i: usize) -> bool
     ensures { λ r. ⌜ r ≡ goesDownIn (now (elements .entry)) (now (items .entry)) i ⌝ }
 {
-    let n = elements.len() / 3;
+    let n = places::rows_in(elements);
     let from = records::word(items, i, 1) as usize;
     let count = records::word(items, i, 2) as usize;
     let most = lent::least(count, minus(n, from));
     let mut m: usize = 0;
     while m < most {
-        if elements[3 * (from + m)] == 58 {
+        if places::kind_of(elements, from + m) == 58 {
             return true;
         }
         m += 1;

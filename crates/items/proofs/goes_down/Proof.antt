@@ -17,6 +17,9 @@ Inv-loop elements items i n from count most m₀ m = (m ≤ most) × Down elemen
 abbrev μ-loop : tie.MeasureT-loop
 μ-loop elements items i n from count most m₀ m = most - m
 
+rows-in-requires : tie.Need-rows-in-requires Inv-loop μ-loop
+rows-in-requires c κs = search needs
+
 word-requires : tie.Need-word-requires Inv-loop μ-loop
 word-requires c κs = search needs
 
@@ -32,17 +35,11 @@ least-requires c κs = search needs
 loop-holds : tie.Need-loop-holds Inv-loop μ-loop
 loop-holds c = (omega arith, search down-start)
 
-add-if1 : tie.Need-add-if1 Inv-loop μ-loop
-add-if1 c = search needs
+add-kind-of : tie.Need-add-kind-of Inv-loop μ-loop
+add-kind-of c = search needs
 
-mul-if1 : tie.Need-mul-if1 Inv-loop μ-loop
-mul-if1 c = search needs
-
-mul-if1-2 : tie.Need-mul-if1-2 Inv-loop μ-loop
-mul-if1-2 c = search needs
-
-shared-slice-read-if1 : tie.Need-shared-slice-read-if1 Inv-loop μ-loop
-shared-slice-read-if1 c = search needs
+kind-of-requires : tie.Need-kind-of-requires Inv-loop μ-loop
+kind-of-requires c κs = search needs
 
 returns : tie.Need-returns Inv-loop μ-loop
 returns c = search down-hit
@@ -54,7 +51,12 @@ loop-less : tie.Need-loop-less Inv-loop μ-loop
 loop-less c = search needs
 
 loop-again : tie.Need-loop-again Inv-loop μ-loop
-loop-again c = (search needs, search down-turn)
+loop-again c =
+    let start = c .before .before .before .before in (
+      search needs,
+      down-turn _ _ _ _ _ _ (c .before .before .before .loop .inv .1) _ _ _ _ (c .before .before .loop-test .taken) (start .before .before .before .before .rows-in .ensures)
+          (start .before .minus .ensures) (start .least .ensures) (c .before .kind-of .ensures) (c .if1 .left),
+    )
 
 returns-2 : tie.Need-returns-2 Inv-loop μ-loop
 returns-2 c = search down-end
@@ -65,15 +67,14 @@ goes-down-spec =
     (tie.spec
     Inv-loop
     μ-loop
+    rows-in-requires
     word-requires
     word-requires-2
     minus-requires
     least-requires
     loop-holds
-    add-if1
-    mul-if1
-    mul-if1-2
-    shared-slice-read-if1
+    add-kind-of
+    kind-of-requires
     returns
     add-m
     loop-less
