@@ -10,6 +10,7 @@ use borrow.Author.Tests.{lt-ltb, le-ltb, ltb-true, ltb-false, eqb-true, eq-eqb}
 use lib.Dec.{ltb, eqb}
 use lib.ListN.{length, replicate}
 use Rattle.classes.proofs.Laws.{by-test}
+use Rattle.places.specs.Places.{rowWords, kindsOf}
 use Rattle.elements.specs.declared.Kind.{Kind}
 use Rattle.elements.specs.declared.Literal.{Literal}
 use Rattle.elements.specs.Kinds.{kindNumber}
@@ -68,16 +69,26 @@ found-later i r rs U.Nothing d s = none
     none zero u = d u
     none (suc e) u = s e u
 
-search-says : (rs : List Row) (i : ℕ) (l : List ℕ) → SearchSays i rs (unreadableFrom i (length rs) (cells rs ++ l))
-unfolding unreadableFrom cells
-search-says [] i l = λ e u. u
-search-says (r ∷ rs) i l = go (eqb (kindNumber (r .kind)) 7) refl (search-says rs (suc i) l)
+-- the kinds of rows, as the table has them
+abbrev numbers : List Row → List ℕ
+numbers [] = []
+numbers (r ∷ rs) = kindNumber (r .kind) ∷ numbers rs
+
+kinds-rows : (rs : List Row) (l : List ℕ) → kindsOf (length rs) (cells rs ++ l) ≡ numbers rs
+unfolding kindsOf cells
+kinds-rows [] l = refl
+kinds-rows (r ∷ rs) l = ap (λ (ks : List ℕ). kindNumber (r .kind) ∷ ks) (kinds-rows rs l)
+
+search-says : (rs : List Row) (i : ℕ) → SearchSays i rs (unreadableFrom i (numbers rs))
+unfolding unreadableFrom
+search-says [] i = λ e u. u
+search-says (r ∷ rs) i = go (eqb (kindNumber (r .kind)) 7) refl (search-says rs (suc i))
   where
-    go : (b : Bool) → eqb (kindNumber (r .kind)) 7 ≡ b → SearchSays (suc i) rs (unreadableFrom (suc i) (length rs) (cells rs ++ l))
-        → SearchSays i (r ∷ rs) (elim b [ true ↦ U.At i | false ↦ unreadableFrom (suc i) (length rs) (cells rs ++ l) ])
+    go : (b : Bool) → eqb (kindNumber (r .kind)) 7 ≡ b → SearchSays (suc i) rs (unreadableFrom (suc i) (numbers rs))
+        → SearchSays i (r ∷ rs) (elim b [ true ↦ U.At i | false ↦ unreadableFrom (suc i) (numbers rs) ])
     go true e s = (0, (omega arith, (unreadable-kind (r .kind) (eqb-true (kindNumber (r .kind)) 7 e), λ j m. absurd (omega arith))))
     go false e s =
-        found-later i r rs (unreadableFrom (suc i) (length rs) (cells rs ++ l))
+        found-later i r rs (unreadableFrom (suc i) (numbers rs))
         (λ u. let z : _≡_ {A = ℕ} 0 1 = (let y : eqb (kindNumber (r .kind)) 7 ≡ true = eq-eqb (kindNumber (r .kind)) 7 (ap kindNumber u) in cc) in omega arith)
         s
 
@@ -87,24 +98,24 @@ UnreadSays rs (U.At k) = FirstUnreadable rs k
 UnreadSays rs U.Nothing = NoneUnreadable rs
 
 module _ (text : List ℕ) (ew : ℕ) (t : Taken text ew) where
-  pub unread-says : UnreadSays (rowsOf text) (unreadableFrom 0 (count text) (tableOf text ew))
+  pub unread-says : UnreadSays (rowsOf text) (unreadableFrom 0 (kindsOf (count text) (tableOf text ew)))
   unread-says =
-      rw (table-read text ew (taken-read text ew t))
-      (from (unreadableFrom 0 (count text) (cells (rowsOf text) ++ replicate (ew - 3 * count text) 0)) (search-says (rowsOf text) 0 (replicate (ew - 3 * count text) 0)))
+      rw (table-read text ew (taken-read text ew t), kinds-rows (rowsOf text) (replicate (ew - rowWords * count text) 0))
+      (from (unreadableFrom 0 (numbers (rowsOf text))) (search-says (rowsOf text) 0))
     where
       from : (f : Unread) → SearchSays 0 (rowsOf text) f → UnreadSays (rowsOf text) f
       from (U.At k) s = let z : s .0 ≡ k = (let p = s .1 .0 in omega arith) in subst (FirstUnreadable (rowsOf text)) z (s .1 .1)
       from U.Nothing s = s
 
-  pub none-unread : NoneUnreadable (rowsOf text) → unreadableFrom 0 (count text) (tableOf text ew) ≡ U.Nothing
-  none-unread d = go (unreadableFrom 0 (count text) (tableOf text ew)) unread-says
+  pub none-unread : NoneUnreadable (rowsOf text) → unreadableFrom 0 (kindsOf (count text) (tableOf text ew)) ≡ U.Nothing
+  none-unread d = go (unreadableFrom 0 (kindsOf (count text) (tableOf text ew))) unread-says
     where
       go : (f : Unread) → UnreadSays (rowsOf text) f → f ≡ U.Nothing
       go (U.At k) s = absurd (d k (s .0))
       go U.Nothing s = refl
 
-  pub first-unread : (e : ℕ) → FirstUnreadable (rowsOf text) e → unreadableFrom 0 (count text) (tableOf text ew) ≡ U.At e
-  first-unread e d = go (unreadableFrom 0 (count text) (tableOf text ew)) unread-says
+  pub first-unread : (e : ℕ) → FirstUnreadable (rowsOf text) e → unreadableFrom 0 (kindsOf (count text) (tableOf text ew)) ≡ U.At e
+  first-unread e d = go (unreadableFrom 0 (kindsOf (count text) (tableOf text ew))) unread-says
     where
       go : (f : Unread) → UnreadSays (rowsOf text) f → f ≡ U.At e
       go (U.At k) s =

@@ -1,13 +1,14 @@
 -- The ways of the strict reading, in the code's terms: each premise is what a call or a match gives. Assumes nothing.
-use mathlib.Core.Path.{_≡_, sym, ap, _∙_}
-use mathlib.Core.List.{List}
-use Prim.Native.Nat.{ℕ, suc, _+_, _-_, _*_, _≤_, _<_}
-use native.Mathlib.Nat.{add-zero}
+use mathlib.Core.Path.{_≡_, refl, sym, ap, _∙_}
+use mathlib.Core.List.{List, [], _∷_}
+use Prim.Native.Nat.{ℕ, zero, suc, _+_, _*_, _≤_, _<_}
+use native.Mathlib.Nat.{not-suc-le-zero, le-of-suc-le-suc}
 use native.Mathlib.Numerals.{add-one}
 use native.Mathlib.Omega.{arith}
-use borrow.Author.Tests.{eq-eqb, ne-eqb}
+use borrow.Author.Tests.{eq-eqb, ne-eqb, lt-ltb}
 use lib.ListN.{length, getD, drop, replicate, length-replicate}
-use lib.Seq.{getD-drop, drop-drop}
+use lib.Seq.{getD-drop}
+use Rattle.places.specs.Places.{rowWords, rowsIn, cellAt, kindsOf}
 use Rattle.reading.specs.Reading.{readingOf}
 use Rattle.reading.proofs.Answers.{table-refused}
 use Rattle.reading.specs.Reading as elements
@@ -29,24 +30,51 @@ use Rattle.files.specs.declared.Strict.{Strict}
 use Rattle.files.specs.declared.Strict.the-variants.{Read, Refused}
 use Rattle.files.specs.Strict.{unreadableFrom, byAnswer, treeTable, fileOf, byUnread, elementsAs, byReading, strictOf, kept, elementsAfter, treeByUnread, treeAs, treeByReading, treeAfter}
 
--- the search for an unreadable element: the kind of element i stands at word 3 * i
-module _ (t : List ℕ) (count i : ℕ) (whole : Unread) where
-  next : i < count → unreadableFrom i (count - i) (drop (3 * i) t) ≡ unreadableFrom i (suc (count - (i + 1))) (drop (3 * i) t)
-  next h = let z : count - i ≡ suc (count - (i + 1)) = omega arith in rw z
+-- of the kinds of n elements, those from element i on
+kinds-from : (t : List ℕ) (n i : ℕ) → rowWords * n ≤ length t → i < n → drop i (kindsOf n t) ≡ cellAt t i 0 ∷ drop (suc i) (kindsOf n t)
+unfolding cellAt kindsOf
+kinds-from t n i l h = rw (lt-ltb i (rowsIn t) (omega arith)) (go n i t h)
+  where
+    go : (n i : ℕ) (t : List ℕ) → i < n → drop i (kindsOf n t) ≡ getD t (rowWords * i + 0) 0 ∷ drop (suc i) (kindsOf n t)
+    go zero i t h = absurd (not-suc-le-zero h)
+    go (suc n) zero t h = refl
+    go (suc n) (suc i) t h =
+        go n i (drop rowWords t) (le-of-suc-le-suc h)
+        ∙ ap (λ (k : ℕ). k ∷ drop (suc i) (kindsOf n (drop rowWords t))) (getD-drop rowWords t (rowWords * i + 0) 0 ∙ ap (λ (k : ℕ). getD t k 0) (omega arith))
 
-  pub unread-hit : unreadableFrom i (count - i) (drop (3 * i) t) ≡ whole → i < count → getD t (3 * i) 0 ≡ 7 → U.At i ≡ whole
-  unfolding unreadableFrom
-  unread-hit v h e = rw (getD-drop (3 * i) t 0 0, add-zero, eq-eqb _ 7 e, unreadableFrom) at (sym (next h) ∙ v)
+kinds-past : (t : List ℕ) (n i : ℕ) → n ≤ i → drop i (kindsOf n t) ≡ []
+unfolding kindsOf
+kinds-past t zero zero h = refl
+kinds-past t zero (suc i) h = refl
+kinds-past t (suc n) zero h = absurd (not-suc-le-zero h)
+kinds-past t (suc n) (suc i) h = kinds-past (drop rowWords t) n i (le-of-suc-le-suc h)
 
-  pub unread-past : unreadableFrom i (count - i) (drop (3 * i) t) ≡ whole → i < count → (getD t (3 * i) 0 ≡ 7 → ⊥) → unreadableFrom (i + 1) (count - (i + 1)) (drop (3 * (i + 1)) t) ≡ whole
-  unfolding unreadableFrom
-  unread-past v h e =
-      let z : 3 * i + 3 ≡ 3 * (i + 1) = omega arith in
-      rw (← z) (rw (getD-drop (3 * i) t 0 0, add-zero, ne-eqb _ 7 e, unreadableFrom, drop-drop, ← add-one i) at (sym (next h) ∙ v))
+-- the search for an unreadable element
+found : (i k : ℕ) (ks : List ℕ) → k ≡ 7 → unreadableFrom i (k ∷ ks) ≡ U.At i
+unfolding unreadableFrom
+found i k ks q = rw (eq-eqb k 7 q, unreadableFrom)
 
-  pub unread-end : unreadableFrom i (count - i) (drop (3 * i) t) ≡ whole → count ≤ i → U.Nothing ≡ whole
+passed : (i k : ℕ) (ks : List ℕ) → (k ≡ 7 → ⊥) → unreadableFrom i (k ∷ ks) ≡ unreadableFrom (suc i) ks
+unfolding unreadableFrom
+passed i k ks q = rw (ne-eqb k 7 q, unreadableFrom)
+
+module _ (t : List ℕ) (count i : ℕ) (whole : Unread) (v : unreadableFrom i (drop i (kindsOf count t)) ≡ whole) where
+  module _ (k : ℕ) (l : rowWords * count ≤ length t) (h : i < count) (e : k ≡ cellAt t i 0) where
+    here : drop i (kindsOf count t) ≡ k ∷ drop (i + 1) (kindsOf count t)
+    here = rw (e, add-one i) (kinds-from t count i l h)
+
+    pub unread-hit : k ≡ 7 → U.At i ≡ whole
+    unread-hit q = sym (ap (unreadableFrom i) here ∙ found i k (drop (i + 1) (kindsOf count t)) q) ∙ v
+
+    pub unread-past : (k ≡ 7 → ⊥) → unreadableFrom (i + 1) (drop (i + 1) (kindsOf count t)) ≡ whole
+    unread-past q =
+        ap (λ (j : ℕ). unreadableFrom j (drop (i + 1) (kindsOf count t))) (add-one i)
+        ∙ sym (ap (unreadableFrom i) here ∙ passed i k (drop (i + 1) (kindsOf count t)) q)
+        ∙ v
+
+  pub unread-end : count ≤ i → U.Nothing ≡ whole
   unfolding unreadableFrom
-  unread-end v h = let z : count - i ≡ 0 = omega arith in rw z at v
+  unread-end h = rw (kinds-past t count i h) at v
 
 -- a file, or refusal 5, 6, 7 or 8: a is what `read_tree` answers, u the tree table then, e the element table where it is cleared
 module _ (text t : List ℕ) (count w : ℕ) (a : Answer) (u : List ℕ)
@@ -79,7 +107,7 @@ module _ (text t : List ℕ) (count w : ℕ) (a : Answer) (u : List ℕ)
   file-short k x m z = refused (S.TreeShort k) x (rw m) z
 
 -- refusal 2, or a file: f is what `first_unreadable` answers
-module _ (text t : List ℕ) (count w : ℕ) (f : Unread) (p : f ≡ unreadableFrom 0 count t) where
+module _ (text t : List ℕ) (count w : ℕ) (f : Unread) (p : f ≡ unreadableFrom 0 (kindsOf count t)) where
   all-as : elementsAs text t count w ≡ byUnread f text t count w
   unfolding elementsAs
   all-as = rw p

@@ -4,6 +4,7 @@ use native.Mathlib.Omega.{arith}
 use mathlib.Core.Path.{_≡_, refl, sym, ap, _∙_, subst}
 use mathlib.Core.List.{List, _++_}
 use lib.ListN.{length, replicate}
+use Rattle.places.specs.Places.{kindsOf}
 use Rattle.reading.specs.Rows as elements
 use Rattle.reading.specs.Reading.{readingOf, tableOf}
 use Rattle.reading.specs.declared.Reading.{Reading}
@@ -48,11 +49,11 @@ unfolding treeAfter
 after-by text ew tw o e = rw e
 
 module _ (text table : List ℕ) (n tw : ℕ) where
-  all-by : (f : Unread) → unreadableFrom 0 n table ≡ f → elementsAs text table n tw ≡ byUnread f text table n tw
+  all-by : (f : Unread) → unreadableFrom 0 (kindsOf n table) ≡ f → elementsAs text table n tw ≡ byUnread f text table n tw
   unfolding elementsAs
   all-by f e = rw e
 
-  tree-by : (f : Unread) → unreadableFrom 0 n table ≡ f → treeAs text table n tw ≡ treeByUnread f text table n tw
+  tree-by : (f : Unread) → unreadableFrom 0 (kindsOf n table) ≡ f → treeAs text table n tw ≡ treeByUnread f text table n tw
   unfolding treeAs
   tree-by f e = rw e
 
@@ -65,7 +66,7 @@ module _ (text table : List ℕ) (n tw : ℕ) where
   unfolding treeTable
   file-zeros r e = zeros-else text table (elementsIn table n) tw (λ rows m. let z : Read rows (verdictOf (treeTable text table n tw) rows) ≡ Refused r = sym (file-by (A.Tree rows) m) ∙ e in let c : _≡_ {A = ℕ} 0 1 = cc in omega arith)
 
-  all-zeros : (f : Unread) → unreadableFrom 0 n table ≡ f → (r : StrictRefusal) → elementsAs text table n tw ≡ Refused r → treeAs text table n tw ≡ replicate tw 0
+  all-zeros : (f : Unread) → unreadableFrom 0 (kindsOf n table) ≡ f → (r : StrictRefusal) → elementsAs text table n tw ≡ Refused r → treeAs text table n tw ≡ replicate tw 0
   all-zeros (U.At k) f r e = tree-by (U.At k) f
   all-zeros U.Nothing f r e = tree-by U.Nothing f ∙ file-zeros r (sym (all-by U.Nothing f) ∙ e)
 
@@ -73,7 +74,7 @@ tree-zeros : (text : List ℕ) (ew tw : ℕ) (o : Reading) → readingOf text ew
 tree-zeros text ew tw (R.Refused q) o r e = after-by text ew tw (R.Refused q) o
 tree-zeros text ew tw (R.Read n) o r e =
     after-by text ew tw (R.Read n) o
-    ∙ all-zeros text (tableOf text ew) (n .0) tw (unreadableFrom 0 (n .0) (tableOf text ew)) refl r (sym (strict-by text ew tw (R.Read n) o) ∙ e)
+    ∙ all-zeros text (tableOf text ew) (n .0) tw (unreadableFrom 0 (kindsOf (n .0) (tableOf text ew))) refl r (sym (strict-by text ew tw (R.Read n) o) ∙ e)
 
 pub zeros-on-refusal : ZerosOnRefusal
 unfolding elementsAfter
@@ -132,7 +133,7 @@ module _ (text : List ℕ) (ew tw : ℕ) where
           let l = f .1 .1 .1 in
           says (A.TableShort k) e (r, f .0, (f .1 .0, (of-text text ew (r .0) (λ a w. forms.Reading a w (f .1 .0)) (f .1 .1 .0), omega arith)))
 
-  elements-say : Taken text ew → (f : Unread) → unreadableFrom 0 (count text) (tableOf text ew) ≡ f → UnreadSays (elements.rowsOf text) f → Says (elementsAs text (tableOf text ew) (count text) tw)
+  elements-say : Taken text ew → (f : Unread) → unreadableFrom 0 (kindsOf (count text) (tableOf text ew)) ≡ f → UnreadSays (elements.rowsOf text) f → Says (elementsAs text (tableOf text ew) (count text) tw)
   elements-say t (U.At k) e u = subst Says (sym (all-by text (tableOf text ew) (count text) tw (U.At k) e)) (t, u)
   elements-say t U.Nothing e u = subst Says (sym (all-by text (tableOf text ew) (count text) tw U.Nothing e)) (file-says (t, u))
 
@@ -143,7 +144,7 @@ module _ (text : List ℕ) (ew tw : ℕ) where
       go (R.Refused r) e g = subst Says (sym (strict-by text ew tw (R.Refused r) e)) g
       go (R.Read n) e g =
           subst Says (sym (strict-by text ew tw (R.Read n) e ∙ ap (λ (k : ℕ). elementsAs text (tableOf text ew) k tw) (g .0)))
-          (elements-say (g .1) (unreadableFrom 0 (count text) (tableOf text ew)) refl (unread-says text ew (g .1)))
+          (elements-say (g .1) (unreadableFrom 0 (kindsOf (count text) (tableOf text ew))) refl (unread-says text ew (g .1)))
 
   read-by : (rows : ℕ) (v : Verdict) → IsRead text ew tw rows v → strictOf text ew tw ≡ Read rows v
   read-by rows v (r, (s, (f, c, l, w))) =

@@ -5,6 +5,7 @@ use mathlib.Core.Path.{_≡_}
 use mathlib.Core.Logic.{_↔_}
 use mathlib.Core.List.{List, _++_}
 use lib.ListN.{length, replicate}
+use Rattle.places.specs.Places.{rowWords}
 use Rattle.reading.specs.Rows.{rowsOf}
 use Rattle.reading.specs.Table.{cells}
 use Rattle.forms.specs.Tree.{State}
@@ -31,7 +32,7 @@ RefusedExactly = (text : List ℕ) (ew tw : ℕ) (r : StrictRefusal) → (strict
 abbrev pub TablesHold : Type 0
 TablesHold =
     (text : List ℕ) (ew tw : ℕ) (s : State) → Readable text ew → File text s → 5 * length (forms.rowsOf s) ≤ tw
-    → (elementsAfter text ew tw ≡ cells (rowsOf text) ++ replicate (ew - 3 * count text) 0)
+    → (elementsAfter text ew tw ≡ cells (rowsOf text) ++ replicate (ew - rowWords * count text) 0)
     × (treeAfter text ew tw ≡ wordsOf (forms.rowsOf s) ++ replicate (tw - 5 * length (forms.rowsOf s)) 0)
 
 -- A refusal leaves every lent table all zeros.

@@ -1,10 +1,11 @@
 -- What the strict reading of a text answers, given how many words the two lent tables have, and what they hold then: 01's "Refusals and
 -- their order", of which 1 to 8 concern it. Assumes nothing: these are definitions.
-use Prim.Native.Nat.{ℕ, zero, suc, _*_}
+use Prim.Native.Nat.{ℕ, suc}
 use mathlib.Core.Bool.{Bool, true, false}
-use mathlib.Core.List.{List}
+use mathlib.Core.List.{List, [], _∷_}
 use lib.Dec.{eqb}
-use lib.ListN.{length, getD, drop, replicate}
+use lib.ListN.{length, replicate}
+use Rattle.places.specs.Places.{kindsOf}
 use Rattle.reading.specs.Reading.{readingOf}
 use Rattle.reading.specs.Reading as elements
 use Rattle.reading.specs.declared.Reading.{Reading}
@@ -21,10 +22,10 @@ use Rattle.refusals.specs.declared.StrictRefusal.the-variants as S
 use Rattle.files.specs.declared.Strict.{Strict}
 use Rattle.files.specs.declared.Strict.the-variants.{Read, Refused}
 
--- 2: "an unreadable element, the first": of n elements of a table, the first of which is number i; 7 is the kind
-unfoldable pub unreadableFrom : ℕ → ℕ → List ℕ → Unread
-unreadableFrom i zero table = U.Nothing
-unreadableFrom i (suc n) table = elim (eqb (getD table 0 0) 7) [ true ↦ U.At i | false ↦ unreadableFrom (suc i) n (drop 3 table) ]
+-- 2: "an unreadable element, the first": of elements of these kinds, the first of which is number i; 7 is the kind
+unfoldable pub unreadableFrom : ℕ → List ℕ → Unread
+unreadableFrom i [] = U.Nothing
+unreadableFrom i (k ∷ ks) = elim (eqb k 7) [ true ↦ U.At i | false ↦ unreadableFrom (suc i) ks ]
 
 -- the words of a tree table of so many words, once n elements of an element table were read as a file
 unfoldable pub treeTable : List ℕ → List ℕ → ℕ → ℕ → List ℕ
@@ -47,7 +48,7 @@ byUnread U.Nothing text table n words = fileOf text table n words
 
 -- n elements of a table: 2, then as above
 unfoldable pub elementsAs : List ℕ → List ℕ → ℕ → ℕ → Strict
-elementsAs text table n words = byUnread (unreadableFrom 0 n table) text table n words
+elementsAs text table n words = byUnread (unreadableFrom 0 (kindsOf n table)) text table n words
 
 -- 1, 3, 4, then as above
 abbrev pub byReading : Reading → List ℕ → List ℕ → ℕ → Strict
@@ -72,7 +73,7 @@ treeByUnread (U.At k) text table n words = replicate words 0
 treeByUnread U.Nothing text table n words = treeTable text table n words
 
 unfoldable pub treeAs : List ℕ → List ℕ → ℕ → ℕ → List ℕ
-treeAs text table n words = treeByUnread (unreadableFrom 0 n table) text table n words
+treeAs text table n words = treeByUnread (unreadableFrom 0 (kindsOf n table)) text table n words
 
 abbrev pub treeByReading : Reading → List ℕ → List ℕ → ℕ → List ℕ
 treeByReading (R.Refused r) text table words = replicate words 0

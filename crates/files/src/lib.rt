@@ -7,6 +7,7 @@ use verdict::Verdict;
 ghost use mathlib.Core.Path.{_≡_};
 ghost use Prim.Native.Nat.{_+_, _*_, _≤_};
 ghost use lib.ListN.{length};
+ghost use Rattle.places.specs.Places.{rowWords, kindsOf};
 ghost use Rattle.files.specs.Strict.{unreadableFrom, elementsAs, fileOf, treeTable, kept, treeAs, strictOf, elementsAfter, treeAfter};
 
 pub enum Unread {
@@ -22,12 +23,12 @@ pub enum Strict {
 
 // The first unreadable of a table's elements.
 fn first_unreadable(elements: &[u64], count: usize) -> Unread
-    requires { ⌜ 3 * count ≤ length (now elements) ⌝ }
-    ensures { λ r. ⌜ r ≡ unreadableFrom 0 count (now (elements .entry)) ⌝ }
+    requires { ⌜ rowWords * count ≤ length (now elements) ⌝ }
+    ensures { λ r. ⌜ r ≡ unreadableFrom 0 (kindsOf count (now (elements .entry))) ⌝ }
 {
     let mut i = 0;
     while i < count {
-        if elements[3 * i] == 7 {
+        if places::kind_of(elements, i) == 7 {
             return Unread::At(i);
         }
         i += 1;
@@ -64,7 +65,7 @@ fn read_file(text: &[u8], elements: &mut [u64], count: usize, tree: &mut [u64]) 
 
 // Elements, readable or not, as a file.
 fn read_all(text: &[u8], elements: &mut [u64], count: usize, tree: &mut [u64]) -> Strict
-    requires { ⌜ 3 * count ≤ length (now elements) ⌝ }
+    requires { ⌜ rowWords * count ≤ length (now elements) ⌝ }
     ensures { λ r. ⌜ r ≡ elementsAs (now (text .entry)) (now (elements .entry)) count (length (now (tree .entry))) ⌝ }
     ensures { λ r. ⌜ now (elements .exit) ≡ kept (elementsAs (now (text .entry)) (now (elements .entry)) count (length (now (tree .entry)))) (now (elements .entry)) ⌝ }
     ensures { λ r. ⌜ now (tree .exit) ≡ treeAs (now (text .entry)) (now (elements .entry)) count (length (now (tree .entry))) ⌝ }
