@@ -15,13 +15,13 @@ use Rattle.reading.specs.Reading.{tableOf}
 use Rattle.reading.proofs.Answers.{table-read}
 use Rattle.reading.proofs.TableLaws.{length-cells}
 use Rattle.alike.specs.Alike.{spelledSame, sameName}
-use Rattle.places.specs.Places.{cellAt}
+use Rattle.places.specs.Places.{cellAt, kindsOf}
 use Rattle.forms.specs.Kinds.{terminalOf}
 use Rattle.forms.specs.Tree as forms
 use Rattle.tree.specs.Answers.{terminalsOf, wordsOf}
 use Rattle.verdict.specs.Verdict.{verdictFrom, formsIn, verdictOf}
 use Rattle.reading.specs.Given.{count, Taken}
-use Rattle.files.specs.Given.{kindsOf, Elements, alike, formsOf, verdictOn}
+use Rattle.files.specs.Given.{terminalsOfRows, Elements, alike, formsOf, verdictOn}
 use Rattle.reading.proofs.Answers.{taken-read}
 
 -- zeros behind rows change none of the words
@@ -54,8 +54,8 @@ module _ (text l : List ℕ) (m z : ℕ) (e : length l ≡ 3 * m) where
   unfolding sameName spelledSame
   same-padded a b = rw (cell-padded a 0, cell-padded b 0, cell-padded a 1, cell-padded b 1, cell-padded a 2, cell-padded b 2)
 
-terminals-rows : (rs : List Row) (l : List ℕ) → terminalsOf (length rs) (cells rs ++ l) ≡ kindsOf rs
-unfolding terminalsOf cells
+terminals-rows : (rs : List Row) (l : List ℕ) → terminalsOf (length rs) (cells rs ++ l) ≡ terminalsOfRows rs
+unfolding terminalsOf kindsOf cells
 terminals-rows [] l = refl
 terminals-rows (r ∷ rs) l = ap (λ (x : List ℕ). terminalOf (kindNumber (r .kind)) ∷ x) (terminals-rows rs l)
 

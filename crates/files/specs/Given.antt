@@ -40,13 +40,13 @@ abbrev pub Readable : List ℕ → ℕ → Type 0
 Readable text elementWords = Taken text elementWords × NoneUnreadable (rowsOf text)
 
 -- what these elements are to the forms
-abbrev pub kindsOf : List Row → List ℕ
-kindsOf [] = []
-kindsOf (r ∷ rs) = terminalOf (kindNumber (r .kind)) ∷ kindsOf rs
+abbrev pub terminalsOfRows : List Row → List ℕ
+terminalsOfRows [] = []
+terminalsOfRows (r ∷ rs) = terminalOf (kindNumber (r .kind)) ∷ terminalsOfRows rs
 
 -- what the text's elements are to the forms, and whether two of them are the same name
 abbrev pub Elements : List ℕ → List ℕ
-Elements text = kindsOf (rowsOf text)
+Elements text = terminalsOfRows (rowsOf text)
 
 abbrev pub alike : List ℕ → ℕ → ℕ → Bool
 alike text = sameName text (cells (rowsOf text))
