@@ -9,6 +9,7 @@ use borrow.Author.Tests.{eq-eqb, ne-eqb, lt-ltb}
 use lib.ListN.{length, getD, drop, replicate, length-replicate}
 use lib.Seq.{getD-drop}
 use Rattle.places.specs.Places.{rowWords, rowsIn, cellAt, kindsOf}
+use Rattle.places.proofs.Laws.{kinds-from, kinds-end}
 use Rattle.reading.specs.Reading.{readingOf}
 use Rattle.reading.proofs.Answers.{table-refused}
 use Rattle.reading.specs.Reading as elements
@@ -29,25 +30,6 @@ use Rattle.refusals.specs.declared.StrictRefusal.the-variants as S
 use Rattle.files.specs.declared.Strict.{Strict}
 use Rattle.files.specs.declared.Strict.the-variants.{Read, Refused}
 use Rattle.files.specs.Strict.{unreadableFrom, byAnswer, treeTable, fileOf, byUnread, elementsAs, byReading, strictOf, kept, elementsAfter, treeByUnread, treeAs, treeByReading, treeAfter}
-
--- of the kinds of n elements, those from element i on
-kinds-from : (t : List ℕ) (n i : ℕ) → rowWords * n ≤ length t → i < n → drop i (kindsOf n t) ≡ cellAt t i 0 ∷ drop (suc i) (kindsOf n t)
-unfolding cellAt kindsOf
-kinds-from t n i l h = rw (lt-ltb i (rowsIn t) (omega arith)) (go n i t h)
-  where
-    go : (n i : ℕ) (t : List ℕ) → i < n → drop i (kindsOf n t) ≡ getD t (rowWords * i + 0) 0 ∷ drop (suc i) (kindsOf n t)
-    go zero i t h = absurd (not-suc-le-zero h)
-    go (suc n) zero t h = refl
-    go (suc n) (suc i) t h =
-        go n i (drop rowWords t) (le-of-suc-le-suc h)
-        ∙ ap (λ (k : ℕ). k ∷ drop (suc i) (kindsOf n (drop rowWords t))) (getD-drop rowWords t (rowWords * i + 0) 0 ∙ ap (λ (k : ℕ). getD t k 0) (omega arith))
-
-kinds-past : (t : List ℕ) (n i : ℕ) → n ≤ i → drop i (kindsOf n t) ≡ []
-unfolding kindsOf
-kinds-past t zero zero h = refl
-kinds-past t zero (suc i) h = refl
-kinds-past t (suc n) zero h = absurd (not-suc-le-zero h)
-kinds-past t (suc n) (suc i) h = kinds-past (drop rowWords t) n i (le-of-suc-le-suc h)
 
 -- the search for an unreadable element
 found : (i k : ℕ) (ks : List ℕ) → k ≡ 7 → unreadableFrom i (k ∷ ks) ≡ U.At i
@@ -74,7 +56,7 @@ module _ (t : List ℕ) (count i : ℕ) (whole : Unread) (v : unreadableFrom i (
 
   pub unread-end : count ≤ i → U.Nothing ≡ whole
   unfolding unreadableFrom
-  unread-end h = rw (kinds-past t count i h) at v
+  unread-end h = rw (kinds-end t count i h) at v
 
 -- a file, or refusal 5, 6, 7 or 8: a is what `read_tree` answers, u the tree table then, e the element table where it is cleared
 module _ (text t : List ℕ) (count w : ℕ) (a : Answer) (u : List ℕ)

@@ -12,7 +12,7 @@ use lib.ListN.{length, getD, drop, take, set, length-drop}
 use lib.Seq.{drop-drop, drop-cons, getD-drop, sets, length-sets}
 use Rattle.classes.proofs.Laws.{by-test}
 use Rattle.places.specs.Places.{rowsIn, cellAt, kindsOf}
-use Rattle.pieces.proofs.Laws.{kinds-length, kind-at}
+use Rattle.places.proofs.Laws.{kinds-length, kind-at}
 use Rattle.records.specs.Records.{wordAt, isItem, isClaim}
 use Rattle.names.specs.Language.{languageOf}
 use Rattle.folding.specs.declared.Outcome.{Outcome}

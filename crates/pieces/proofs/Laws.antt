@@ -14,23 +14,8 @@ use lib.Seq.{drop-cons, drop-drop, getD-drop}
 use Rattle.pieces.specs.Cutting.{more, pieceSize, cut}
 use Rattle.pieces.specs.Kinds.{closesPiece, opensPiece, piecesOf}
 use Rattle.places.specs.Places.{rowWords, rowsIn, cellAt, kindsOf}
+use Rattle.places.proofs.Laws.{kinds-length, kind-at, kinds-end}
 use Rattle.pieces.proofs.Cutting.{more-none, more-on, size-le, cut-first}
-
-pub kinds-length : (n : ℕ) (t : List ℕ) → length (kindsOf n t) ≡ n
-unfolding kindsOf
-kinds-length zero t = refl
-kinds-length (suc n) t = ap suc (kinds-length n (drop rowWords t))
-
--- the one law that knows where a row has its kind
-pub kind-at : (t : List ℕ) (n i : ℕ) → rowWords * n ≤ length t → i < n → cellAt t i 0 ≡ getD (kindsOf n t) i 0
-unfolding cellAt kindsOf
-kind-at t n i l h = rw (lt-ltb i (rowsIn t) (omega arith)) (go n i t h)
-  where
-    go : (n i : ℕ) (t : List ℕ) → i < n → getD t (rowWords * i + 0) 0 ≡ getD (kindsOf n t) i 0
-    go zero i t h = absurd (not-suc-le-zero h)
-    go (suc n) zero t h = refl
-    go (suc n) (suc i) t h =
-        ap (λ (k : ℕ). getD t k 0) (omega arith) ∙ sym (getD-drop rowWords t (rowWords * i + 0) 0) ∙ go n i (drop rowWords t) (le-of-suc-le-suc h)
 
 pub kind-here : (t : List ℕ) (n i k : ℕ) → rowWords * n ≤ length t → i < n → k ≡ cellAt t i 0 → k ≡ getD (kindsOf n t) i 0
 kind-here t n i k l h e = e ∙ kind-at t n i l h
@@ -43,9 +28,6 @@ kinds-past (suc n) (suc i) t h = kinds-past n i (drop rowWords t) (le-of-suc-le-
 
 next : (from m : ℕ) → suc (from + m) ≡ from + (m + 1)
 next from m = omega arith
-
-pub past : (n : ℕ) (t : List ℕ) (i : ℕ) → n ≤ i → drop i (kindsOf n t) ≡ []
-past n t i h = drop-of-length-le (kindsOf n t) {i = i} (rw (kinds-length n t) h)
 
 -- the turns of `size_at`
 module _ (n : ℕ) (t : List ℕ) (from : ℕ) where
@@ -79,7 +61,7 @@ module _ (n : ℕ) (t : List ℕ) (from : ℕ) where
 
   pub size-end : (m : ℕ) (closed : Bool) → m + Rest closed m ≡ Whole → n ≤ from + m → m ≡ Whole
   unfolding more
-  size-end m closed h l = omega (arith, rw (past n t (from + m) l) at h)
+  size-end m closed h l = omega (arith, rw (kinds-end t n (from + m) l) at h)
 
   pub size-inside : (r : ℕ) → r ≡ Whole → from < n → from + r ≤ n
   size-inside r e h = omega (arith, size-le closesPiece opensPiece (drop from (kindsOf n t)), length-drop from (kindsOf n t), kinds-length n t)
@@ -111,13 +93,13 @@ module _ (n : ℕ) (t : List ℕ) (from : ℕ) where
 
 pub count-end : (n : ℕ) (t : List ℕ) (at c total : ℕ) → c + length (piecesOf (drop at (kindsOf n t))) ≡ total → n ≤ at → c ≡ total
 unfolding cut
-count-end n t at c total h l = omega (arith, rw (past n t at l) at h)
+count-end n t at c total h l = omega (arith, rw (kinds-end t n at l) at h)
 
 -- the answers of `piece_size`
 module _ (t : List ℕ) (count rows n from : ℕ) (d : rows ≡ rowsIn t) (e : n ≡ min count rows) where
   pub size-none : n ≤ from → _≡_ {A = ℕ} 0 (pieceSize closesPiece opensPiece (drop from (kindsOf (min count (rowsIn t)) t)))
   unfolding pieceSize
-  size-none h = rw (← d, ← e, past n t from h)
+  size-none h = rw (← d, ← e, kinds-end t n from h)
 
   pub size-known : (r : ℕ) → r ≡ pieceSize closesPiece opensPiece (drop from (kindsOf n t)) → r ≡ pieceSize closesPiece opensPiece (drop from (kindsOf (min count (rowsIn t)) t))
   size-known r h = rw (← d, ← e) h

@@ -14,7 +14,7 @@ use Rattle.classes.proofs.Laws.{by-test}
 use Rattle.pieces.specs.Kinds.{mark, pieceAt, isName, isHeading, behindWord, hasName, endsAt, isClosing, claimMark, markOf}
 use Rattle.places.specs.Places.{rowWords, cellAt, kindsOf}
 use Rattle.pieces.specs.declared.Mark.{Mark}
-use Rattle.pieces.proofs.Laws.{kinds-length, kind-at}
+use Rattle.places.proofs.Laws.{kinds-length, kind-at}
 
 module _ (n : ℕ) (t : List ℕ) (from count : ℕ) (r : from + count ≤ n) where
   pub piece-length : length (pieceAt n t from count) ≡ count

@@ -16,7 +16,8 @@ use Rattle.places.specs.Places.{rowWords, rowsIn, kindsOf}
 use Rattle.pieces.specs.Records.{nameOf, recordOf, recordsFrom, piecesIn, marking, recordTable}
 use Rattle.pieces.specs.declared.Mark.{Mark}
 use Rattle.pieces.specs.declared.Marking.the-variants.{Marked, TooMany, TableShort}
-use Rattle.pieces.proofs.Laws.{past, size-inside, first-piece}
+use Rattle.places.proofs.Laws.{kinds-end}
+use Rattle.pieces.proofs.Laws.{size-inside, first-piece}
 use Rattle.pieces.proofs.Marks.{piece-length, behind-small}
 
 pub name-none : (from place : ℕ) → place ≡ 0 → _≡_ {A = ℕ} 0 (nameOf from place)
@@ -99,7 +100,7 @@ module _ (n : ℕ) (t : List ℕ) (from r : ℕ) (e : r ≡ pieceSize closesPiec
 
 pub records-end : (n : ℕ) (t : List ℕ) (items whole : List ℕ) (w at : ℕ) → sets items w (recordsFrom at (piecesOf (drop at (kindsOf n t)))) ≡ whole → n ≤ at → items ≡ whole
 unfolding recordsFrom cut
-records-end n t items whole w at h l = rw (past n t at l) at h
+records-end n t items whole w at h l = rw (kinds-end t n at l) at h
 
 -- the whole table
 all-there : (xs : List ℕ) (words : ℕ) → length xs ≤ words → sets (replicate words 0) 0 xs ≡ xs ++ replicate (words - length xs) 0

@@ -2,11 +2,11 @@
 use Prim.Native.Nat.{ℕ, zero, suc, _+_, _*_, _/_, _-_, _≤_, _<_}
 use mathlib.Core.Path.{_≡_, refl, sym, _∙_, ap}
 use mathlib.Core.Bool.{Bool, true, false}
-use mathlib.Core.List.{List}
+use mathlib.Core.List.{List, [], _∷_}
 use native.Mathlib.Omega.{arith}
 use lib.Dec.{leb}
 use lib.ListN.{length, getD, set, take, drop, length-drop, drop-of-length-le}
-use lib.Seq.{getD-drop, take-all}
+use lib.Seq.{drop-cons, getD-drop, take-all}
 use borrow.Author.Tests.{lt-ltb, le-ltb, le-leb, lt-leb, leb-true, leb-false}
 use Rattle.places.specs.Places.{rowsFrom, cellAt, kindsOf, put, within}
 
@@ -32,8 +32,15 @@ kind-word (suc n) l (suc i) h =
     let z : 3 + (3 * i + 0) ≡ 3 * suc i + 0 = omega arith in
     kind-word n (drop 3 l) i (omega arith) ∙ getD-drop 3 l (3 * i + 0) 0 ∙ ap (λ (j : ℕ). getD l j 0) z
 
-pub kind-of-row : (n : ℕ) (l : List ℕ) (i : ℕ) → 3 * n ≤ length l → i < n → cellAt l i 0 ≡ getD (kindsOf n l) i 0
-kind-of-row n l i r h = sym (kind-word n l i h ∙ cell-in l i 0 (omega arith))
+pub kind-at : (t : List ℕ) (n i : ℕ) → 3 * n ≤ length t → i < n → cellAt t i 0 ≡ getD (kindsOf n t) i 0
+kind-at t n i r h = sym (kind-word n t i h ∙ cell-in t i 0 (omega arith))
+
+-- those from element i on
+pub kinds-from : (t : List ℕ) (n i : ℕ) → 3 * n ≤ length t → i < n → drop i (kindsOf n t) ≡ cellAt t i 0 ∷ drop (suc i) (kindsOf n t)
+kinds-from t n i r h = drop-cons (kindsOf n t) i 0 (omega (arith, kinds-length n t)) ∙ ap (λ (k : ℕ). k ∷ drop (suc i) (kindsOf n t)) (sym (kind-at t n i r h))
+
+pub kinds-end : (t : List ℕ) (n i : ℕ) → n ≤ i → drop i (kindsOf n t) ≡ []
+kinds-end t n i h = drop-of-length-le (kindsOf n t) {i = i} (omega (arith, kinds-length n t))
 
 -- the rest of a table, and nothing past its last row
 pub rest-of : (l : List ℕ) (i : ℕ) → take (length l - 3 * i) (drop (3 * i) l) ≡ rowsFrom l i

@@ -23,7 +23,7 @@ use Rattle.forms.proofs.Growing.{forest-from}
 use Rattle.pieces.specs.Cutting.{cut, joined, putFront}
 use Rattle.pieces.specs.Kinds.{piecesOf, closesPiece, opensPiece}
 use Rattle.places.specs.Places.{kindsOf}
-use Rattle.pieces.proofs.Laws.{kinds-length}
+use Rattle.places.proofs.Laws.{kinds-length}
 use Rattle.tree.specs.Answers.{terminalsIn, wordsOf}
 use Rattle.tree.specs.Items.{unlike, readingOfPiece, rowsRead, rowsOfPiece, pieceWords, itemWords, total, itemsIn, itemRows}
 use Rattle.tree.proofs.Zeros.{zeros, zeros-size}

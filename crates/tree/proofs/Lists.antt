@@ -10,7 +10,7 @@ use Rattle.forms.specs.Kinds.{terminalOf}
 use Rattle.tables.specs.Symbols.{symOf, syms}
 use Rattle.tables.proofs.Tables.{terminal-small}
 use Rattle.places.specs.Places.{cellAt, kindsOf}
-use Rattle.places.proofs.Laws.{kinds-length, kind-of-row}
+use Rattle.places.proofs.Laws.{kinds-length, kind-at}
 use Rattle.tree.specs.Answers.{terminalsIn, terminalsOf}
 
 pub look-at : (l : List ℕ) (i : ℕ) → i < length l → look (drop i l) ≡ getD l i 0
@@ -36,7 +36,7 @@ pub terminals-at : (n : ℕ) (l : List ℕ) (i k r : ℕ) → 3 * n ≤ length l
 unfolding terminalsOf
 terminals-at n l i k r s h q e =
     e
-    ∙ ap terminalOf (q ∙ kind-of-row n l i s h)
+    ∙ ap terminalOf (q ∙ kind-at l n i s h)
     ∙ flip (look-at (terminalsOf n l) i (omega (arith, terminals-size n l)) ∙ terminals-get (kindsOf n l) i (omega (arith, kinds-length n l)))
 
 pub terminals-end : (n : ℕ) (l : List ℕ) (i : ℕ) → n ≤ i → 0 ≡ look (drop i (terminalsOf n l))

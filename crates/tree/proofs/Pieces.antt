@@ -19,8 +19,7 @@ use Rattle.forms.specs.Items.{IsItem}
 use Rattle.forms.proofs.Items.{reads-items, kinds-alone, fewer-rows}
 use Rattle.tables.specs.Symbols.{symOf}
 use Rattle.places.specs.Places.{cellAt, kindsOf}
-use Rattle.places.proofs.Laws.{cell-in}
-use Rattle.pieces.proofs.Laws.{kinds-length}
+use Rattle.places.proofs.Laws.{cell-in, kinds-length}
 use Rattle.tree.specs.declared.Found.{Found}
 use Rattle.tree.specs.declared.Found.the-variants.{Whole, Wrong, Other, Over}
 use Rattle.tree.specs.Answers.{terminalsIn, terminalsOf, wordsOf}

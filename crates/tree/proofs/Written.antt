@@ -9,7 +9,8 @@ use Rattle.classes.proofs.Laws.{part-rest}
 use Rattle.pieces.specs.Cutting.{pieceSize, cut}
 use Rattle.pieces.specs.Kinds.{piecesOf, closesPiece, opensPiece}
 use Rattle.places.specs.Places.{rowsFrom, kindsOf}
-use Rattle.pieces.proofs.Laws.{kinds-length, past, size-some, size-inside, at-less, first-piece}
+use Rattle.places.proofs.Laws.{kinds-length, kinds-end}
+use Rattle.pieces.proofs.Laws.{size-some, size-inside, at-less, first-piece}
 use Rattle.tree.specs.Answers.{wordsOf}
 use Rattle.tree.specs.Items.{rowsOfPiece, pieceWords, itemWords, itemsIn, itemRows}
 use Rattle.tree.proofs.Zeros.{zeros, zeros-size, zeros-append}
@@ -140,7 +141,7 @@ unfolding itemWords cut
 written-end n t rows words at h k g =
     let z : words - 5 * at ≡ words - 5 * n = omega arith in
     let d : g .ready ≡ itemWords (piecesOf (kindsOf n t)) =
-    sym (append-nil (g .ready)) ∙ sym (ap (λ (x : List ℕ). g .ready ++ itemWords (piecesOf x)) (past n t at k)) ∙ g .rest in
+    sym (append-nil (g .ready)) ∙ sym (ap (λ (x : List ℕ). g .ready ++ itemWords (piecesOf x)) (kinds-end t n at k)) ∙ g .rest in
     g .stands ∙ ap₂ (λ (x : List ℕ) (y : ℕ). x ++ zeros y) d z
 
 -- the whole table
