@@ -72,7 +72,7 @@ fn cases(head: &mut [u8], text: &mut [u8], table: &mut [u64], others: &mut [u64]
 fn main() {
     let mut head = [0u8; 10];
     let mut text = [0u8; 131072];
-    let mut table = [0u64; 3 * places::MOST_ELEMENTS];
+    let mut table = [0u64; places::ROW_WORDS * places::MOST_ELEMENTS];
     let mut others = [0u64; 5 * places::MOST_ELEMENTS];
     cases(&mut head, &mut text, &mut table, &mut others);
 }

@@ -91,18 +91,25 @@ fn element_line(i: usize, kind: u64, first: u64, size: u64) {
 fn element_lines(t: &[u64], count: usize) {
     let mut i = 0;
     while i < count {
-        if t.len() / 3 <= i {
+        if places::rows_in(t) <= i {
             return;
         }
-        let w = i * 3;
-        element_line(i, t[w], t[w + 1], t[w + 2]);
+        element_line(
+            i,
+            places::kind_of(t, i),
+            places::first_of(t, i),
+            places::size_of(t, i),
+        );
         i += 1;
     }
 }
 
 // The listing of a text's elements, or the refusal, with so many rows of a table lent.
 pub fn elements(text: &[u8], table: &mut [u64], rows: usize) {
-    let size = lent::least(lent::least(rows, places::MOST_ELEMENTS) * 3, table.len());
+    let size = lent::least(
+        lent::least(rows, places::MOST_ELEMENTS) * places::ROW_WORDS,
+        table.len(),
+    );
     match reading::read_elements(text, &mut table[..size]) {
         Reading::Read(e) => {
             let count = e.0;
@@ -161,7 +168,10 @@ fn tree_head(count: usize, v: Verdict) {
 
 // The listing of a text's tree, or the refusal, with so many rows of each table lent.
 pub fn tree(text: &[u8], table: &mut [u64], rows: usize, trees: &mut [u64], tree_rows: usize) {
-    let size = lent::least(lent::least(rows, places::MOST_ELEMENTS) * 3, table.len());
+    let size = lent::least(
+        lent::least(rows, places::MOST_ELEMENTS) * places::ROW_WORDS,
+        table.len(),
+    );
     let room = lent::least(
         lent::least(tree_rows, places::MOST_ELEMENTS) * 5,
         trees.len(),

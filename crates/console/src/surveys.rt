@@ -226,7 +226,10 @@ pub fn survey(
     item_rows: usize,
     shown: Shown,
 ) {
-    let size = lent::least(lent::least(rows, places::MOST_ELEMENTS) * 3, table.len());
+    let size = lent::least(
+        lent::least(rows, places::MOST_ELEMENTS) * places::ROW_WORDS,
+        table.len(),
+    );
     let room = lent::least(lent::least(item_rows, places::MOST_PIECES) * 8, items.len());
     let s = packages::read_survey(text, &mut table[..size], &mut items[..room]);
     let outcome = s.outcome;

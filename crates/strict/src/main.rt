@@ -3,9 +3,10 @@ use console::Got;
 use options::Options;
 use places::MOST_BYTES;
 use places::MOST_ELEMENTS;
+use places::ROW_WORDS;
 
 fn run(text: &[u8], o: Options) {
-    let mut table = [0u64; 3 * MOST_ELEMENTS];
+    let mut table = [0u64; ROW_WORDS * MOST_ELEMENTS];
     if o.other {
         console::elements(text, &mut table, o.element_rows);
         return;

@@ -6,9 +6,10 @@ use options::Options;
 use places::MOST_BYTES;
 use places::MOST_ELEMENTS;
 use places::MOST_PIECES;
+use places::ROW_WORDS;
 
 fn run(text: &[u8], o: Options) {
-    let mut table = [0u64; 3 * MOST_ELEMENTS];
+    let mut table = [0u64; ROW_WORDS * MOST_ELEMENTS];
     let mut items = [0u64; 8 * MOST_PIECES];
     let shown = if o.other {
         Shown::Records

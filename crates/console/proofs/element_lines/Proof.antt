@@ -1,4 +1,4 @@
--- Each row is within the table: it is tested. Assumes nothing.
+-- Rows up to the last that is asked for or is there. Assumes nothing.
 use borrow.Author.Needs.{needs}
 use Prim.Native.Nat.{_-_}
 use Rattle.console.proofs.element_lines.Statement.{statement}
@@ -13,35 +13,20 @@ abbrev μ-loop : tie.MeasureT-loop
 loop-holds : tie.Need-loop-holds Inv-loop μ-loop
 loop-holds c = search needs
 
+rows-in-requires : tie.Need-rows-in-requires Inv-loop μ-loop
+rows-in-requires c κs = search needs
+
 returns : tie.Need-returns Inv-loop μ-loop
 returns c = search needs
 
-mul-w : tie.Need-mul-w Inv-loop μ-loop
-mul-w c = search needs
+kind-of-requires : tie.Need-kind-of-requires Inv-loop μ-loop
+kind-of-requires c κs = search needs
 
-mul-element-line : tie.Need-mul-element-line Inv-loop μ-loop
-mul-element-line c = search needs
+first-of-requires : tie.Need-first-of-requires Inv-loop μ-loop
+first-of-requires c κs = search needs
 
-shared-slice-read-element-line : tie.Need-shared-slice-read-element-line Inv-loop μ-loop
-shared-slice-read-element-line c = search needs
-
-add-element-line : tie.Need-add-element-line Inv-loop μ-loop
-add-element-line c = search needs
-
-mul-element-line-2 : tie.Need-mul-element-line-2 Inv-loop μ-loop
-mul-element-line-2 c = search needs
-
-shared-slice-read-element-line-2 : tie.Need-shared-slice-read-element-line-2 Inv-loop μ-loop
-shared-slice-read-element-line-2 c = search needs
-
-add-element-line-2 : tie.Need-add-element-line-2 Inv-loop μ-loop
-add-element-line-2 c = search needs
-
-mul-element-line-3 : tie.Need-mul-element-line-3 Inv-loop μ-loop
-mul-element-line-3 c = search needs
-
-shared-slice-read-element-line-3 : tie.Need-shared-slice-read-element-line-3 Inv-loop μ-loop
-shared-slice-read-element-line-3 c = search needs
+size-of-requires : tie.Need-size-of-requires Inv-loop μ-loop
+size-of-requires c κs = search needs
 
 element-line-requires : tie.Need-element-line-requires Inv-loop μ-loop
 element-line-requires c κs = search needs
@@ -65,16 +50,11 @@ element-lines-spec =
     Inv-loop
     μ-loop
     loop-holds
+    rows-in-requires
     returns
-    mul-w
-    mul-element-line
-    shared-slice-read-element-line
-    add-element-line
-    mul-element-line-2
-    shared-slice-read-element-line-2
-    add-element-line-2
-    mul-element-line-3
-    shared-slice-read-element-line-3
+    kind-of-requires
+    first-of-requires
+    size-of-requires
     element-line-requires
     add-i
     loop-less
