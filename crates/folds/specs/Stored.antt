@@ -33,9 +33,17 @@ foldedWord (Stopped s) = s
 unfoldable pub foldedBy : ℕ → ℕ → Folded
 foldedBy kind w = cond (eqb kind 1) (Whole (numberOf w)) (cond (eqb kind 2) (Truth (not (eqb w 0))) (Stopped (w % 256)))
 
+-- how many words an outcome is stored in
+abbrev pub outcomeWords : ℕ
+outcomeWords = 3
+
 -- the outcome stored for row k
 unfoldable pub unpacked : List ℕ → ℕ → Outcome
-unpacked outs k = record { sort = sortBy (getD outs (3 * k) 0); folded = foldedBy (getD outs (3 * k + 1) 0) (getD outs (3 * k + 2) 0) }
+unpacked outs k =
+    record {
+      sort = sortBy (getD outs (outcomeWords * k) 0);
+      folded = foldedBy (getD outs (outcomeWords * k + 1) 0) (getD outs (outcomeWords * k + 2) 0);
+    }
 
 -- of n rows; a row past the last has no operand
 unfoldable pub storedAt : List ℕ → ℕ → ℕ → Outcome

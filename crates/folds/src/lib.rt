@@ -14,8 +14,11 @@ ghost use Rattle.values.specs.Words.{truthWord};
 ghost use Rattle.folds.specs.Expressions.{behind};
 ghost use Rattle.forms.specs.Words.{rowAt};
 ghost use Rattle.folds.specs.Rows.{rowsIn};
-ghost use Rattle.folds.specs.Stored.{sortWord, sortBy, foldedKind, foldedWord, foldedBy, unpacked, storedAt};
+ghost use Rattle.folds.specs.Stored.{outcomeWords, sortWord, sortBy, foldedKind, foldedWord, foldedBy, unpacked, storedAt};
 ghost use Rattle.folds.specs.Folds.{elementIn, nameValue, nameIn, literalAt, kindIn, expressionIn, foldedRow, rightOf, foldOf};
+
+// How many words an outcome is stored in.
+const OUTCOME_WORDS: usize = 3;
 
 // Where element j of piece i stands in the element table; behind the table's last, where the piece has none.
 fn element_in(elements: &[u64], items: &[u64], i: usize, j: u64) -> usize
@@ -174,12 +177,12 @@ fn folded_by(kind: u64, w: u64) -> Folded
 
 // Stores row k's outcome; the others stay.
 fn put_outcome(outs: &mut [u64], k: usize, o: Outcome)
-    requires { ⌜ 3 * k + 3 ≤ length (now outs) ⌝ }
+    requires { ⌜ outcomeWords * k + outcomeWords ≤ length (now outs) ⌝ }
     ensures { λ _. ⌜ (unpacked (now (outs .exit)) k ≡ o) × ((j : ℕ) → (j ≡ k → ⊥) → unpacked (now (outs .exit)) j ≡ unpacked (now (outs .entry)) j) ⌝ }
 {
     let sort = o.sort;
     let folded = o.folded;
-    let at = 3 * k;
+    let at = OUTCOME_WORDS * k;
     let a = sort_word(sort);
     let b = folded_kind(folded);
     let c = folded_word(folded);
@@ -189,13 +192,13 @@ fn put_outcome(outs: &mut [u64], k: usize, o: Outcome)
 }
 
 fn outcome_at(outs: &[u64], n: usize, k: usize) -> Outcome
-    requires { ⌜ 3 * n ≤ length (now outs) ⌝ }
+    requires { ⌜ outcomeWords * n ≤ length (now outs) ⌝ }
     ensures { λ r. ⌜ r ≡ storedAt (now (outs .entry)) n k ⌝ }
 {
     if n <= k {
         return expressions::wrong_leaf(3);
     }
-    let at = 3 * k;
+    let at = OUTCOME_WORDS * k;
     let sort = sort_by(outs[at]);
     let folded = folded_by(outs[at + 1], outs[at + 2]);
     Outcome {
@@ -231,7 +234,7 @@ fn fold_rows(
     n: usize,
     outs: &mut [u64],
 ) -> Outcome
-    requires { ⌜ (5 * n ≤ length (now rows)) × (3 * n ≤ length (now outs)) ⌝ }
+    requires { ⌜ (5 * n ≤ length (now rows)) × (outcomeWords * n ≤ length (now outs)) ⌝ }
     ensures { λ r. ⌜ r ≡ expressionIn (now (text .entry)) (now (elements .entry)) (now (items .entry)) (now (links .entry)) i (rowsIn n (now (rows .entry))) ⌝ }
 {
     let mut k = n;
@@ -258,9 +261,9 @@ pub fn fold(
 {
     let n = lent::least(rows.len() / 5, places::MOST_ELEMENTS);
     if n <= 32 {
-        let mut few = [0u64; 96];
+        let mut few = [0u64; OUTCOME_WORDS * 32];
         return fold_rows(text, elements, items, links, i, rows, n, &mut few);
     }
-    let mut many = [0u64; 3 * places::MOST_ELEMENTS];
+    let mut many = [0u64; OUTCOME_WORDS * places::MOST_ELEMENTS];
     fold_rows(text, elements, items, links, i, rows, n, &mut many)
 }

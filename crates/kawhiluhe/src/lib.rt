@@ -174,7 +174,7 @@ fn found_number(x: Found, none: u64) -> u64
     }
 }
 
-// The elements of a text, in a table of three words a row.
+// The elements of a text, a row of the table to each.
 #[no_mangle]
 pub extern "C" fn kawhiluhe_elements(text: &[u8], elements: &mut [u64]) -> Elements
     ensures { λ r. ⌜ r ≡ elementNumbers (readingOf (now (text .entry)) (length (now (elements .entry)))) ⌝ }
