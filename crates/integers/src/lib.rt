@@ -5,6 +5,11 @@ ghost use lib.IntN.{ℤ, pos, natAbs, negℤ, _+ℤ_, _-ℤ_, _*ℤ_, pow};
 ghost use lib.Signed.{quotZ, remZ};
 ghost use Rattle.integers.specs.Integers.{sizedOf, dividedOf, toSign, powerOf, arithmeticOf};
 
+// How large an integer is at most, in size.
+pub const LARGEST: i64 = 2147483647;
+
+const SMALLEST: i64 = -LARGEST;
+
 // "an integer, a truth, or the state that stopped it"
 pub enum Folded {
     Whole(i32),
@@ -26,10 +31,10 @@ pub enum Arithmetic {
 fn sized(z: i64) -> Folded
     ensures { λ r. ⌜ r ≡ sizedOf z ⌝ }
 {
-    if z < -2147483647 {
+    if z < SMALLEST {
         return Folded::Stopped(9);
     }
-    if 2147483647 < z {
+    if LARGEST < z {
         return Folded::Stopped(9);
     }
     Folded::Whole(z as i32)
@@ -110,10 +115,10 @@ fn climb(a: i64, n: u64) -> Folded
     let mut i: u64 = 0;
     while i < n {
         let next = acc * a;
-        if next < -2147483647 {
+        if next < SMALLEST {
             return Folded::Stopped(9);
         }
-        if 2147483647 < next {
+        if LARGEST < next {
             return Folded::Stopped(9);
         }
         acc = next;

@@ -8,6 +8,9 @@ ghost use lib.ListN.{length, drop};
 ghost use Rattle.integers.specs.Integers.{sizedOf};
 ghost use Rattle.literals.specs.Literals.{digitIn, spelled, leading, exponentOf, numberIn, literalOf};
 
+// How large a literal is at most.
+const LARGEST: u64 = integers::LARGEST as u64;
+
 // One digit more, where 2147483648 stands for any number from there on.
 fn with_digit(base: u8, v: u64, b: u8) -> u64
     requires { ⌜ (2 ≤ base) × (base ≤ 16) × (v ≤ 2147483648) ⌝ }
@@ -71,7 +74,7 @@ fn scaled(m: u64, base: u8, e: u64) -> Folded
     let mut i: u64 = 0;
     while i < e {
         let next = acc * (base as u64);
-        if 2147483647 < next {
+        if LARGEST < next {
             return Folded::Stopped(9);
         }
         acc = next;
@@ -85,7 +88,7 @@ fn number_in(base: u8, closing: usize, s: &[u8]) -> Folded
     ensures { λ r. ⌜ r ≡ sizedOf (pos (numberIn base closing (now (s .entry)))) ⌝ }
 {
     let m = leading_value(base, s);
-    if 2147483647 < m {
+    if LARGEST < m {
         return Folded::Stopped(9);
     }
     let n = classes::run_length(Run::Below(base), s);

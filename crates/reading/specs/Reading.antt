@@ -6,6 +6,7 @@ use mathlib.Core.List.{List, _++_}
 use lib.Dec.{ltb}
 use lib.ListN.{length, replicate}
 use Rattle.places.specs.Sizes.{mostBytes, mostElements}
+use Rattle.places.specs.Places.{rowWords}
 use Rattle.reading.specs.Rows.{rowsOf}
 use Rattle.reading.specs.Table.{cells}
 use Rattle.places.specs.declared.BytePlace.{BytePlace}
@@ -20,13 +21,13 @@ unfoldable pub readingOf : List ℕ → ℕ → Reading
 readingOf s words =
     cond (ltb mostBytes (length s)) (Refused (TextTooLong (record { 0 = mostBytes })))
     (cond (ltb mostElements (length (rowsOf s))) (Refused (TooManyElements (record { 0 = mostElements })))
-    (cond (ltb (words / 3) (length (rowsOf s))) (Refused (TableShort (record { 0 = words / 3 })))
+    (cond (ltb (words / rowWords) (length (rowsOf s))) (Refused (TableShort (record { 0 = words / rowWords })))
     (Read (record { 0 = length (rowsOf s) }))))
 
 -- "On refusal every lent table is all zeros. On success unused rows are zeros."
 abbrev pub tableBy : Reading → List ℕ → ℕ → List ℕ
 tableBy (Refused r) s words = replicate words 0
-tableBy (Read n) s words = cells (rowsOf s) ++ replicate (words - 3 * length (rowsOf s)) 0
+tableBy (Read n) s words = cells (rowsOf s) ++ replicate (words - rowWords * length (rowsOf s)) 0
 
 unfoldable pub tableOf : List ℕ → ℕ → List ℕ
 tableOf s words = tableBy (readingOf s words) s words

@@ -13,7 +13,7 @@ pub enum Value {
     Without(u8),
 }
 
-const LARGEST: i32 = 2147483647;
+const LARGEST: i32 = integers::LARGEST as i32;
 
 // The names that the language claims, by number.
 pub fn language_value(k: u64) -> Value
