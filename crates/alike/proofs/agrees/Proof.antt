@@ -34,7 +34,13 @@ counted-requires-2 : tie.Need-counted-requires-2 Inv-loop μ-loop
 counted-requires-2 c κs = search needs
 
 returns : tie.Need-returns Inv-loop μ-loop
-returns c = agree-not (c .before .before .before .before .before .before .before .before .args .basic) (c .before .before .before .before .before .before .before .before .args .s .now) (c .before .before .before .before .before .before .before .before .args .x) (c .before .before .before .before .before .before .before .before .args .y) (c .before .before .before .before .before .before .before .before .args .n) (c .before .before .before .before .before .before .loop .i) _ _ (c .before .before .before .before .before .before .loop .inv .1) (c .before .before .before .before .before .loop-test .taken) (c .before .before .before .counted .ensures) (c .before .counted2 .ensures) (c .if1 .taken)
+returns c =
+    let at-counted2 = c .before in
+    let at-counted = at-counted2 .before .before in
+    let at-loop-test = at-counted .before .before in
+    let at-loop = at-loop-test .before in
+    let start = at-loop .before .before in
+    agree-not (start .args .basic) (start .args .s .now) (start .args .x) (start .args .y) (start .args .n) (at-loop .loop .i) _ _ (at-loop .loop .inv .1) (at-loop-test .loop-test .taken) (at-counted .counted .ensures) (at-counted2 .counted2 .ensures) (c .if1 .taken)
 
 add-i : tie.Need-add-i Inv-loop μ-loop
 add-i c = omega arith
@@ -43,10 +49,19 @@ loop-less : tie.Need-loop-less Inv-loop μ-loop
 loop-less c = omega arith
 
 loop-again : tie.Need-loop-again Inv-loop μ-loop
-loop-again c = (omega arith, agree-more (c .before .before .before .before .before .before .before .before .args .basic) (c .before .before .before .before .before .before .before .before .args .s .now) (c .before .before .before .before .before .before .before .before .args .x) (c .before .before .before .before .before .before .before .before .args .y) (c .before .before .before .before .before .before .before .before .args .n) (c .before .before .before .before .before .before .loop .i) _ _ (c .before .before .before .before .before .before .loop .inv .1) (c .before .before .before .before .before .loop-test .taken) (c .before .before .before .counted .ensures) (c .before .counted2 .ensures) (c .if1 .left))
+loop-again c =
+    let at-counted2 = c .before in
+    let at-counted = at-counted2 .before .before in
+    let at-loop-test = at-counted .before .before in
+    let at-loop = at-loop-test .before in
+    let start = at-loop .before .before in
+    (omega arith, agree-more (start .args .basic) (start .args .s .now) (start .args .x) (start .args .y) (start .args .n) (at-loop .loop .i) _ _ (at-loop .loop .inv .1) (at-loop-test .loop-test .taken) (at-counted .counted .ensures) (at-counted2 .counted2 .ensures) (c .if1 .left))
 
 returns-2 : tie.Need-returns-2 Inv-loop μ-loop
-returns-2 c = agree-end (c .before .before .before .args .basic) (c .before .before .before .args .s .now) (c .before .before .before .args .x) (c .before .before .before .args .y) (c .before .before .before .args .n) (c .before .loop .i) (c .before .loop .inv .1) (omega arith)
+returns-2 c =
+    let at-loop = c .before in
+    let start = at-loop .before .before in
+    agree-end (start .args .basic) (start .args .s .now) (start .args .x) (start .args .y) (start .args .n) (at-loop .loop .i) (at-loop .loop .inv .1) (omega arith)
 
 pub agrees-spec : {M : Type 1} → statement M
 agrees-spec =

@@ -11,7 +11,11 @@ kind-of-requires-2 : tie.Need-kind-of-requires-2
 kind-of-requires-2 c κs = search needs
 
 returns : tie.Need-returns
-returns c = same-kinds (c .before .before .before .before .before .args .s .now) (c .before .before .before .before .before .args .table .now) (c .before .before .before .before .before .args .a) (c .before .before .before .before .before .args .b) _ _ (c .before .before .kind-of .ensures) (c .before .kind-of2 .ensures) (c .if1 .taken)
+returns c =
+    let at-kind-of2 = c .before in
+    let at-kind-of = at-kind-of2 .before in
+    let start = at-kind-of .before .before .before in
+    same-kinds (start .args .s .now) (start .args .table .now) (start .args .a) (start .args .b) _ _ (at-kind-of .kind-of .ensures) (at-kind-of2 .kind-of2 .ensures) (c .if1 .taken)
 
 spelled-same-requires : tie.Need-spelled-same-requires
 spelled-same-requires c κs = search needs
@@ -20,13 +24,30 @@ spelled-same-requires-2 : tie.Need-spelled-same-requires-2
 spelled-same-requires-2 c κs = search needs
 
 returns-2 : tie.Need-returns-2
-returns-2 c = same-by (c .before .before .before .before .before .before .before .args .s .now) (c .before .before .before .before .before .before .before .args .table .now) (c .before .before .before .before .before .before .before .args .a) (c .before .before .before .before .before .before .before .args .b) _ _ _ (c .before .before .before .before .kind-of .ensures) (c .before .before .before .kind-of2 .ensures) (c .before .before .if1 .left) (rw (c .before .match .keys1) (c .spelled-same .ensures))
+returns-2 c =
+    let at-match = c .before in
+    let at-if1 = at-match .before in
+    let at-kind-of2 = at-if1 .before in
+    let at-kind-of = at-kind-of2 .before in
+    let start = at-kind-of .before .before .before in
+    same-by (start .args .s .now) (start .args .table .now) (start .args .a) (start .args .b) _ _ _ (at-kind-of .kind-of .ensures) (at-kind-of2 .kind-of2 .ensures) (at-if1 .if1 .left) (rw (at-match .match .keys1) (c .spelled-same .ensures))
 
 returns-3 : tie.Need-returns-3
-returns-3 c = same-by (c .before .before .before .before .before .before .before .args .s .now) (c .before .before .before .before .before .before .before .args .table .now) (c .before .before .before .before .before .before .before .args .a) (c .before .before .before .before .before .before .before .args .b) _ _ _ (c .before .before .before .before .kind-of .ensures) (c .before .before .before .kind-of2 .ensures) (c .before .before .if1 .left) (rw (c .before .match .keys2) (c .spelled-same2 .ensures))
+returns-3 c =
+    let at-match = c .before in
+    let at-if1 = at-match .before in
+    let at-kind-of2 = at-if1 .before in
+    let at-kind-of = at-kind-of2 .before in
+    let start = at-kind-of .before .before .before in
+    same-by (start .args .s .now) (start .args .table .now) (start .args .a) (start .args .b) _ _ _ (at-kind-of .kind-of .ensures) (at-kind-of2 .kind-of2 .ensures) (at-if1 .if1 .left) (rw (at-match .match .keys2) (c .spelled-same2 .ensures))
 
 returns-4 : tie.Need-returns-4
-returns-4 c = same-by (c .before .before .before .before .before .before .args .s .now) (c .before .before .before .before .before .before .args .table .now) (c .before .before .before .before .before .before .args .a) (c .before .before .before .before .before .before .args .b) _ _ _ (c .before .before .before .kind-of .ensures) (c .before .before .kind-of2 .ensures) (c .before .if1 .left) (by-none (c .before .before .before .before .before .before .args .s .now) (c .before .before .before .before .before .before .args .table .now) (c .before .before .before .before .before .before .args .a) (c .before .before .before .before .before .before .args .b) _ _ _ (c .match .rest .0 .1) (c .match .rest .1))
+returns-4 c =
+    let at-if1 = c .before in
+    let at-kind-of2 = at-if1 .before in
+    let at-kind-of = at-kind-of2 .before in
+    let start = at-kind-of .before .before .before in
+    same-by (start .args .s .now) (start .args .table .now) (start .args .a) (start .args .b) _ _ _ (at-kind-of .kind-of .ensures) (at-kind-of2 .kind-of2 .ensures) (at-if1 .if1 .left) (by-none (start .args .s .now) (start .args .table .now) (start .args .a) (start .args .b) _ _ _ (c .match .rest .0 .1) (c .match .rest .1))
 
 pub same-name-spec : {M : Type 1} → statement M
 same-name-spec =

@@ -12,7 +12,11 @@ size-of-requires-2 : tie.Need-size-of-requires-2
 size-of-requires-2 c κs = search needs
 
 returns : tie.Need-returns
-returns c = spelled-size (c .before .before .before .before .before .args .basic) (c .before .before .before .before .before .args .s .now) (c .before .before .before .before .before .args .table .now) (c .before .before .before .before .before .args .a) (c .before .before .before .before .before .args .b) _ _ (c .before .before .size-of .ensures) (c .before .size-of2 .ensures) (c .if1 .taken)
+returns c =
+    let at-size-of2 = c .before in
+    let at-size-of = at-size-of2 .before in
+    let start = at-size-of .before .before .before in
+    spelled-size (start .args .basic) (start .args .s .now) (start .args .table .now) (start .args .a) (start .args .b) _ _ (at-size-of .size-of .ensures) (at-size-of2 .size-of2 .ensures) (c .if1 .taken)
 
 first-of-requires : tie.Need-first-of-requires
 first-of-requires c κs = search needs
@@ -27,13 +31,39 @@ stands-requires-2 : tie.Need-stands-requires-2
 stands-requires-2 c κs = search needs
 
 agrees-requires : tie.Need-agrees-requires
-agrees-requires c κs = (within-is (c .before .before .before .before .before .before .before .before .before .before .args .s .now) (c .before .before .before .before .first-of .result) (c .before .before .before .before .before .before .before .size-of .result) (c .before .before .stands .result) (c .before .before .stands .ensures) (both-left (c .before .before .stands .result) (c .before .stands2 .result) (c .if2 .taken)), within-is (c .before .before .before .before .before .before .before .before .before .before .args .s .now) (c .before .before .before .first-of2 .result) (c .before .before .before .before .before .before .before .size-of .result) (c .before .stands2 .result) (c .before .stands2 .ensures) (both-right (c .before .before .stands .result) (c .before .stands2 .result) (c .if2 .taken)))
+agrees-requires c κs =
+    let at-stands2 = c .before in
+    let at-stands = at-stands2 .before in
+    let at-first-of2 = at-stands .before in
+    let at-first-of = at-first-of2 .before in
+    let at-size-of = at-first-of .before .before .before in
+    let start = at-size-of .before .before .before in
+    (within-is (start .args .s .now) (at-first-of .first-of .result) (at-size-of .size-of .result) (at-stands .stands .result) (at-stands .stands .ensures) (both-left (at-stands .stands .result) (at-stands2 .stands2 .result) (c .if2 .taken)), within-is (start .args .s .now) (at-first-of2 .first-of2 .result) (at-size-of .size-of .result) (at-stands2 .stands2 .result) (at-stands2 .stands2 .ensures) (both-right (at-stands .stands .result) (at-stands2 .stands2 .result) (c .if2 .taken)))
 
 returns-2 : tie.Need-returns-2
-returns-2 c = spelled-in (c .before .before .before .before .before .before .before .before .before .before .before .args .basic) (c .before .before .before .before .before .before .before .before .before .before .before .args .s .now) (c .before .before .before .before .before .before .before .before .before .before .before .args .table .now) (c .before .before .before .before .before .before .before .before .before .before .before .args .a) (c .before .before .before .before .before .before .before .before .before .before .before .args .b) _ _ _ _ (c .before .before .before .stands .result) (c .before .before .stands2 .result) _ (c .before .before .before .before .before .before .before .before .size-of .ensures) (c .before .before .before .before .before .before .before .size-of2 .ensures) (c .before .before .before .before .before .before .if1 .left) (c .before .before .before .before .before .first-of .ensures) (c .before .before .before .before .first-of2 .ensures) (c .before .before .before .stands .ensures) (c .before .before .stands2 .ensures) (c .before .if2 .taken) (c .agrees .ensures)
+returns-2 c =
+    let at-if2 = c .before in
+    let at-stands2 = at-if2 .before in
+    let at-stands = at-stands2 .before in
+    let at-first-of2 = at-stands .before in
+    let at-first-of = at-first-of2 .before in
+    let at-if1 = at-first-of .before in
+    let at-size-of2 = at-if1 .before in
+    let at-size-of = at-size-of2 .before in
+    let start = at-size-of .before .before .before in
+    spelled-in (start .args .basic) (start .args .s .now) (start .args .table .now) (start .args .a) (start .args .b) _ _ _ _ (at-stands .stands .result) (at-stands2 .stands2 .result) _ (at-size-of .size-of .ensures) (at-size-of2 .size-of2 .ensures) (at-if1 .if1 .left) (at-first-of .first-of .ensures) (at-first-of2 .first-of2 .ensures) (at-stands .stands .ensures) (at-stands2 .stands2 .ensures) (at-if2 .if2 .taken) (c .agrees .ensures)
 
 returns-3 : tie.Need-returns-3
-returns-3 c = spelled-out (c .before .before .before .before .before .before .before .before .before .before .args .basic) (c .before .before .before .before .before .before .before .before .before .before .args .s .now) (c .before .before .before .before .before .before .before .before .before .before .args .table .now) (c .before .before .before .before .before .before .before .before .before .before .args .a) (c .before .before .before .before .before .before .before .before .before .before .args .b) _ _ _ _ (c .before .before .stands .result) (c .before .stands2 .result) (c .before .before .before .before .before .before .before .size-of .ensures) (c .before .before .before .before .before .before .size-of2 .ensures) (c .before .before .before .before .before .if1 .left) (c .before .before .before .before .first-of .ensures) (c .before .before .before .first-of2 .ensures) (c .before .before .stands .ensures) (c .before .stands2 .ensures) (c .if2 .left)
+returns-3 c =
+    let at-stands2 = c .before in
+    let at-stands = at-stands2 .before in
+    let at-first-of2 = at-stands .before in
+    let at-first-of = at-first-of2 .before in
+    let at-if1 = at-first-of .before in
+    let at-size-of2 = at-if1 .before in
+    let at-size-of = at-size-of2 .before in
+    let start = at-size-of .before .before .before in
+    spelled-out (start .args .basic) (start .args .s .now) (start .args .table .now) (start .args .a) (start .args .b) _ _ _ _ (at-stands .stands .result) (at-stands2 .stands2 .result) (at-size-of .size-of .ensures) (at-size-of2 .size-of2 .ensures) (at-if1 .if1 .left) (at-first-of .first-of .ensures) (at-first-of2 .first-of2 .ensures) (at-stands .stands .ensures) (at-stands2 .stands2 .ensures) (c .if2 .left)
 
 pub spelled-same-spec : {M : Type 1} → statement M
 spelled-same-spec =

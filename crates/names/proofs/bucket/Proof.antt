@@ -18,11 +18,21 @@ kind-of-requires : tie.Need-kind-of-requires
 kind-of-requires c κs = search needs
 
 hashed-requires : tie.Need-hashed-requires
-hashed-requires c κs = stands-in (c .before .before .before .before .before .before .before .args .text .now) _ _ _ (c .before .before .stands .ensures) (c .before .if1 .taken)
+hashed-requires c κs =
+    let at-if1 = c .before in
+    let at-stands = at-if1 .before in
+    let start = at-stands .before .before .before .before .before in
+    stands-in (start .args .text .now) _ _ _ (at-stands .stands .ensures) (at-if1 .if1 .taken)
 
 returns : tie.Need-returns
 unfolding chainOf
-returns c = (bucket-in _ _ _ _ _ _ (c .before .before .before .before .before .first-of .ensures) (c .before .before .before .before .size-of .ensures) (c .before .before .before .stands .ensures) _ _ (c .before .before .if1 .taken) (c .before .kind-of .ensures) (c .hashed .ensures .0), chain-low _ (c .hashed .ensures .1))
+returns c =
+    let at-kind-of = c .before in
+    let at-if1 = at-kind-of .before in
+    let at-stands = at-if1 .before in
+    let at-size-of = at-stands .before in
+    let at-first-of = at-size-of .before in
+    (bucket-in _ _ _ _ _ _ (at-first-of .first-of .ensures) (at-size-of .size-of .ensures) (at-stands .stands .ensures) _ _ (at-if1 .if1 .taken) (at-kind-of .kind-of .ensures) (c .hashed .ensures .0), chain-low _ (c .hashed .ensures .1))
 
 returns-2 : tie.Need-returns-2
 returns-2 c = (search bucket-out, search needs)
