@@ -67,7 +67,7 @@ named-by alike zero k j b d q e = absurd (d refl)
 named-by alike (suc n) k j b d q e = let z : suc n - 1 ≡ n = omega arith in e ∙ ap₂ alike z q
 
 module _ (frames cells next heads : List ℕ) (fp used depth k : ℕ) (alike : ℕ → ℕ → Bool) (s : State) (held : Held frames cells next heads fp used (s .frames)) (deep : s .depth ≡ depth) where
-  abbrev After : Did → List ℕ → List ℕ → List ℕ → List ℕ → ℕ → Type 0
+  abbrev pub After : Did → List ℕ → List ℕ → List ℕ → List ℕ → ℕ → Type 0
   After r f c n h a = Done r f c n h (usedAfter a used) (does alike a k s)
 
   pub act-opens : (a : ℕ) (F : List ℕ) → a ≡ 0 → 4 ≤ fp → fp ≤ length frames → F ≡ set (set (set (set frames (fp - 4) k) (fp - 4 + 1) k) (fp - 4 + 2) used) (fp - 4 + 3) 0

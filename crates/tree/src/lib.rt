@@ -19,6 +19,7 @@ ghost use Rattle.forms.specs.Reading.{readingFrom};
 ghost use Rattle.alike.specs.Alike.{sameName};
 ghost use Rattle.tables.specs.Symbols.{symOf, syms};
 ghost use Rattle.tables.specs.Bytes.{formBytes};
+ghost use Rattle.tree.specs.declared.Did.the-variants.{Went};
 ghost use Rattle.tree.specs.Answers.{elementsIn, terminalsOf, readingIn, wordsOf, answerOf, tableOf};
 ghost use Rattle.pieces.specs.Kinds.{piecesOf};
 ghost use Rattle.places.specs.Places.{rowWords, kindsOf};
@@ -249,6 +250,12 @@ fn complete_row(
     );
 }
 
+fn went(fp: usize, depth: usize, used: usize) -> Did
+    ensures { λ r. ⌜ r ≡ Went (record { fp = fp; depth = depth; used = used }) ⌝ }
+{
+    Did::Went(Moved { fp, depth, used })
+}
+
 // An action when k elements were read.
 fn do_act(
     a: u64,
@@ -268,60 +275,39 @@ fn do_act(
 {
     if a == OPENS {
         open_frame(k, frames, fp, used);
-        return Did::Went(Moved {
-            fp: fp - FRAME,
-            depth,
-            used,
-        });
+        return went(fp - FRAME, depth, used);
     }
     if a == CLOSES {
         if fp + 2 * FRAME <= frames.len() {
-            return Did::Went(Moved {
-                fp: fp + FRAME,
-                depth,
-                used,
-            });
+            return went(fp + FRAME, depth, used);
         }
-        return Did::Went(Moved { fp, depth, used });
+        return went(fp, depth, used);
     }
     if a == MARKS {
         frames[fp + 1] = minus(k, 1);
-        return Did::Went(Moved { fp, depth, used });
+        return went(fp, depth, used);
     }
     if a == NAMED {
         frames[fp + 3] = k;
-        return Did::Went(Moved { fp, depth, used });
+        return went(fp, depth, used);
     }
     if a == SAME {
         if is_named(text, elements, frames, fp, k) {
-            return Did::Went(Moved { fp, depth, used });
+            return went(fp, depth, used);
         }
         return Did::Differs;
     }
     if a == DEEPER {
         if depth < MOST_OPEN {
-            return Did::Went(Moved {
-                fp,
-                depth: depth + 1,
-                used,
-            });
+            return went(fp, depth + 1, used);
         }
         return Did::Deep;
     }
     if a == SHALLOWER {
-        let less = minus(depth as u64, 1) as usize;
-        return Did::Went(Moved {
-            fp,
-            depth: less,
-            used,
-        });
+        return went(fp, minus(depth as u64, 1) as usize, used);
     }
     complete_row(a - ROW_OF, k, frames, cells, next, heads, fp, used);
-    Did::Went(Moved {
-        fp,
-        depth,
-        used: used + 1,
-    })
+    went(fp, depth, used + 1)
 }
 
 // The machine before its first turn: the symbol at which it starts, the outermost frame, no rows.

@@ -65,12 +65,12 @@ loop-again c =
     let at-if1 = at-word2 .before in
     let at-is-claim = at-if1 .before in
     let w = c .before .before .before .before .before in
-        let l = w .before .before in (
-          search needs,
-          simp length-set (l .loop .inv .1),
-          simp length-set (l .loop .inv .2),
-          record-chained _ _ _ _ _ _ (w .word .ensures) (at-is-claim .is-claim .ensures) _ _ _ _ refl (w .before .loop-test .taken) (l .loop .inv .0) (l .loop .inv .3) _ _ (at-if1 .if1 .taken) (at-word2 .word2 .ensures) (at-bucket .bucket .ensures .0) (at-bucket .bucket .ensures .1) (l .loop .inv .1) (l .loop .inv .2) (l .before .before .before .before .pre .0),
-        )
+    let l = w .before .before in (
+      search needs,
+      simp length-set (l .loop .inv .1),
+      simp length-set (l .loop .inv .2),
+      record-chained _ _ _ _ _ _ (w .word .ensures) (at-is-claim .is-claim .ensures) _ _ _ _ refl (w .before .loop-test .taken) (l .loop .inv .0) (l .loop .inv .3) _ _ (at-if1 .if1 .taken) (at-word2 .word2 .ensures) (at-bucket .bucket .ensures .0) (at-bucket .bucket .ensures .1) (l .loop .inv .1) (l .loop .inv .2) (l .before .before .before .before .pre .0),
+    )
 
 loop-less-2 : tie.Need-loop-less-2 Inv-loop μ-loop
 loop-less-2 c = search needs

@@ -69,18 +69,18 @@ returns c =
     let at-least = at-rows-in .before .before .before .before in
     let start = at-least .before .before .before .before .before .before .before in
     let s = start .args in
-        let n = at-least .least in
-        let w = at-own-links .own-links in
-        let m = at-mark-twins .mark-twins in (
-          answer-whole (s .items .now) _ (n .ensures) _ _ (w .last .1 .1 .1 .1 .1 .1 .1 .1 .0) (w .ensures) _ _ (m .ensures),
-          (
-            links-whole _ (s .elements .now) _ _ _ _ _ _ (at-rows-in .rows-in .ensures) (at-least2 .least2 .ensures) (at-write-links .write-links .ensures),
-            (
-              owns-whole (s .items .now) _ (n .ensures) _ _ (w .last .1 .1 .1 .1 .1 .1 .1 .1 .0) (w .ensures) _ _ (at-write-words .write-words .ensures),
-              twins-whole (s .items .now) _ (n .ensures) _ _ (w .last .1 .1 .1 .1 .1 .1 .1 .1 .0) (w .ensures) _ _ (m .ensures) _ _ (at-write-words2 .write-words2 .ensures),
-            ),
-          ),
-        )
+    let n = at-least .least in
+    let w = at-own-links .own-links in
+    let m = at-mark-twins .mark-twins in (
+      answer-whole (s .items .now) _ (n .ensures) _ _ (w .last .1 .1 .1 .1 .1 .1 .1 .1 .0) (w .ensures) _ _ (m .ensures),
+      (
+        links-whole _ (s .elements .now) _ _ _ _ _ _ (at-rows-in .rows-in .ensures) (at-least2 .least2 .ensures) (at-write-links .write-links .ensures),
+        (
+          owns-whole (s .items .now) _ (n .ensures) _ _ (w .last .1 .1 .1 .1 .1 .1 .1 .1 .0) (w .ensures) _ _ (at-write-words .write-words .ensures),
+          twins-whole (s .items .now) _ (n .ensures) _ _ (w .last .1 .1 .1 .1 .1 .1 .1 .1 .0) (w .ensures) _ _ (m .ensures) _ _ (at-write-words2 .write-words2 .ensures),
+        ),
+      ),
+    )
 
 pub link-names-spec : {M : Type 1} → statement M
 link-names-spec =
