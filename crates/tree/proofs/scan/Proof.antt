@@ -56,19 +56,34 @@ slice-read-top : tie.Need-slice-read-top Inv-loop μ-loop
 slice-read-top c = omega arith
 
 same-length : tie.Need-same-length Inv-loop μ-loop
-same-length c = search needs
+same-length c =
+    let at-loop = c .before .before .before .before in
+    let start = at-loop .before .before .before .before .before .before .before .before .before .before .before .before .before .before .before .before .before .before .before in
+    at-loop .loop .inv .0 ∙ sym (start .pre .3)
 
 same-length-2 : tie.Need-same-length-2 Inv-loop μ-loop
-same-length-2 c = search needs
+same-length-2 c =
+    let at-loop = c .before .before .before .before in
+    let start = at-loop .before .before .before .before .before .before .before .before .before .before .before .before .before .before .before .before .before .before .before in
+    at-loop .loop .inv .2 ∙ sym (start .pre .4)
 
 same-length-3 : tie.Need-same-length-3 Inv-loop μ-loop
-same-length-3 c = search needs
+same-length-3 c =
+    let at-loop = c .before .before .before .before in
+    let start = at-loop .before .before .before .before .before .before .before .before .before .before .before .before .before .before .before .before .before .before .before in
+    at-loop .loop .inv .3 ∙ sym (start .pre .5)
 
 same-length-4 : tie.Need-same-length-4 Inv-loop μ-loop
-same-length-4 c = search needs
+same-length-4 c =
+    let at-loop = c .before .before .before .before in
+    let start = at-loop .before .before .before .before .before .before .before .before .before .before .before .before .before .before .before .before .before .before .before in
+    at-loop .loop .inv .4 ∙ sym (start .pre .6)
 
 same-length-5 : tie.Need-same-length-5 Inv-loop μ-loop
-same-length-5 c = search needs
+same-length-5 c =
+    let at-loop = c .before .before .before .before in
+    let start = at-loop .before .before .before .before .before .before .before .before .before .before .before .before .before .before .before .before .before .before .before in
+    at-loop .loop .inv .5 ∙ sym (start .pre .7)
 
 returns : tie.Need-returns Inv-loop μ-loop
 returns c =
@@ -84,19 +99,34 @@ next-kind-requires c κs =
     (start .pre .8, start .pre .0)
 
 same-length-6 : tie.Need-same-length-6 Inv-loop μ-loop
-same-length-6 c = search needs
+same-length-6 c =
+    let at-loop = c .before .before .before .before .before .before in
+    let start = at-loop .before .before .before .before .before .before .before .before .before .before .before .before .before .before .before .before .before .before .before in
+    at-loop .loop .inv .0 ∙ sym (start .pre .3)
 
 same-length-7 : tie.Need-same-length-7 Inv-loop μ-loop
-same-length-7 c = search needs
+same-length-7 c =
+    let at-loop = c .before .before .before .before .before .before in
+    let start = at-loop .before .before .before .before .before .before .before .before .before .before .before .before .before .before .before .before .before .before .before in
+    at-loop .loop .inv .2 ∙ sym (start .pre .4)
 
 same-length-8 : tie.Need-same-length-8 Inv-loop μ-loop
-same-length-8 c = search needs
+same-length-8 c =
+    let at-loop = c .before .before .before .before .before .before in
+    let start = at-loop .before .before .before .before .before .before .before .before .before .before .before .before .before .before .before .before .before .before .before in
+    at-loop .loop .inv .3 ∙ sym (start .pre .5)
 
 same-length-9 : tie.Need-same-length-9 Inv-loop μ-loop
-same-length-9 c = search needs
+same-length-9 c =
+    let at-loop = c .before .before .before .before .before .before in
+    let start = at-loop .before .before .before .before .before .before .before .before .before .before .before .before .before .before .before .before .before .before .before in
+    at-loop .loop .inv .4 ∙ sym (start .pre .6)
 
 same-length-10 : tie.Need-same-length-10 Inv-loop μ-loop
-same-length-10 c = search needs
+same-length-10 c =
+    let at-loop = c .before .before .before .before .before .before in
+    let start = at-loop .before .before .before .before .before .before .before .before .before .before .before .before .before .before .before .before .before .before .before in
+    at-loop .loop .inv .5 ∙ sym (start .pre .7)
 
 returns-2 : tie.Need-returns-2 Inv-loop μ-loop
 returns-2 c =
@@ -153,19 +183,34 @@ pick-requires c κs =
     (start .pre .8, omega arith, kind-small (start .args .count) (start .args .elements .now) (at-loop .loop .at) (c .next-kind2 .result) (c .next-kind2 .ensures))
 
 same-length-11 : tie.Need-same-length-11 Inv-loop μ-loop
-same-length-11 c = search needs
+same-length-11 c =
+    let at-loop = c .before .before .before .before .before .before .before in
+    let start = at-loop .before .before .before .before .before .before .before .before .before .before .before .before .before .before .before .before .before .before .before in
+    at-loop .loop .inv .0 ∙ sym (start .pre .3)
 
 same-length-12 : tie.Need-same-length-12 Inv-loop μ-loop
-same-length-12 c = search needs
+same-length-12 c =
+    let at-loop = c .before .before .before .before .before .before .before in
+    let start = at-loop .before .before .before .before .before .before .before .before .before .before .before .before .before .before .before .before .before .before .before in
+    at-loop .loop .inv .2 ∙ sym (start .pre .4)
 
 same-length-13 : tie.Need-same-length-13 Inv-loop μ-loop
-same-length-13 c = search needs
+same-length-13 c =
+    let at-loop = c .before .before .before .before .before .before .before in
+    let start = at-loop .before .before .before .before .before .before .before .before .before .before .before .before .before .before .before .before .before .before .before in
+    at-loop .loop .inv .3 ∙ sym (start .pre .5)
 
 same-length-14 : tie.Need-same-length-14 Inv-loop μ-loop
-same-length-14 c = search needs
+same-length-14 c =
+    let at-loop = c .before .before .before .before .before .before .before in
+    let start = at-loop .before .before .before .before .before .before .before .before .before .before .before .before .before .before .before .before .before .before .before in
+    at-loop .loop .inv .4 ∙ sym (start .pre .6)
 
 same-length-15 : tie.Need-same-length-15 Inv-loop μ-loop
-same-length-15 c = search needs
+same-length-15 c =
+    let at-loop = c .before .before .before .before .before .before .before in
+    let start = at-loop .before .before .before .before .before .before .before .before .before .before .before .before .before .before .before .before .before .before .before in
+    at-loop .loop .inv .5 ∙ sym (start .pre .7)
 
 returns-3 : tie.Need-returns-3 Inv-loop μ-loop
 returns-3 c =
@@ -416,19 +461,34 @@ returns-5 c =
     going.too-deep-here (start .args .text .now) (start .args .elements .now) (start .args .count) _ g (d .result) (d .last .1 .1 .1 .1 .0) (d .last .1 .1 .1 .1 .1 .0) (d .last .1 .1 .1 .1 .1 .1 .0) (d .last .1 .1 .1 .1 .1 .1 .1 .0) _ _ _ (c .minus2 .result) (at-enum-told2 .enum-told2 .given .1) (c .minus2 .ensures) (d .ensures (g .state) (g .held) (g .deep))
 
 same-length-26 : tie.Need-same-length-26 Inv-loop μ-loop
-same-length-26 c = search needs
+same-length-26 c =
+    let at-loop = c .before .before in
+    let start = at-loop .before .before .before .before .before .before .before .before .before .before .before .before .before .before .before .before .before .before .before in
+    at-loop .loop .inv .0 ∙ sym (start .pre .3)
 
 same-length-27 : tie.Need-same-length-27 Inv-loop μ-loop
-same-length-27 c = search needs
+same-length-27 c =
+    let at-loop = c .before .before in
+    let start = at-loop .before .before .before .before .before .before .before .before .before .before .before .before .before .before .before .before .before .before .before in
+    at-loop .loop .inv .2 ∙ sym (start .pre .4)
 
 same-length-28 : tie.Need-same-length-28 Inv-loop μ-loop
-same-length-28 c = search needs
+same-length-28 c =
+    let at-loop = c .before .before in
+    let start = at-loop .before .before .before .before .before .before .before .before .before .before .before .before .before .before .before .before .before .before .before in
+    at-loop .loop .inv .3 ∙ sym (start .pre .5)
 
 same-length-29 : tie.Need-same-length-29 Inv-loop μ-loop
-same-length-29 c = search needs
+same-length-29 c =
+    let at-loop = c .before .before in
+    let start = at-loop .before .before .before .before .before .before .before .before .before .before .before .before .before .before .before .before .before .before .before in
+    at-loop .loop .inv .4 ∙ sym (start .pre .6)
 
 same-length-30 : tie.Need-same-length-30 Inv-loop μ-loop
-same-length-30 c = search needs
+same-length-30 c =
+    let at-loop = c .before .before in
+    let start = at-loop .before .before .before .before .before .before .before .before .before .before .before .before .before .before .before .before .before .before .before in
+    at-loop .loop .inv .5 ∙ sym (start .pre .7)
 
 returns-6 : tie.Need-returns-6 Inv-loop μ-loop
 returns-6 c =
@@ -438,19 +498,34 @@ returns-6 c =
     going.too-much (start .args .text .now) (start .args .elements .now) (start .args .count) _ (turns.at-end (start .args .text .now) (start .args .elements .now) (start .args .count) (at-loop .loop .stk) (at-loop .loop .sp) (at-loop .loop .inv .0) (at-loop .loop .inv .7) (at-loop-test .loop-test .left)) (c .if6 .taken)
 
 same-length-31 : tie.Need-same-length-31 Inv-loop μ-loop
-same-length-31 c = search needs
+same-length-31 c =
+    let at-loop = c .before .before in
+    let start = at-loop .before .before .before .before .before .before .before .before .before .before .before .before .before .before .before .before .before .before .before in
+    at-loop .loop .inv .0 ∙ sym (start .pre .3)
 
 same-length-32 : tie.Need-same-length-32 Inv-loop μ-loop
-same-length-32 c = search needs
+same-length-32 c =
+    let at-loop = c .before .before in
+    let start = at-loop .before .before .before .before .before .before .before .before .before .before .before .before .before .before .before .before .before .before .before in
+    at-loop .loop .inv .2 ∙ sym (start .pre .4)
 
 same-length-33 : tie.Need-same-length-33 Inv-loop μ-loop
-same-length-33 c = search needs
+same-length-33 c =
+    let at-loop = c .before .before in
+    let start = at-loop .before .before .before .before .before .before .before .before .before .before .before .before .before .before .before .before .before .before .before in
+    at-loop .loop .inv .3 ∙ sym (start .pre .5)
 
 same-length-34 : tie.Need-same-length-34 Inv-loop μ-loop
-same-length-34 c = search needs
+same-length-34 c =
+    let at-loop = c .before .before in
+    let start = at-loop .before .before .before .before .before .before .before .before .before .before .before .before .before .before .before .before .before .before .before in
+    at-loop .loop .inv .4 ∙ sym (start .pre .6)
 
 same-length-35 : tie.Need-same-length-35 Inv-loop μ-loop
-same-length-35 c = search needs
+same-length-35 c =
+    let at-loop = c .before .before in
+    let start = at-loop .before .before .before .before .before .before .before .before .before .before .before .before .before .before .before .before .before .before .before in
+    at-loop .loop .inv .5 ∙ sym (start .pre .7)
 
 returns-7 : tie.Need-returns-7 Inv-loop μ-loop
 returns-7 c =
