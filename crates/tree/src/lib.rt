@@ -1,6 +1,6 @@
-// Elements to a tree: the machine over the tables of the forms, with its rows. Rows are complete innermost first and stand parent first:
+// Elements to a tree: the machine over the table of the forms, with its rows. Rows are complete innermost first and stand parent first:
 // they are kept in the order of completion, in a list to each base, and written out at the end, so that a text costs by its elements. The
-// tables and the arrays are made once, in `read_tree` and `read_items`, and lent: made anew at each use, or for each piece of a package,
+// table and the arrays are made once, in `read_tree` and `read_items`, and lent: made anew at each use, or for each piece of a package,
 // they would cost more than all else.
 use places::MOST_ELEMENTS;
 use tables::KINDS;
