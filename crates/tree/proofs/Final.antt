@@ -1,12 +1,15 @@
 -- From what the scan found to what is answered, and what the tree table then holds. Assumes nothing.
 use Prim.Native.Nat.{ℕ, _+_, _-_, _*_, _/_, _≤_, _<_}
 use mathlib.Core.Path.{_≡_, refl, sym, _∙_, ap, subst}
+use mathlib.Core.Logic.{⊎-elim}
 use mathlib.Core.Bool.{Bool}
 use mathlib.Core.List.{List, [], _∷_, _++_}
 use native.Mathlib.Omega.{arith}
 use lib.ListN.{length, drop, getD, length-replicate}
 use lib.Seq.{sets, sets-eq}
 use borrow.Author.Tests.{le-leb, lt-leb}
+use types.Run.{OneOf}
+use denote.Enum.Declared.{tagOf}
 use Rattle.ll.specs.Actions.{End, read, bad, stopped, spent}
 use Rattle.forms.specs.Tree.{Row, State, Refusal, name-differs, too-deep, rowsOf}
 use Rattle.tree.specs.declared.Answer.{Answer}
@@ -14,7 +17,9 @@ use Rattle.tree.specs.declared.Answer.the-variants.{Tree, NoFile, NameDi
 use Rattle.tree.specs.declared.Found.{Found}
 use Rattle.tree.specs.declared.Found.the-variants.{Whole, Wrong, Other, Over}
 use Rattle.tree.specs.Answers.{wordsOf, answerOf, tableOf, pickAnswer, pickWords, elementsIn, readingIn}
-use Rattle.tree.specs.Held.{Spans, Tells}
+use Rattle.tree.specs.Held.{Spans, Tells, answerBy}
+use Rattle.tree.specs.Items.{rowsRead}
+use Rattle.tree.proofs.Found as declared
 use Rattle.tree.proofs.Zeros.{zeros, drop-zeros}
 
 pub words-size : (rows : List Row) → length (wordsOf rows) ≡ 5 * length rows
@@ -30,6 +35,25 @@ filled room rows h =
 
 abbrev pub Says : Answer → List ℕ → ℕ → End State Refusal → Type 0
 Says r tab room o = (r ≡ answerOf room o) × (tab ≡ tableOf room o)
+
+-- what is not read whole: what it is answered as, the zeros that the tree table holds, and no rows
+pub unread : (r : Found) (cells next heads : List ℕ) (o : End State Refusal) → OneOf (1 ∷ 2 ∷ 3 ∷ []) (tagOf declared.the-type r) → Tells r cells next heads o
+    → (room : ℕ) → (answerBy r ≡ answerOf room o) × (zeros room ≡ tableOf room o) × (rowsRead o ≡ [])
+unread (Whole used) cells next heads o k t room = absurd (⊎-elim (λ e. omega arith) (λ k. ⊎-elim (λ e. omega arith) (λ e. omega arith) k) k)
+unread (Wrong i) cells next heads (read s) k t room = absurd t
+unread (Wrong i) cells next heads (bad j) k t room = (ap NoFile t, refl, refl)
+unread (Wrong i) cells next heads (stopped j x) k t room = absurd t
+unread (Wrong i) cells next heads spent k t room = absurd t
+unread (Other i) cells next heads (read s) k t room = absurd t
+unread (Other i) cells next heads (bad j) k t room = absurd t
+unread (Other i) cells next heads (stopped j name-differs) k t room = (ap NameDiffers t, refl, refl)
+unread (Other i) cells next heads (stopped j too-deep) k t room = absurd t
+unread (Other i) cells next heads spent k t room = absurd t
+unread (Over i) cells next heads (read s) k t room = absurd t
+unread (Over i) cells next heads (bad j) k t room = absurd t
+unread (Over i) cells next heads (stopped j name-differs) k t room = absurd t
+unread (Over i) cells next heads (stopped j too-deep) k t room = (ap TooDeep t, refl, refl)
+unread (Over i) cells next heads spent k t room = absurd t
 
 module _ (cells next heads : List ℕ) (r : Found) (o : End State Refusal) (tells : Tells r cells next heads o) where
   whole : (used : ℕ) → r ≡ Whole used → Tells (Whole used) cells next heads o
@@ -79,34 +103,8 @@ module _ (cells next heads : List ℕ) (r : Found) (o : End State Refusal) (tell
       go (stopped j x) t = absurd t
       go spent t = absurd t
 
-  pub says-wrong : (k room : ℕ) (tab : List ℕ) → r ≡ Wrong k → tab ≡ zeros room → Says (NoFile k) tab room o
-  says-wrong k room tab e z = go o (subst (λ (x : Found). Tells x cells next heads o) e tells)
-    where
-      go : (o : End State Refusal) → Tells (Wrong k) cells next heads o → Says (NoFile k) tab room o
-      go (read s) t = absurd t
-      go (bad j) t = (ap NoFile t, z)
-      go (stopped j x) t = absurd t
-      go spent t = absurd t
-
-  pub says-other : (k room : ℕ) (tab : List ℕ) → r ≡ Other k → tab ≡ zeros room → Says (NameDiffers k) tab room o
-  says-other k room tab e z = go o (subst (λ (x : Found). Tells x cells next heads o) e tells)
-    where
-      go : (o : End State Refusal) → Tells (Other k) cells next heads o → Says (NameDiffers k) tab room o
-      go (read s) t = absurd t
-      go (bad j) t = absurd t
-      go (stopped j name-differs) t = (ap NameDiffers t, z)
-      go (stopped j too-deep) t = absurd t
-      go spent t = absurd t
-
-  pub says-over : (k room : ℕ) (tab : List ℕ) → r ≡ Over k → tab ≡ zeros room → Says (TooDeep k) tab room o
-  says-over k room tab e z = go o (subst (λ (x : Found). Tells x cells next heads o) e tells)
-    where
-      go : (o : End State Refusal) → Tells (Over k) cells next heads o → Says (TooDeep k) tab room o
-      go (read s) t = absurd t
-      go (bad j) t = absurd t
-      go (stopped j name-differs) t = absurd t
-      go (stopped j too-deep) t = (ap TooDeep t, z)
-      go spent t = absurd t
+  pub says-unread : (a : Answer) (room : ℕ) (tab : List ℕ) → OneOf (1 ∷ 2 ∷ 3 ∷ []) (tagOf declared.the-type r) → a ≡ answerBy r → tab ≡ zeros room → Says a tab room o
+  says-unread a room tab k e z = let u = unread r cells next heads o k tells room in (e ∙ u .0, z ∙ u .1)
 
 pub in-table : (elements : List ℕ) (count n : ℕ) → n ≡ elementsIn elements count → 3 * n ≤ length elements
 in-table elements count n e = omega arith

@@ -9,11 +9,13 @@ use borrow.Author.Tests.{eq-eqb, ne-eqb}
 use lib.Dec.{eqb}
 use lib.ListN.{length, getD, drop}
 use lib.Seq.{sets}
+use types.Run.{OneOf}
+use denote.Enum.Declared.{tagOf}
 use Rattle.ll.specs.Actions.{End, read, bad, stopped, spent}
 use Rattle.alike.specs.Alike.{sameName}
 use Rattle.forms.specs.Kinds.{terminalOf}
 use Rattle.forms.specs.Names.{constant, subtype}
-use Rattle.forms.specs.Tree.{Row, State, Refusal, name-differs, too-deep, rowsOf}
+use Rattle.forms.specs.Tree.{Row, State, Refusal, rowsOf}
 use Rattle.forms.specs.Reading.{readingFrom}
 use Rattle.forms.specs.Items.{IsItem}
 use Rattle.forms.proofs.Items.{reads-items, kinds-alone, fewer-rows}
@@ -21,11 +23,13 @@ use Rattle.tables.specs.Symbols.{symOf}
 use Rattle.places.specs.Places.{cellAt, kindsOf}
 use Rattle.places.proofs.Laws.{cell-in, kinds-length}
 use Rattle.tree.specs.declared.Found.{Found}
-use Rattle.tree.specs.declared.Found.the-variants.{Whole, Wrong, Other, Over}
+use Rattle.tree.specs.declared.Found.the-variants.{Whole}
 use Rattle.tree.specs.Answers.{terminalsIn, terminalsOf, wordsOf}
 use Rattle.tree.specs.Held.{Spans, Starts, Tells}
 use Rattle.tree.specs.Items.{unlike, readingBy, readingOfPiece, rowsRead, rowsOfPiece, startOf}
+use Rattle.tree.proofs.Found as declared
 use Rattle.tree.proofs.Lists.{terminals-length}
+use Rattle.tree.proofs.Final.{unread}
 
 clash : {A : Type 0} → _≡_ {A = ℕ} 0 1 → A
 clash z = absurd (omega arith)
@@ -142,37 +146,7 @@ module _ (size from : ℕ) (t : List ℕ) (some : 1 ≤ size) (e : from ≡ star
         go spent h = absurd h
 
     -- no form fits: no rows
-    refused : (x : Found) → r ≡ x → ((o : End State Refusal) → Tells x cells next heads o → rowsRead o ≡ []) → (rows : List ℕ) → rows ≡ sets rows 0 (wordsOf (rowsOfPiece (kindsOf size t)))
+    pub piece-refused : OneOf (1 ∷ 2 ∷ 3 ∷ []) (tagOf declared.the-type r) → (rows : List ℕ) → rows ≡ sets rows 0 (wordsOf (rowsOfPiece (kindsOf size t)))
     unfolding rowsOfPiece
-    refused x q f rows =
-        ap (λ (l : List Row). sets rows 0 (wordsOf l))
-        (sym (f (readingOfPiece (kindsOf size t)) (subst (λ (y : Found). Tells y cells next heads (readingOfPiece (kindsOf size t))) q tells-piece)))
-
-    pub piece-wrong : (k : ℕ) → r ≡ Wrong k → (rows : List ℕ) → rows ≡ sets rows 0 (wordsOf (rowsOfPiece (kindsOf size t)))
-    piece-wrong k q = refused (Wrong k) q go
-      where
-        go : (o : End State Refusal) → Tells (Wrong k) cells next heads o → rowsRead o ≡ []
-        go (read s) h = absurd h
-        go (bad j) h = refl
-        go (stopped j x) h = absurd h
-        go spent h = absurd h
-
-    pub piece-other : (k : ℕ) → r ≡ Other k → (rows : List ℕ) → rows ≡ sets rows 0 (wordsOf (rowsOfPiece (kindsOf size t)))
-    piece-other k q = refused (Other k) q go
-      where
-        go : (o : End State Refusal) → Tells (Other k) cells next heads o → rowsRead o ≡ []
-        go (read s) h = absurd h
-        go (bad j) h = absurd h
-        go (stopped j name-differs) h = refl
-        go (stopped j too-deep) h = absurd h
-        go spent h = absurd h
-
-    pub piece-over : (k : ℕ) → r ≡ Over k → (rows : List ℕ) → rows ≡ sets rows 0 (wordsOf (rowsOfPiece (kindsOf size t)))
-    piece-over k q = refused (Over k) q go
-      where
-        go : (o : End State Refusal) → Tells (Over k) cells next heads o → rowsRead o ≡ []
-        go (read s) h = absurd h
-        go (bad j) h = absurd h
-        go (stopped j name-differs) h = absurd h
-        go (stopped j too-deep) h = refl
-        go spent h = absurd h
+    piece-refused k rows =
+        ap (λ (l : List Row). sets rows 0 (wordsOf l)) (sym (unread r cells next heads (readingOfPiece (kindsOf size t)) k tells-piece 0 .2))

@@ -13,6 +13,8 @@ use Rattle.places.specs.Sizes.{mostElements}
 use Rattle.ll.specs.Actions.{Step, go, stop, End, read, bad, stopped, spent}
 use Rattle.forms.specs.Words.{rowAt}
 use Rattle.forms.specs.Tree.{Row, Frame, State, Refusal, name-differs, too-deep, rowsOf}
+use Rattle.tree.specs.declared.Answer.{Answer}
+use Rattle.tree.specs.declared.Answer.the-variants.{Tree, NoFile, NameDiffers, TooDeep}
 use Rattle.tree.specs.declared.Did.{Did}
 use Rattle.tree.specs.declared.Did.the-variants.{Went, Differs, Deep}
 use Rattle.tree.specs.declared.Found.{Found}
@@ -86,3 +88,10 @@ Tells (Over i) cells next heads (read s) = ⊥
 Tells (Over i) cells next heads (bad j) = ⊥
 Tells (Over i) cells next heads (stopped j name-differs) = ⊥
 Tells (Over i) cells next heads spent = ⊥
+
+-- what the scan found, as an answer, where the tree table has room
+abbrev pub answerBy : Found → Answer
+answerBy (Whole used) = Tree used
+answerBy (Wrong i) = NoFile i
+answerBy (Other i) = NameDiffers i
+answerBy (Over i) = TooDeep i

@@ -24,7 +24,7 @@ ghost use Rattle.tree.specs.Answers.{elementsIn, terminalsOf, readingIn,
 ghost use Rattle.pieces.specs.Kinds.{piecesOf};
 ghost use Rattle.places.specs.Places.{rowWords, kindsOf};
 ghost use Rattle.tree.specs.Items.{startOf, rowsOfPiece, itemWords, itemsIn, itemRows};
-ghost use Rattle.tree.specs.Held.{Held, Spans, Done, Tells, Starts, usedAfter};
+ghost use Rattle.tree.specs.Held.{Held, Spans, Done, Tells, Starts, usedAfter, answerBy};
 
 // The stack's words, and the last of them; those of the frames, four to each, and where the outermost stands; and how many rows there may be,
 // of five words each.
@@ -436,6 +436,18 @@ fn least(a: usize, b: usize, c: usize) -> usize
     lent::least(a, lent::least(b, c))
 }
 
+// What the scan found, as an answer.
+fn answered(found: Found) -> Answer
+    ensures { λ r. ⌜ r ≡ answerBy found ⌝ }
+{
+    match found {
+        Found::Whole(used) => Answer::Tree(used),
+        Found::Wrong(k) => Answer::NoFile(k),
+        Found::Other(k) => Answer::NameDiffers(k),
+        Found::Over(k) => Answer::TooDeep(k),
+    }
+}
+
 // Elements to a tree: the first count elements, as far as the table has them and 01's sizes go, as a file. The rows go into `tree`, and
 // zeros after them; on a refusal it is all zeros.
 pub fn read_tree(text: &[u8], elements: &[u64], count: usize, tree: &mut [u64]) -> Answer
@@ -462,19 +474,15 @@ pub fn read_tree(text: &[u8], elements: &[u64], count: usize, tree: &mut [u64]) 
         &mut heads,
         &forms,
     );
-    match found {
-        Found::Whole(used) => {
-            if used <= tree.len() / ROW {
-                write_out(&cells, &next, &heads, used, tree);
-                Answer::Tree(used)
-            } else {
-                Answer::TableShort(tree.len() / ROW)
-            }
-        }
-        Found::Wrong(k) => Answer::NoFile(k),
-        Found::Other(k) => Answer::NameDiffers(k),
-        Found::Over(k) => Answer::TooDeep(k),
+    let Found::Whole(used) = found else {
+        return answered(found);
+    };
+    let rows = tree.len() / ROW;
+    if rows < used {
+        return Answer::TableShort(rows);
     }
+    write_out(&cells, &next, &heads, used, tree);
+    Answer::Tree(used)
 }
 
 // The symbol from which a piece is read that begins with this kind, 0 where it is not read.
@@ -521,14 +529,10 @@ fn read_piece(
         heads,
         forms,
     );
-    match found {
-        Found::Whole(used) => {
-            write_out(cells, next, heads, used, rows);
-        }
-        Found::Wrong(_k) => {}
-        Found::Other(_k) => {}
-        Found::Over(_k) => {}
-    }
+    let Found::Whole(used) = found else {
+        return;
+    };
+    write_out(cells, next, heads, used, rows);
 }
 
 // The rows of each piece of the first n elements, those of a piece from its first element's row on.

@@ -1,7 +1,7 @@
 -- Where the piece is one that is read, what the scan found decides the rows, by the laws of Pieces. Assumes nothing.
 use mathlib.Core.Path.{_∙_}
 use native.Mathlib.Omega.{arith}
-use Rattle.tree.proofs.Pieces.{start-of-first, starts, piece-unread, piece-asks, piece-written, piece-wrong, piece-other, piece-over}
+use Rattle.tree.proofs.Pieces.{start-of-first, starts, piece-unread, piece-asks, piece-written, piece-refused}
 use borrow.Author.Needs.{needs}
 use Rattle.tree.proofs.read_piece.Statement.{statement}
 use Rattle.tree.proofs.read_piece.Tie as tie
@@ -28,6 +28,29 @@ scan-requires c κs =
 enum-known-found : tie.Need-enum-known-found
 enum-known-found c = search needs
 
+same-length : tie.Need-same-length
+same-length c = search needs
+
+same-length-2 : tie.Need-same-length-2
+same-length-2 c = search needs
+
+same-length-3 : tie.Need-same-length-3
+same-length-3 c = search needs
+
+same-length-4 : tie.Need-same-length-4
+same-length-4 c = search needs
+
+same-length-5 : tie.Need-same-length-5
+same-length-5 c = search needs
+
+returns-2 : tie.Need-returns-2
+returns-2 c =
+    let at-scan = c .before .before .before .before .before .before .before .before .before .before .before in
+    let at-if1 = at-scan .before .before .before .before .before .before in
+    let at-start-of = at-if1 .before in
+    let start = at-start-of .before .before .before .before .before .before .before .before .before .before in
+    piece-refused (start .args .size) (at-start-of .start-of .result) (start .args .elements .now) (start .pre .0) (start-of-first _ _ _ (omega arith) (at-start-of .start-of .ensures) (at-start-of .before .kind-of .ensures)) (at-scan .scan .result) (at-scan .scan .last .1 .1 .1 .1 .1 .1 .0) (at-scan .scan .last .1 .1 .1 .1 .1 .1 .1 .0) (at-scan .scan .last .1 .1 .1 .1 .1 .1 .1 .1 .0) (start .args .forms .now) (at-if1 .if1 .left) (at-scan .scan .ensures) (c .match .keys2) (start .args .rows .now)
+
 write-out-requires : tie.Need-write-out-requires
 write-out-requires c κs =
     let at-found = c .before .before .before .before .before in
@@ -44,42 +67,8 @@ write-out-requires c κs =
     let kr = start .pre .3 in
     (w .0, omega arith, omega arith, omega arith, omega arith, omega arith, w .2)
 
-enum-known-found-2 : tie.Need-enum-known-found-2
-enum-known-found-2 c = search needs
-
-enum-known-found-3 : tie.Need-enum-known-found-3
-enum-known-found-3 c = search needs
-
-enum-known-found-4 : tie.Need-enum-known-found-4
-enum-known-found-4 c = search needs
-
-same-length : tie.Need-same-length
-same-length c = search needs
-
-same-length-2 : tie.Need-same-length-2
-same-length-2 c = search needs
-
-same-length-3 : tie.Need-same-length-3
-same-length-3 c = search needs
-
-same-length-4 : tie.Need-same-length-4
-same-length-4 c = search needs
-
-same-length-5 : tie.Need-same-length-5
-same-length-5 c = search needs
-
 same-length-6 : tie.Need-same-length-6
 same-length-6 c = search needs
-
-returns-2 : tie.Need-returns-2
-returns-2 c =
-    let at-write-out = c .before .before in
-    let at-found = at-write-out .before .before .before .before .before .before in
-    let at-scan = at-found .before .before .before .before .before .before .before .before .before .before .before .before in
-    let at-if1 = at-scan .before .before .before .before .before .before in
-    let at-start-of = at-if1 .before in
-    let start = at-start-of .before .before .before .before .before .before .before .before .before .before in
-    piece-written (start .args .size) (at-start-of .start-of .result) (start .args .elements .now) (start .pre .0) (start-of-first _ _ _ (omega arith) (at-start-of .start-of .ensures) (at-start-of .before .kind-of .ensures)) (at-scan .scan .result) (at-scan .scan .last .1 .1 .1 .1 .1 .1 .0) (at-scan .scan .last .1 .1 .1 .1 .1 .1 .1 .0) (at-scan .scan .last .1 .1 .1 .1 .1 .1 .1 .1 .0) (start .args .forms .now) (at-if1 .if1 .left) (at-scan .scan .ensures) (at-found .found .given .0 .0) (start .args .rows .now) (at-write-out .write-out .last .1 .1 .1 .1 .0) (at-found .found .given .1) (at-write-out .write-out .ensures)
 
 same-length-7 : tie.Need-same-length-7
 same-length-7 c = search needs
@@ -98,60 +87,13 @@ same-length-11 c = search needs
 
 returns-3 : tie.Need-returns-3
 returns-3 c =
-    let at-found2 = c .before in
-    let at-scan = at-found2 .before .before .before .before .before .before .before .before .before .before .before .before in
+    let at-write-out = c .before .before in
+    let at-found = at-write-out .before .before .before .before .before .before in
+    let at-scan = at-found .before .before .before .before .before .before .before .before .before .before .before .before in
     let at-if1 = at-scan .before .before .before .before .before .before in
     let at-start-of = at-if1 .before in
     let start = at-start-of .before .before .before .before .before .before .before .before .before .before in
-    piece-wrong (start .args .size) (at-start-of .start-of .result) (start .args .elements .now) (start .pre .0) (start-of-first _ _ _ (omega arith) (at-start-of .start-of .ensures) (at-start-of .before .kind-of .ensures)) (at-scan .scan .result) (at-scan .scan .last .1 .1 .1 .1 .1 .1 .0) (at-scan .scan .last .1 .1 .1 .1 .1 .1 .1 .0) (at-scan .scan .last .1 .1 .1 .1 .1 .1 .1 .1 .0) (start .args .forms .now) (at-if1 .if1 .left) (at-scan .scan .ensures) (at-found2 .found2 .given .0 .0) (at-found2 .found2 .given .1) (start .args .rows .now)
-
-same-length-12 : tie.Need-same-length-12
-same-length-12 c = search needs
-
-same-length-13 : tie.Need-same-length-13
-same-length-13 c = search needs
-
-same-length-14 : tie.Need-same-length-14
-same-length-14 c = search needs
-
-same-length-15 : tie.Need-same-length-15
-same-length-15 c = search needs
-
-same-length-16 : tie.Need-same-length-16
-same-length-16 c = search needs
-
-returns-4 : tie.Need-returns-4
-returns-4 c =
-    let at-found3 = c .before in
-    let at-scan = at-found3 .before .before .before .before .before .before .before .before .before .before .before .before in
-    let at-if1 = at-scan .before .before .before .before .before .before in
-    let at-start-of = at-if1 .before in
-    let start = at-start-of .before .before .before .before .before .before .before .before .before .before in
-    piece-other (start .args .size) (at-start-of .start-of .result) (start .args .elements .now) (start .pre .0) (start-of-first _ _ _ (omega arith) (at-start-of .start-of .ensures) (at-start-of .before .kind-of .ensures)) (at-scan .scan .result) (at-scan .scan .last .1 .1 .1 .1 .1 .1 .0) (at-scan .scan .last .1 .1 .1 .1 .1 .1 .1 .0) (at-scan .scan .last .1 .1 .1 .1 .1 .1 .1 .1 .0) (start .args .forms .now) (at-if1 .if1 .left) (at-scan .scan .ensures) (at-found3 .found3 .given .0 .0) (at-found3 .found3 .given .1) (start .args .rows .now)
-
-same-length-17 : tie.Need-same-length-17
-same-length-17 c = search needs
-
-same-length-18 : tie.Need-same-length-18
-same-length-18 c = search needs
-
-same-length-19 : tie.Need-same-length-19
-same-length-19 c = search needs
-
-same-length-20 : tie.Need-same-length-20
-same-length-20 c = search needs
-
-same-length-21 : tie.Need-same-length-21
-same-length-21 c = search needs
-
-returns-5 : tie.Need-returns-5
-returns-5 c =
-    let at-found4 = c .before in
-    let at-scan = at-found4 .before .before .before .before .before .before .before .before .before .before .before .before in
-    let at-if1 = at-scan .before .before .before .before .before .before in
-    let at-start-of = at-if1 .before in
-    let start = at-start-of .before .before .before .before .before .before .before .before .before .before in
-    piece-over (start .args .size) (at-start-of .start-of .result) (start .args .elements .now) (start .pre .0) (start-of-first _ _ _ (omega arith) (at-start-of .start-of .ensures) (at-start-of .before .kind-of .ensures)) (at-scan .scan .result) (at-scan .scan .last .1 .1 .1 .1 .1 .1 .0) (at-scan .scan .last .1 .1 .1 .1 .1 .1 .1 .0) (at-scan .scan .last .1 .1 .1 .1 .1 .1 .1 .1 .0) (start .args .forms .now) (at-if1 .if1 .left) (at-scan .scan .ensures) (at-found4 .found4 .given .0 .0) (at-found4 .found4 .given .1) (start .args .rows .now)
+    piece-written (start .args .size) (at-start-of .start-of .result) (start .args .elements .now) (start .pre .0) (start-of-first _ _ _ (omega arith) (at-start-of .start-of .ensures) (at-start-of .before .kind-of .ensures)) (at-scan .scan .result) (at-scan .scan .last .1 .1 .1 .1 .1 .1 .0) (at-scan .scan .last .1 .1 .1 .1 .1 .1 .1 .0) (at-scan .scan .last .1 .1 .1 .1 .1 .1 .1 .1 .0) (start .args .forms .now) (at-if1 .if1 .left) (at-scan .scan .ensures) (at-found .found .given .0 .0) (start .args .rows .now) (at-write-out .write-out .last .1 .1 .1 .1 .0) (at-found .found .given .1) (at-write-out .write-out .ensures)
 
 pub read-piece-spec : {M : Type 1} → statement M
 read-piece-spec =
@@ -162,32 +104,17 @@ read-piece-spec =
     returns
     scan-requires
     enum-known-found
-    write-out-requires
-    enum-known-found-2
-    enum-known-found-3
-    enum-known-found-4
     same-length
     same-length-2
     same-length-3
     same-length-4
     same-length-5
-    same-length-6
     returns-2
+    write-out-requires
+    same-length-6
     same-length-7
     same-length-8
     same-length-9
     same-length-10
     same-length-11
-    returns-3
-    same-length-12
-    same-length-13
-    same-length-14
-    same-length-15
-    same-length-16
-    returns-4
-    same-length-17
-    same-length-18
-    same-length-19
-    same-length-20
-    same-length-21
-    returns-5)
+    returns-3)

@@ -5,7 +5,7 @@ use native.Mathlib.Omega.{arith}
 use lib.ListN.{length}
 use Rattle.tree.specs.Answers.{readingIn, elementsIn}
 use Rattle.tree.proofs.Zeros.{zeros, zeros-size}
-use Rattle.tree.proofs.Final.{says-tree, says-short, says-wrong, says-other, says-over, whole-asks, in-table, in-size, rooms, told}
+use Rattle.tree.proofs.Final.{says-tree, says-short, says-unread, whole-asks, in-table, in-size, rooms, told}
 use borrow.Author.Needs.{needs}
 use Rattle.tree.proofs.read_tree.Statement.{statement}
 use Rattle.tree.proofs.read_tree.Tie as tie
@@ -47,6 +47,32 @@ scan-requires c κs =
 enum-known-found : tie.Need-enum-known-found
 enum-known-found c = search needs
 
+answered-requires : tie.Need-answered-requires
+answered-requires c κs = search needs
+
+same-length : tie.Need-same-length
+same-length c = search needs
+
+returns : tie.Need-returns
+returns c =
+    let at-scan = c .before .before .before .before .before .before .before in
+    let at-least = at-scan .before .before .before .before .before .before .before .before in
+    let at-clear = at-least .before .before .before in
+    let start = at-clear .before .before .before .before .before in
+    says-unread (at-scan .scan .last .1 .1 .1 .1 .1 .1 .0) (at-scan .scan .last .1 .1 .1 .1 .1 .1 .1 .0) (at-scan .scan .last .1 .1 .1 .1 .1 .1 .1 .1 .0) (at-scan .scan .result) (readingIn (start .args .text .now) (start .args .elements .now) (elementsIn (start .args .elements .now) (start .args .count))) (told (at-scan .scan .result) (at-scan .scan .last .1 .1 .1 .1 .1 .1 .0) (at-scan .scan .last .1 .1 .1 .1 .1 .1 .1 .0) (at-scan .scan .last .1 .1 .1 .1 .1 .1 .1 .1 .0) (start .args .text .now) (start .args .elements .now) (at-least .least .result) (start .args .count) (at-least .least .ensures) (at-scan .scan .ensures)) (c .answered .result) (length (start .args .tree .now)) (at-clear .clear .last .0) (c .before .match .keys2) (c .answered .ensures) (at-clear .clear .ensures)
+
+same-length-2 : tie.Need-same-length-2
+same-length-2 c = search needs
+
+returns-2 : tie.Need-returns-2
+returns-2 c =
+    let at-found = c .before .before in
+    let at-scan = at-found .before .before .before .before .before .before .before in
+    let at-least = at-scan .before .before .before .before .before .before .before .before in
+    let at-clear = at-least .before .before .before in
+    let start = at-clear .before .before .before .before .before in
+    rooms _ (at-clear .clear .last .0) _ _ (readingIn (start .args .text .now) (start .args .elements .now) (elementsIn (start .args .elements .now) (start .args .count))) (at-clear .clear .kept .0) (says-short (at-scan .scan .last .1 .1 .1 .1 .1 .1 .0) (at-scan .scan .last .1 .1 .1 .1 .1 .1 .1 .0) (at-scan .scan .last .1 .1 .1 .1 .1 .1 .1 .1 .0) (at-scan .scan .result) (readingIn (start .args .text .now) (start .args .elements .now) (elementsIn (start .args .elements .now) (start .args .count))) (told (at-scan .scan .result) (at-scan .scan .last .1 .1 .1 .1 .1 .1 .0) (at-scan .scan .last .1 .1 .1 .1 .1 .1 .1 .0) (at-scan .scan .last .1 .1 .1 .1 .1 .1 .1 .1 .0) (start .args .text .now) (start .args .elements .now) (at-least .least .result) (start .args .count) (at-least .least .ensures) (at-scan .scan .ensures)) (at-found .found .given .0 .0) (length (at-clear .clear .last .0)) (at-clear .clear .last .0) (at-found .found .given .1) (c .if1 .taken) (at-clear .clear .ensures ∙ ap zeros (sym (at-clear .clear .kept .0))))
+
 slice-aggregate-write-out : tie.Need-slice-aggregate-write-out
 slice-aggregate-write-out c = search needs
 
@@ -68,25 +94,13 @@ write-out-requires c κs =
     let kc = at-scan .scan .kept .1 .1 .1 .1 .1 .1 .0 in
     let kn = at-scan .scan .kept .1 .1 .1 .1 .1 .1 .1 .0 in
     let kh = at-scan .scan .kept .1 .1 .1 .1 .1 .1 .1 .1 .0 in
-    (w .0, omega (arith, at-if1 .if1 .taken), omega (arith, zeros-size 51840), omega (arith, zeros-size 10368), omega (arith, zeros-size 10368), w .1, w .2)
+    (w .0, omega (arith, at-if1 .if1 .left), omega (arith, zeros-size 51840), omega (arith, zeros-size 10368), omega (arith, zeros-size 10368), w .1, w .2)
 
-enum-known-found-2 : tie.Need-enum-known-found-2
-enum-known-found-2 c = search needs
+same-length-3 : tie.Need-same-length-3
+same-length-3 c = search needs
 
-enum-known-found-3 : tie.Need-enum-known-found-3
-enum-known-found-3 c = search needs
-
-enum-known-found-4 : tie.Need-enum-known-found-4
-enum-known-found-4 c = search needs
-
-same-length : tie.Need-same-length
-same-length c =
-    let at-write-out = c .before .before in
-    let at-clear = at-write-out .before .before .before .before .before .before .before .before .before .before .before .before .before .before .before .before .before .before .before .before .before .before .before .before .before in
-    at-write-out .write-out .kept .1 .1 .1 .1 .0 ∙ at-clear .clear .kept .0
-
-returns : tie.Need-returns
-returns c =
+returns-3 : tie.Need-returns-3
+returns-3 c =
     let at-write-out = c .before .before in
     let at-if1 = at-write-out .before .before .before .before .before in
     let at-found = at-if1 .before .before in
@@ -94,55 +108,7 @@ returns c =
     let at-least = at-scan .before .before .before .before .before .before .before .before in
     let at-clear = at-least .before .before .before in
     let start = at-clear .before .before .before .before .before in
-    says-tree (at-scan .scan .last .1 .1 .1 .1 .1 .1 .0) (at-scan .scan .last .1 .1 .1 .1 .1 .1 .1 .0) (at-scan .scan .last .1 .1 .1 .1 .1 .1 .1 .1 .0) (at-scan .scan .result) (readingIn (start .args .text .now) (start .args .elements .now) (elementsIn (start .args .elements .now) (start .args .count))) (told (at-scan .scan .result) (at-scan .scan .last .1 .1 .1 .1 .1 .1 .0) (at-scan .scan .last .1 .1 .1 .1 .1 .1 .1 .0) (at-scan .scan .last .1 .1 .1 .1 .1 .1 .1 .1 .0) (start .args .text .now) (start .args .elements .now) (at-least .least .result) (start .args .count) (at-least .least .ensures) (at-scan .scan .ensures)) (at-found .found .given .0 .0) (length (start .args .tree .now)) (at-clear .clear .last .0) (at-write-out .write-out .last .1 .1 .1 .1 .0) (at-found .found .given .1) (omega (arith, at-if1 .if1 .taken, at-clear .clear .kept .0)) (at-clear .clear .ensures) (at-write-out .write-out .ensures)
-
-same-length-2 : tie.Need-same-length-2
-same-length-2 c = search needs
-
-returns-2 : tie.Need-returns-2
-returns-2 c =
-    let at-found = c .before .before in
-    let at-scan = at-found .before .before .before .before .before .before .before in
-    let at-least = at-scan .before .before .before .before .before .before .before .before in
-    let at-clear = at-least .before .before .before in
-    let start = at-clear .before .before .before .before .before in
-    rooms _ (at-clear .clear .last .0) _ _ (readingIn (start .args .text .now) (start .args .elements .now) (elementsIn (start .args .elements .now) (start .args .count))) (at-clear .clear .kept .0) (says-short (at-scan .scan .last .1 .1 .1 .1 .1 .1 .0) (at-scan .scan .last .1 .1 .1 .1 .1 .1 .1 .0) (at-scan .scan .last .1 .1 .1 .1 .1 .1 .1 .1 .0) (at-scan .scan .result) (readingIn (start .args .text .now) (start .args .elements .now) (elementsIn (start .args .elements .now) (start .args .count))) (told (at-scan .scan .result) (at-scan .scan .last .1 .1 .1 .1 .1 .1 .0) (at-scan .scan .last .1 .1 .1 .1 .1 .1 .1 .0) (at-scan .scan .last .1 .1 .1 .1 .1 .1 .1 .1 .0) (start .args .text .now) (start .args .elements .now) (at-least .least .result) (start .args .count) (at-least .least .ensures) (at-scan .scan .ensures)) (at-found .found .given .0 .0) (length (at-clear .clear .last .0)) (at-clear .clear .last .0) (at-found .found .given .1) (c .if1 .left) (at-clear .clear .ensures ∙ ap zeros (sym (at-clear .clear .kept .0))))
-
-same-length-3 : tie.Need-same-length-3
-same-length-3 c = search needs
-
-returns-3 : tie.Need-returns-3
-returns-3 c =
-    let at-found2 = c .before in
-    let at-scan = at-found2 .before .before .before .before .before .before .before in
-    let at-least = at-scan .before .before .before .before .before .before .before .before in
-    let at-clear = at-least .before .before .before in
-    let start = at-clear .before .before .before .before .before in
-    says-wrong (at-scan .scan .last .1 .1 .1 .1 .1 .1 .0) (at-scan .scan .last .1 .1 .1 .1 .1 .1 .1 .0) (at-scan .scan .last .1 .1 .1 .1 .1 .1 .1 .1 .0) (at-scan .scan .result) (readingIn (start .args .text .now) (start .args .elements .now) (elementsIn (start .args .elements .now) (start .args .count))) (told (at-scan .scan .result) (at-scan .scan .last .1 .1 .1 .1 .1 .1 .0) (at-scan .scan .last .1 .1 .1 .1 .1 .1 .1 .0) (at-scan .scan .last .1 .1 .1 .1 .1 .1 .1 .1 .0) (start .args .text .now) (start .args .elements .now) (at-least .least .result) (start .args .count) (at-least .least .ensures) (at-scan .scan .ensures)) (at-found2 .found2 .given .0 .0) (length (start .args .tree .now)) (at-clear .clear .last .0) (at-found2 .found2 .given .1) (at-clear .clear .ensures)
-
-same-length-4 : tie.Need-same-length-4
-same-length-4 c = search needs
-
-returns-4 : tie.Need-returns-4
-returns-4 c =
-    let at-found3 = c .before in
-    let at-scan = at-found3 .before .before .before .before .before .before .before in
-    let at-least = at-scan .before .before .before .before .before .before .before .before in
-    let at-clear = at-least .before .before .before in
-    let start = at-clear .before .before .before .before .before in
-    says-other (at-scan .scan .last .1 .1 .1 .1 .1 .1 .0) (at-scan .scan .last .1 .1 .1 .1 .1 .1 .1 .0) (at-scan .scan .last .1 .1 .1 .1 .1 .1 .1 .1 .0) (at-scan .scan .result) (readingIn (start .args .text .now) (start .args .elements .now) (elementsIn (start .args .elements .now) (start .args .count))) (told (at-scan .scan .result) (at-scan .scan .last .1 .1 .1 .1 .1 .1 .0) (at-scan .scan .last .1 .1 .1 .1 .1 .1 .1 .0) (at-scan .scan .last .1 .1 .1 .1 .1 .1 .1 .1 .0) (start .args .text .now) (start .args .elements .now) (at-least .least .result) (start .args .count) (at-least .least .ensures) (at-scan .scan .ensures)) (at-found3 .found3 .given .0 .0) (length (start .args .tree .now)) (at-clear .clear .last .0) (at-found3 .found3 .given .1) (at-clear .clear .ensures)
-
-same-length-5 : tie.Need-same-length-5
-same-length-5 c = search needs
-
-returns-5 : tie.Need-returns-5
-returns-5 c =
-    let at-found4 = c .before in
-    let at-scan = at-found4 .before .before .before .before .before .before .before in
-    let at-least = at-scan .before .before .before .before .before .before .before .before in
-    let at-clear = at-least .before .before .before in
-    let start = at-clear .before .before .before .before .before in
-    says-over (at-scan .scan .last .1 .1 .1 .1 .1 .1 .0) (at-scan .scan .last .1 .1 .1 .1 .1 .1 .1 .0) (at-scan .scan .last .1 .1 .1 .1 .1 .1 .1 .1 .0) (at-scan .scan .result) (readingIn (start .args .text .now) (start .args .elements .now) (elementsIn (start .args .elements .now) (start .args .count))) (told (at-scan .scan .result) (at-scan .scan .last .1 .1 .1 .1 .1 .1 .0) (at-scan .scan .last .1 .1 .1 .1 .1 .1 .1 .0) (at-scan .scan .last .1 .1 .1 .1 .1 .1 .1 .1 .0) (start .args .text .now) (start .args .elements .now) (at-least .least .result) (start .args .count) (at-least .least .ensures) (at-scan .scan .ensures)) (at-found4 .found4 .given .0 .0) (length (start .args .tree .now)) (at-clear .clear .last .0) (at-found4 .found4 .given .1) (at-clear .clear .ensures)
+    says-tree (at-scan .scan .last .1 .1 .1 .1 .1 .1 .0) (at-scan .scan .last .1 .1 .1 .1 .1 .1 .1 .0) (at-scan .scan .last .1 .1 .1 .1 .1 .1 .1 .1 .0) (at-scan .scan .result) (readingIn (start .args .text .now) (start .args .elements .now) (elementsIn (start .args .elements .now) (start .args .count))) (told (at-scan .scan .result) (at-scan .scan .last .1 .1 .1 .1 .1 .1 .0) (at-scan .scan .last .1 .1 .1 .1 .1 .1 .1 .0) (at-scan .scan .last .1 .1 .1 .1 .1 .1 .1 .1 .0) (start .args .text .now) (start .args .elements .now) (at-least .least .result) (start .args .count) (at-least .least .ensures) (at-scan .scan .ensures)) (at-found .found .given .0 .0) (length (start .args .tree .now)) (at-clear .clear .last .0) (at-write-out .write-out .last .1 .1 .1 .1 .0) (at-found .found .given .1) (omega (arith, at-if1 .if1 .left, at-clear .clear .kept .0)) (at-clear .clear .ensures) (at-write-out .write-out .ensures)
 
 pub read-tree-spec : {M : Type 1} → statement M
 read-tree-spec =
@@ -159,20 +125,14 @@ read-tree-spec =
     slice-aggregate-scan-6
     scan-requires
     enum-known-found
-    slice-aggregate-write-out
-    slice-aggregate-write-out-2
-    slice-aggregate-write-out-3
-    write-out-requires
-    enum-known-found-2
-    enum-known-found-3
-    enum-known-found-4
+    answered-requires
     same-length
     returns
     same-length-2
     returns-2
+    slice-aggregate-write-out
+    slice-aggregate-write-out-2
+    slice-aggregate-write-out-3
+    write-out-requires
     same-length-3
-    returns-3
-    same-length-4
-    returns-4
-    same-length-5
-    returns-5)
+    returns-3)
