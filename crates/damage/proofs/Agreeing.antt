@@ -24,7 +24,7 @@ use Rattle.tree.specs.Items.{unlike, readingBy, readingOfPiece, rowsRead, rowsO
 use Rattle.folding.specs.declared.Outcome.{Outcome}
 use Rattle.operands.specs.Operands.{literalBy}
 use Rattle.folds.specs.Expressions.{behind, rowOutcome, outcomeIn, outcomeOf}
-use Rattle.items.specs.Items.{anyDown}
+use Rattle.pieces.specs.Kinds.{anyDown}
 use Rattle.records.specs.Records.{isClaim}
 use Rattle.marks.specs.Marks.{operandOf, constantOf, rangedOf}
 use Rattle.values.specs.declared.Value.{Value}

@@ -1,7 +1,7 @@
 -- The third demand over the item tables: a table begins with the text's records. Assumes nothing.
 use mathlib.Core.Path.{_≡_, sym, ap, _∙_}
 use mathlib.Core.List.{List, _++_}
-use Prim.Native.Nat.{ℕ, _-_, _*_, _≤_}
+use Prim.Native.Nat.{ℕ, _-_, _*_}
 use lib.ListN.{length, replicate}
 use Rattle.records.specs.Records.{wordAt}
 use Rattle.worded.specs.Elements.{piecesOf}

@@ -10,14 +10,14 @@ use native.Mathlib.Omega.{arith}
 use borrow.Author.Tests.{ltb-true, ltb-false}
 use lib.Dec.{T, ltb}
 use lib.ListN.{length}
-use Rattle.reading.specs.Rows.{linesOf, rowsOf}
+use Rattle.reading.specs.Rows.{rowsOf}
 use Rattle.reading.specs.Promises.{Inside, Ended}
 use Rattle.pieces.specs.Cutting.{cut}
 use Rattle.pieces.proofs.Cutting.{Edge}
 use Rattle.damage.specs.Places.{In, Placed, placedRows, placedLines, placedIn, Part, closesPart, opensPart, partsOf, SameEach, PieceOf}
 use Rattle.damage.specs.Damage.{OneLine, lineNumber, NoneOf, Has, ClosedAbove, OpenedBelow, AlwaysCommon}
 use Rattle.damage.proofs.Order.{in-left, in-right, in-either, in-split, in-middle, Rising, ordered}
-use Rattle.damage.proofs.Lines.{Before, before-never, before-both, Lying, lying-append, lying-wider, rows-lying, lines-lying, lines-append, Whole, whole, linesBehind, line-apart}
+use Rattle.damage.proofs.Lines.{Before, before-never, before-both, Lying, lying-append, lying-wider, lines-lying, lines-append, Whole, whole, linesBehind, line-apart}
 use Rattle.damage.proofs.Cuts.{joinAll, Lone, lone-piece, Stands, piece-stands}
 
 lying-in : (m n : ℕ) (x : Placed) (p : Part) → Lying m n p → In x p → (m ≤ x .line) × (x .line < n)

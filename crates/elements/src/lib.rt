@@ -7,9 +7,9 @@ ghost use mathlib.Core.Path.{_≡_};
 ghost use mathlib.Core.Bool.{_||_};
 ghost use Prim.Native.Nat.{_<_};
 ghost use lib.Dec.{eqb};
-ghost use lib.ListN.{length, drop};
+ghost use lib.ListN.{length};
 ghost use Rattle.elements.specs.Kinds.{kindNumber, ticksAfter};
-ghost use Rattle.elements.specs.Element.{unreadable, identifier, word, extended, followsNone, numeral, string, apostrophe, single, delimiter, other, opensOf, elementAt};
+ghost use Rattle.elements.specs.Element.{unreadable, word, extended, followsNone, numeral, string, apostrophe, single, delimiter, other, opensOf, elementAt};
 
 pub enum Literal {
     Integer,

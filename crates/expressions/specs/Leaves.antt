@@ -3,7 +3,6 @@ use Prim.Native.Nat.{ℕ}
 use mathlib.Core.Bool.{Bool}
 use mathlib.Core.List.{List}
 use lib.IntN.{ℤ}
-use Rattle.integers.specs.declared.Folded.{Folded}
 use Rattle.integers.specs.declared.Folded.the-variants.{Whole, Truth, Stopped}
 use Rattle.folding.specs.declared.Sort.the-variants.{Number, Boolean, Wrong}
 use Rattle.folding.specs.declared.Outcome.{Outcome}

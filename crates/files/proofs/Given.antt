@@ -1,26 +1,22 @@
 -- What the search for an unreadable element says of the text: each answer has its description, and what is described is answered. Assumes
 -- nothing.
-use Prim.Native.Nat.{ℕ, zero, suc, _+_, _-_, _*_, _/_, _<_}
-use mathlib.Core.Path.{_≡_, refl, sym, ap, _∙_, subst}
+use Prim.Native.Nat.{ℕ, zero, suc, _+_, _-_, _*_, _<_}
+use mathlib.Core.Path.{_≡_, refl, ap, subst}
 use mathlib.Core.Bool.{Bool, true, false}
 use mathlib.Core.List.{List, [], _∷_, _++_}
 use native.Mathlib.Omega.{arith}
 use native.Mathlib.Nat.{lt-of-not-le}
-use borrow.Author.Tests.{lt-ltb, le-ltb, ltb-true, ltb-false, eqb-true, eq-eqb}
-use lib.Dec.{ltb, eqb}
+use borrow.Author.Tests.{eqb-true, eq-eqb}
+use lib.Dec.{eqb}
 use lib.ListN.{length, replicate}
-use Rattle.classes.proofs.Laws.{by-test}
 use Rattle.places.specs.Places.{rowWords, kindsOf}
 use Rattle.elements.specs.declared.Kind.{Kind}
 use Rattle.elements.specs.declared.Literal.{Literal}
 use Rattle.elements.specs.Kinds.{kindNumber}
 use Rattle.reading.specs.Rows.{Row, rowsOf}
 use Rattle.reading.specs.Table.{cells}
-use Rattle.reading.specs.Reading.{readingOf, tableOf}
-use Rattle.reading.specs.declared.Reading.{Reading}
+use Rattle.reading.specs.Reading.{tableOf}
 use Rattle.reading.specs.declared.Reading.the-variants as R
-use Rattle.refusals.specs.declared.Refusal.{Refusal}
-use Rattle.refusals.specs.declared.Refusal.the-variants.{TextTooLong, TooManyElements, TableShort}
 use Rattle.reading.specs.Given.{count, Taken}
 use Rattle.reading.proofs.Answers.{taken-read, table-read, table-length}
 use Rattle.tree.specs.Answers.{elementsIn}

@@ -1,14 +1,11 @@
 -- The ways of the strict reading, in the code's terms: each premise is what a call or a match gives. Assumes nothing.
-use mathlib.Core.Path.{_≡_, refl, sym, ap, _∙_}
-use mathlib.Core.List.{List, [], _∷_}
-use Prim.Native.Nat.{ℕ, zero, suc, _+_, _*_, _≤_, _<_}
-use native.Mathlib.Nat.{not-suc-le-zero, le-of-suc-le-suc}
+use mathlib.Core.Path.{_≡_, sym, ap, _∙_}
+use mathlib.Core.List.{List, _∷_}
+use Prim.Native.Nat.{ℕ, suc, _+_, _*_, _≤_, _<_}
 use native.Mathlib.Numerals.{add-one}
-use native.Mathlib.Omega.{arith}
-use borrow.Author.Tests.{eq-eqb, ne-eqb, lt-ltb}
-use lib.ListN.{length, getD, drop, replicate, length-replicate}
-use lib.Seq.{getD-drop}
-use Rattle.places.specs.Places.{rowWords, rowsIn, cellAt, kindsOf}
+use borrow.Author.Tests.{eq-eqb, ne-eqb}
+use lib.ListN.{length, drop, replicate, length-replicate}
+use Rattle.places.specs.Places.{rowWords, cellAt, kindsOf}
 use Rattle.places.proofs.Laws.{kinds-from, kinds-end}
 use Rattle.reading.specs.Reading.{readingOf}
 use Rattle.reading.proofs.Answers.{table-refused}

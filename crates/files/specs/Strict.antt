@@ -1,7 +1,7 @@
 -- What the strict reading of a text answers, given how many words the two lent tables have, and what they hold then: 01's "Refusals and
 -- their order", of which 1 to 8 concern it. Assumes nothing: these are definitions.
 use Prim.Native.Nat.{ℕ, suc}
-use mathlib.Core.Bool.{Bool, true, false}
+use mathlib.Core.Bool.{true, false}
 use mathlib.Core.List.{List, [], _∷_}
 use lib.Dec.{eqb}
 use lib.ListN.{length, replicate}
@@ -17,7 +17,6 @@ use Rattle.tree.specs.declared.Answer.the-variants as A
 use Rattle.verdict.specs.Verdict.{verdictOf}
 use Rattle.files.specs.declared.Unread.{Unread}
 use Rattle.files.specs.declared.Unread.the-variants as U
-use Rattle.refusals.specs.declared.StrictRefusal.{StrictRefusal}
 use Rattle.refusals.specs.declared.StrictRefusal.the-variants as S
 use Rattle.files.specs.declared.Strict.{Strict}
 use Rattle.files.specs.declared.Strict.the-variants.{Read, Refused}

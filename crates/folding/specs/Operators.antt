@@ -1,6 +1,5 @@
 -- The operators on folded operands: "The folded result of an expression is an integer, a truth, or the state that stopped it." Where an
 -- operand carries a state, the first one met stands: "left operand, right operand, operator". Assumes nothing.
-use Prim.Native.Nat.{ℕ}
 use mathlib.Core.Bool.{Bool, true, false, cond, not, _&&_, _||_}
 use lib.IntN.{ℤ, pos, natAbs, negℤ}
 use lib.Signed.{ltZ, leZ}

@@ -3,7 +3,6 @@ use integers::Arithmetic;
 use integers::Folded;
 ghost use mathlib.Core.Path.{_≡_};
 ghost use Prim.Native.Nat.{min};
-ghost use lib.IntN.{ℤ};
 ghost use Rattle.folding.specs.Operators.{relationOf, placeOf, logicOf, decides, onWholes, onTruths, afterWhole, afterTruth, shortCircuit, besideTruth, binaryOf, signOf, notOf, unaryOf};
 ghost use Rattle.folding.specs.Outcomes.{numberSort, booleanSort, wrongSort, sortOf, signSort, combinedOf, signedOf, settledOf};
 

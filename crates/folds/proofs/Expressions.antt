@@ -1,17 +1,13 @@
 -- An expression's outcome: as many rows as there are suffice, one row is taken at a time, and only what its names, literals and kinds come to
 -- counts. Assumes nothing.
-use mathlib.Core.Path.{_≡_, refl, sym, ap, ap₂, _∙_}
-use mathlib.Core.Bool.{cond}
+use mathlib.Core.Path.{_≡_, refl, ap, ap₂, _∙_}
 use mathlib.Core.List.{List, [], _∷_}
-use Prim.Native.Nat.{ℕ, zero, suc, _-_, _≤_}
+use Prim.Native.Nat.{ℕ, zero, suc, _≤_}
 use native.Mathlib.Omega.{arith}
-use lib.Dec.{eqb}
-use lib.ListN.{length, drop, length-drop}
+use lib.ListN.{length, length-drop}
 use Rattle.forms.specs.Tree.{Row}
-use Rattle.folding.specs.Outcomes.{combinedOf, signedOf}
 use Rattle.folding.specs.declared.Outcome.{Outcome}
 use Rattle.expressions.specs.Leaves.{wrongLeaf}
-use Rattle.operands.specs.Operands.{operatorOf, signOf}
 use Rattle.folds.specs.Expressions.{behind, rowOutcome, outcomeIn, outcomeOf}
 
 behind-less : (rs : List Row) → length (behind rs) ≤ length rs

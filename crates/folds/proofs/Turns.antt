@@ -1,18 +1,17 @@
 -- The turns of the walk from the last row to the first, in the code's terms: each premise is what a call or a test gives. Assumes nothing.
 use mathlib.Core.Path.{_≡_, refl, sym, ap, ap₂, _∙_}
 use mathlib.Core.Bool.{Bool, true, false}
-use mathlib.Core.List.{List, [], _∷_}
-use Prim.Native.Nat.{ℕ, zero, suc, _+_, _-_, _*_, _/_, _≤_, _<_, min}
+use mathlib.Core.List.{List, []}
+use Prim.Native.Nat.{ℕ, suc, _+_, _-_, _*_, _/_, _≤_, _<_, min}
 use native.Mathlib.Omega.{arith}
 use native.Mathlib.Numerals.{add-one}
-use borrow.Author.Tests.{eq-eqb, ne-eqb, eqb-true, eqb-false, lt-ltb, le-ltb, ltb-true, ltb-false}
+use borrow.Author.Tests.{ne-eqb, eqb-true, eqb-false, lt-ltb, le-ltb, ltb-true, ltb-false}
 use lib.Dec.{eqb, ltb}
 use lib.ListN.{length, getD, drop, set, drop-of-length-le, length-set}
 use lib.Seq.{drop-drop, getD-set-same, getD-set-other}
 use Rattle.places.specs.Places.{cellAt}
 use Rattle.places.specs.Places as places
 use Rattle.records.specs.Records.{wordAt}
-use Rattle.forms.specs.Tree.{Row}
 use Rattle.integers.specs.declared.Folded.{Folded}
 use Rattle.folding.specs.declared.Sort.{Sort}
 use Rattle.folding.specs.declared.Sign.{Sign}
@@ -24,7 +23,7 @@ use Rattle.operands.specs.Operands.{operatorOf, signOf, literalIn}
 use Rattle.marks.specs.Marks.{operandOf}
 use Rattle.values.specs.declared.Value.{Value}
 use Rattle.uses.specs.Uses.{useIn}
-use Rattle.folds.specs.Expressions.{behind, rowOutcome, outcomeOf}
+use Rattle.folds.specs.Expressions.{behind, rowOutcome}
 use Rattle.forms.specs.Words.{rowAt}
 use Rattle.folds.specs.Rows.{rowsIn}
 use Rattle.folds.specs.Stored.{sortBy, foldedKind, foldedBy, unpacked, storedAt}

@@ -3,7 +3,7 @@
 use Prim.Native.Nat.{ℕ, zero, suc, _+_, _-_, _≤_, _<_}
 use mathlib.Core.Path.{_≡_, refl, sym, _∙_, ap, subst}
 use mathlib.Core.Logic.{_⊎_, inl, inr, ⊎-elim}
-use mathlib.Core.Bool.{Bool, true, false}
+use mathlib.Core.Bool.{Bool, true, false, cond}
 use mathlib.Core.List.{List, [], _∷_}
 use native.Mathlib.Omega.{arith}
 use lib.Dec.{ltb}
@@ -13,7 +13,7 @@ use Rattle.ll.specs.Actions.{go, stop, End, read, bad, stopped, spent}
 use Rattle.ll.proofs.Trail.{Trail, whole, more, other, none, refuses, eats, acts, grows}
 use Rattle.forms.specs.Names.{file}
 use Rattle.forms.specs.Rules.{forms}
-use Rattle.forms.specs.Tree.{Frame, State, Refusal, name-differs, too-deep, fresh, top, onTop, joined, marked, rowed, pickStep, isNamed, does}
+use Rattle.forms.specs.Tree.{Frame, State, Refusal, name-differs, too-deep, fresh, top, onTop, joined, marked, rowed, isNamed, does}
 use Rattle.forms.specs.Tree as machine
 use Rattle.forms.specs.Reading.{readingOf}
 use Rattle.forms.specs.Closing.{Closed, nothing, named, Walk, walked, walkOver, unwalked, closedBy, closesAt}
@@ -65,7 +65,7 @@ module _ (alike : ℕ → ℕ → Bool) (k : ℕ) (s t : State) (x : Walk) (r : 
   of : (u : State) → u ≡ t → (l : List ℕ) → namesIn (u .frames) ≡ l → namesIn (t .frames) ≡ l
   of u e l h = ap (λ (y : State). namesIn (y .frames)) (sym e) ∙ h
 
-  compared : (b : Bool) → isNamed alike (top (s .frames) .name) (k - 1) ≡ b → pickStep b (go s) (stop name-differs) ≡ go t → r ≡ named g → Good x nothing g G α → Goes
+  compared : (b : Bool) → isNamed alike (top (s .frames) .name) (k - 1) ≡ b → cond b (go s) (stop name-differs) ≡ go t → r ≡ named g → Good x nothing g G α → Goes
   compared true q e n h =
       let z : s ≡ t = cc in
       to g G h (of s z (g ∷ G) are)
@@ -74,7 +74,7 @@ module _ (alike : ℕ → ℕ → Bool) (k : ℕ) (s t : State) (x : Walk) (r : 
       ap (λ (m : ℕ). isNamed alike m (k - 1)) (sym i ∙ sym (top-name (s .frames) g G are)) ∙ q)
   compared false q e n h = let z : _≡_ {A = ℕ} 0 1 = cc in clash z
 
-  deeper : (b : Bool) → pickStep b (go (record { frames = s .frames; depth = s .depth + 1 })) (stop too-deep) ≡ go t → namesIn (t .frames) ≡ g ∷ G
+  deeper : (b : Bool) → cond b (go (record { frames = s .frames; depth = s .depth + 1 })) (stop too-deep) ≡ go t → namesIn (t .frames) ≡ g ∷ G
   deeper true e = of (record { frames = s .frames; depth = s .depth + 1 }) (cc) (g ∷ G) are
   deeper false e = let z : _≡_ {A = ℕ} 0 1 = cc in clash z
 
@@ -97,7 +97,7 @@ module _ (alike : ℕ → ℕ → Bool) (k : ℕ) (s t : State) (x : Walk) (r : 
   goes-on (suc (suc (suc (suc (suc (suc (suc n))))))) e h =
       to g G (h .1) (of (record { frames = onTop (rowed n k) (s .frames); depth = s .depth }) (cc) (g ∷ G) (kept-names (rowed n k) (s .frames) (λ f. refl) ∙ are)) (plainly (h .0))
 
-  differing : (b : Bool) → isNamed alike (top (s .frames) .name) (k - 1) ≡ b → pickStep b (go s) (stop name-differs) ≡ stop name-differs → isNamed alike g (k - 1) ≡ false
+  differing : (b : Bool) → isNamed alike (top (s .frames) .name) (k - 1) ≡ b → cond b (go s) (stop name-differs) ≡ stop name-differs → isNamed alike g (k - 1) ≡ false
   differing true q e = let z : _≡_ {A = ℕ} 0 1 = cc in clash z
   differing false q e = ap (λ (m : ℕ). isNamed alike m (k - 1)) (sym (top-name (s .frames) g G are)) ∙ q
 

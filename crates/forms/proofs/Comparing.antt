@@ -2,7 +2,7 @@
 use Prim.Native.Nat.{ℕ, zero, suc, _-_, _<_}
 use mathlib.Core.Path.{_≡_, refl, sym, _∙_, ap, subst}
 use mathlib.Core.Logic.{⊎-elim}
-use mathlib.Core.Bool.{Bool, true, false, _&&_, _||_}
+use mathlib.Core.Bool.{Bool, true, false, _&&_, _||_, cond}
 use mathlib.Core.List.{List, [], _∷_, _++_}
 use native.Mathlib.Omega.{arith}
 use lib.Dec.{T, eqb, eqb→eq}
@@ -14,7 +14,7 @@ use Rattle.ll.proofs.Check.{every, every-at}
 use Rattle.forms.specs.Kinds.{colon}
 use Rattle.forms.specs.Rules.{forms, body}
 use Rattle.forms.specs.Open.{among}
-use Rattle.forms.specs.Closing.{Closed, nothing, named, Walk, pickNumber, pickNames, pickClosed, innermost, around, isNothing, unitWords, isIdentifier, isEnd, behindUnit, opensOne, behindEnd, labelOf, namesAfter, endsAfter, walked, closedBy}
+use Rattle.forms.specs.Closing.{Closed, nothing, named, Walk, innermost, around, isNothing, unitWords, isIdentifier, isEnd, behindUnit, opensOne, behindEnd, labelOf, namesAfter, endsAfter, walked, closedBy}
 use Rattle.forms.proofs.Hints as hints
 use Rattle.forms.proofs.Telling.{Ends, clear, frame, any, Known, unknown, unnamed, just, labels, pushed, owns, Out, kept, labelling, lost, pickBool, pickEnds, pickKnown, before, null, after, endsIn, endsOut, knownIn, outOf, EndsIs, KnownIs, OutIs, Leaves, Good, sameBool, same-bool, isFalse, headOf, isClear, isFrame, isTold, isPushed, onward, through, stays, noColon, opened, ended, fitsEnds, fitsKnown, isLabels, fitsOut, stillKept, sure, lower, asks, may, namesOk, rules-close}
 
@@ -53,7 +53,7 @@ onward-is any c g g′ h = tt
 
 no-label : (x : Walk) (S : List ℕ) → T (mem (x .last) S) → T (noColon S) → labelOf (x .last) (x .count) ≡ 0
 no-label x S m h =
-    ap (λ (b : Bool). pickNumber b (x .count - 1) 0) (same-bool (among (x .last) (colon ∷ [])) false (every-at (λ p. isFalse (among p (colon ∷ []))) S h (x .last) m))
+    ap (λ (b : Bool). cond b (x .count - 1) 0) (same-bool (among (x .last) (colon ∷ [])) false (every-at (λ p. isFalse (among p (colon ∷ []))) S h (x .last) m))
 
 known-fit : (S : List ℕ) (w i : Known) (x : Walk) (g : ℕ) → T (mem (x .last) S) → T (fitsKnown S w i) → KnownIs i x g → KnownIs w x g
 known-fit S unknown i x g m t h = tt
@@ -145,19 +145,19 @@ module _ (x : Walk) (a g : ℕ) (S : List ℕ) (e : Ends) (i : Known) (at : T (m
   asked-next : Asks (asks a e) (closedBy x a) g
   asked-next = by (isIdentifier a) e end told
     where
-      by : (c : Bool) (e : Ends) → EndsIs e (x .ends) g → T (isFalse c || isTold e) → Asks (c && isFrame e) (pickClosed c (x .ends) nothing) g
+      by : (c : Bool) (e : Ends) → EndsIs e (x .ends) g → T (isFalse c || isTold e) → Asks (c && isFrame e) (cond c (x .ends) nothing) g
       by false e h t = refl
       by true clear h t = h
       by true frame h t = h
       by true any h t = absurd t
 
   names-is : (E U O : Bool) → isEnd a ≡ E → behindUnit (x .last) a && isNothing (x .ends) ≡ U → opensOne (x .last) a ≡ O
-      → namesAfter x a ≡ pickNames E (around (x .names)) (pickNames U (suc (x .count) ∷ x .names) (pickNames O (labelOf (x .last) (x .count) ∷ x .names) (x .names)))
+      → namesAfter x a ≡ cond E (around (x .names)) (cond U (suc (x .count) ∷ x .names) (cond O (labelOf (x .last) (x .count) ∷ x .names) (x .names)))
   names-is E U O p q r = cc
 
   end-next : isEnd a ≡ true → EndsIs (ended i) (endsAfter x a) g
   end-next h =
-      subst (λ (c : Closed). EndsIs (ended i) c g) (sym (ap (λ (b : Bool). pickClosed b (named (innermost (x .names))) (pickClosed (behindEnd (x .last) a) (x .ends) nothing)) h)) (by i known)
+      subst (λ (c : Closed). EndsIs (ended i) c g) (sym (ap (λ (b : Bool). cond b (named (innermost (x .names))) (cond (behindEnd (x .last) a) (x .ends) nothing)) h)) (by i known)
     where
       by : (i : Known) → KnownIs i x g → EndsIs (ended i) (named (innermost (x .names))) g
       by unknown h = tt
@@ -170,10 +170,10 @@ module _ (x : Walk) (a g : ℕ) (S : List ℕ) (e : Ends) (i : Known) (at : T (m
   else-next : isEnd a ≡ false → EndsIs (pickEnds (behindEnd (headOf S) a) e clear) (endsAfter x a) g
   else-next h =
       subst (λ (c : Closed). EndsIs (pickEnds (behindEnd (headOf S) a) e clear) c g)
-      (sym (ap (λ (b : Bool). pickClosed b (named (innermost (x .names))) (pickClosed (behindEnd (x .last) a) (x .ends) nothing)) h))
-      (subst (λ (b : Bool). EndsIs (pickEnds b e clear) (pickClosed (behindEnd (x .last) a) (x .ends) nothing) g) end-is (by (behindEnd (x .last) a)))
+      (sym (ap (λ (b : Bool). cond b (named (innermost (x .names))) (cond (behindEnd (x .last) a) (x .ends) nothing)) h))
+      (subst (λ (b : Bool). EndsIs (pickEnds b e clear) (cond (behindEnd (x .last) a) (x .ends) nothing) g) end-is (by (behindEnd (x .last) a)))
     where
-      by : (b : Bool) → EndsIs (pickEnds b e clear) (pickClosed b (x .ends) nothing) g
+      by : (b : Bool) → EndsIs (pickEnds b e clear) (cond b (x .ends) nothing) g
       by true = end
       by false = refl
 
@@ -198,7 +198,7 @@ module _ (x : Walk) (a g : ℕ) (S : List ℕ) (e : Ends) (i : Known) (at : T (m
       label-next : (b : Bool) → among a (colon ∷ []) ≡ b → g ≡ x .count → KnownIs (pickKnown b labels unknown) (walked x a) g
       label-next true q z =
           let y : x .count ≡ suc (x .count) - 1 = omega arith in
-          z ∙ y ∙ sym (ap (λ (c : Bool). pickNumber c (suc (x .count) - 1) 0) q)
+          z ∙ y ∙ sym (ap (λ (c : Bool). cond c (suc (x .count) - 1) 0) q)
       label-next false q z = tt
 
       by : (i : Known) → KnownIs i x g → KnownIs (stays a i) (walked x a) g

@@ -1,7 +1,7 @@
 -- A reading's rows are a forest within its elements: every action keeps the rows of each open frame one. Assumes nothing.
 use Prim.Native.Nat.{ℕ, zero, suc, _+_, _-_, _≤_}
 use mathlib.Core.Path.{_≡_, refl, sym, _∙_, ap, subst}
-use mathlib.Core.Bool.{Bool, true, false}
+use mathlib.Core.Bool.{Bool, true, false, cond}
 use mathlib.Core.List.{List, [], _∷_, _++_, append-assoc, append-nil}
 use native.Mathlib.Omega.{arith}
 use lib.Dec.{ltb}
@@ -9,7 +9,7 @@ use lib.ListN.{length}
 use Rattle.ll.specs.Grammar.{Sym, nt}
 use Rattle.ll.specs.Actions.{go, stop, Reads, done, eat, acts, grow}
 use Rattle.forms.specs.Rules.{forms}
-use Rattle.forms.specs.Tree.{Row, Frame, State, Refusal, name-differs, too-deep, fresh, top, onTop, joined, marked, named, rowOf, rowed, pickStep, does, start, isNamed, rowsOf, Reading}
+use Rattle.forms.specs.Tree.{Row, Frame, State, Refusal, name-differs, too-deep, fresh, top, onTop, joined, marked, named, rowOf, rowed, does, start, isNamed, rowsOf, Reading}
 use Rattle.forms.specs.Forest.{Forest, bare, tree}
 use Rattle.forms.proofs.Nesting.{Nested, nested-eat, nested-act, nested-grow, nested-from, frame-left}
 
@@ -62,11 +62,11 @@ over n k f h =
     tree {lo = f .first} {hi = k} {r = rowOf n k f} (omega arith) (forest-more (f .first + (k - f .first)) h (omega arith)) refl (bare {lo = f .first + (k - f .first)} {hi = k} (omega arith)) (append-nil (f .rows))
 
 module _ (alike : ℕ → ℕ → Bool) (k : ℕ) (s t : State) where
-  same-name : (b : Bool) → pickStep b (go s) (stop name-differs) ≡ go t → s ≡ t
+  same-name : (b : Bool) → cond b (go s) (stop name-differs) ≡ go t → s ≡ t
   same-name true e = cc
   same-name false e = let z : _≡_ {A = ℕ} 0 1 = cc in clash z
 
-  one-deeper : (b : Bool) → pickStep b (go (record { frames = s .frames; depth = s .depth + 1 })) (stop too-deep) ≡ go t → s .frames ≡ t .frames
+  one-deeper : (b : Bool) → cond b (go (record { frames = s .frames; depth = s .depth + 1 })) (stop too-deep) ≡ go t → s .frames ≡ t .frames
   one-deeper true e = let z : _≡_ {A = State} (record { frames = s .frames; depth = s .depth + 1 }) t = cc in ap (λ (x : State). x .frames) z
   one-deeper false e = let z : _≡_ {A = ℕ} 0 1 = cc in clash z
 

@@ -4,13 +4,14 @@ use Prim.Native.Nat.{ℕ, zero, suc, _+_, _-_, _≤_, _<_}
 use mathlib.Core.Path.{_≡_, refl, sym, _∙_, ap, subst}
 use mathlib.Core.Logic.{inl, inr, ⊎-elim}
 use mathlib.Core.List.{List, [], _∷_, _++_}
-use mathlib.Core.Bool.{Bool, true, false, not, _&&_}
+use mathlib.Core.Bool.{Bool, true, false, not, _&&_, cond}
 use native.Mathlib.Omega.{arith}
 use lib.Dec.{T, eqb, ltb}
 use lib.ListN.{length, length-append}
 use borrow.Author.Tests.{le-leb}
-use Rattle.ll.specs.Grammar.{Sym, tok, nt, act, look, run}
-use Rattle.ll.specs.Actions.{Step, go, stop, Reads, done, eat, acts, grow, End, read, bad, spent, pickEnd, chooseEnd, goOn, runs}
+use Rattle.ll.specs.Grammar.{Sym, tok, nt, act, look}
+use Rattle.ll.proofs.Running.{run}
+use Rattle.ll.specs.Actions.{Step, go, stop, Reads, done, eat, acts, grow, End, read, bad, spent, chooseEnd, goOn, runs}
 use Rattle.ll.proofs.Theory as theory
 use Rattle.ll.proofs.Theory.{mem, and-left, and-right}
 use Rattle.ll.proofs.Check.{below-at, imp, imp-at}
@@ -19,7 +20,7 @@ use Rattle.ll.proofs.Acting as acting
 use Rattle.ll.proofs.Spare.{Fewer, credit, debit, fewer-grow, fewer-done}
 use Rattle.forms.specs.Rules.{forms, body}
 use Rattle.forms.specs.Picks.{predict}
-use Rattle.forms.specs.Tree.{Frame, State, Refusal, name-differs, too-deep, fresh, top, onTop, joined, marked, named, rowed, pickStep, isNamed, does, start}
+use Rattle.forms.specs.Tree.{Frame, State, Refusal, name-differs, too-deep, fresh, top, onTop, joined, marked, named, rowed, isNamed, does, start}
 use Rattle.forms.specs.Reading.{steps, readingFrom}
 use Rattle.forms.specs.Items.{IsItem, ItemReading, ReadsItems, ItemsAnswer, KindsAlone, OneItem, FewerRows}
 use Rattle.forms.proofs.Tests.{tables, forms-ll, weight, leads, steps-paid, isRow, spare, rows-spare}
@@ -118,7 +119,7 @@ module _ (a b : ℕ → ℕ → Bool) where
   same-runs (suc f) [] [] k s q = refl
   same-runs (suc f) [] (t ∷ w) k s q = refl
   same-runs (suc f) (tok x ∷ α) [] k s q = refl
-  same-runs (suc f) (tok x ∷ α) (t ∷ w) k s q = ap (λ (e : End State Refusal). pickEnd (eqb x t) e (bad k)) (same-runs f α w (suc k) s q)
+  same-runs (suc f) (tok x ∷ α) (t ∷ w) k s q = ap (λ (e : End State Refusal). cond (eqb x t) e (bad k)) (same-runs f α w (suc k) s q)
   same-runs (suc f) (act x ∷ α) w k s q =
       ap (λ (z : Step State Refusal). goOn z k (λ t. runs body predict (does a) f α w k t)) (does-quiet a b x k s (and-left (not (eqb x 4)) (quiet α) q))
       ∙ on (does b x k s) (λ t. same-runs f α w k t (and-right (not (eqb x 4)) (quiet α) q))
@@ -175,7 +176,7 @@ rows-rowed : (n k : ℕ) (fs : List Frame) → rowsIn (onTop (rowed n k) fs) ≤
 rows-rowed n k [] = omega arith
 rows-rowed n k (f ∷ fs) = omega arith
 
-picked : (b : Bool) (s t : State) (r : Refusal) (u : State) → pickStep b (go t) (stop r) ≡ go u → t ≡ u
+picked : (b : Bool) (s t : State) (r : Refusal) (u : State) → cond b (go t) (stop r) ≡ go u → t ≡ u
 picked true s t r u e = cc
 picked false s t r u e = let z : _≡_ {A = ℕ} 0 1 = cc in clash z
 

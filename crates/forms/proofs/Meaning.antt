@@ -9,8 +9,8 @@ use native.Mathlib.Omega.{arith}
 use lib.Dec.{T, lit<}
 use lib.ListN.{length, take, drop, take-append-drop}
 use lib.Seq.{take-take}
-use Rattle.ll.specs.Grammar.{Out, good, run}
-use Rattle.ll.specs.Grammar as plain
+use Rattle.ll.proofs.Running.{Out, good, run}
+use Rattle.ll.proofs.Running as plain
 use Rattle.ll.specs.Actions.{End, bad, stopped, spent}
 use Rattle.ll.proofs.Theory as theory
 use Rattle.ll.proofs.Budget as budget

@@ -2,7 +2,7 @@
 -- blocks; a whole reading leaves the file's own frame alone. Assumes nothing.
 use Prim.Native.Nat.{ℕ, zero, suc, _+_, _-_, _≤_, _<_}
 use mathlib.Core.Path.{_≡_, refl, sym as flip, _∙_, ap, subst}
-use mathlib.Core.Bool.{Bool, true, false}
+use mathlib.Core.Bool.{Bool, true, false, cond}
 use mathlib.Core.List.{List, [], _∷_, _++_}
 use native.Mathlib.Omega.{arith}
 use native.Mathlib.Numerals.{add-one}
@@ -14,7 +14,7 @@ use Rattle.ll.specs.Actions.{go, stop, Reads, done, eat, acts, grow}
 use Rattle.ll.proofs.Room as room
 use Rattle.forms.specs.Names.{file}
 use Rattle.forms.specs.Rules.{forms, body}
-use Rattle.forms.specs.Tree.{Frame, State, Refusal, name-differs, too-deep, fresh, top, onTop, joined, marked, named, rowed, pickStep, does, start, isNamed, Reading}
+use Rattle.forms.specs.Tree.{Frame, State, Refusal, name-differs, too-deep, fresh, top, onTop, joined, marked, named, rowed, does, start, isNamed, Reading}
 use Rattle.forms.proofs.Tests as tests
 
 clash : {A : Type 0} → _≡_ {A = ℕ} 0 1 → A
@@ -61,11 +61,11 @@ module _ (alike : ℕ → ℕ → Bool) (k : ℕ) (s t : State) (α : List Sym) 
         most = omega arith;
       }
 
-  same-name : (b : Bool) → pickStep b (go s) (stop name-differs) ≡ go t → s ≡ t
+  same-name : (b : Bool) → cond b (go s) (stop name-differs) ≡ go t → s ≡ t
   same-name true e = cc
   same-name false e = let z : _≡_ {A = ℕ} 0 1 = cc in clash z
 
-  one-deeper : (b : Bool) → ltb (s .depth) 32 ≡ b → pickStep b (go (record { frames = s .frames; depth = s .depth + 1 })) (stop too-deep) ≡ go t
+  one-deeper : (b : Bool) → ltb (s .depth) 32 ≡ b → cond b (go (record { frames = s .frames; depth = s .depth + 1 })) (stop too-deep) ≡ go t
       → (_≡_ {A = State} (record { frames = s .frames; depth = s .depth + 1 }) t) × (s .depth < 32)
   one-deeper true q e = (cc, ltb-true (s .depth) 32 q)
   one-deeper false q e = let z : _≡_ {A = ℕ} 0 1 = cc in clash z

@@ -3,22 +3,22 @@
 use Prim.Native.Nat.{ℕ, zero, suc, _+_, _-_, _≤_, _<_}
 use mathlib.Core.Path.{_≡_, refl, sym, _∙_, ap, subst}
 use mathlib.Core.Logic.{_⊎_, inl, inr, ⊎-elim}
-use mathlib.Core.Bool.{Bool, true, false, _&&_}
+use mathlib.Core.Bool.{Bool, true, false, _&&_, cond}
 use mathlib.Core.List.{List, [], _∷_, _++_}
 use native.Mathlib.Omega.{arith}
 use lib.Dec.{T, eqb, ltb, eqb→eq}
 use lib.ListN.{getD}
 use borrow.Author.Tests.{eq-eqb, ne-eqb, ltb-true, ltb-false}
 use Rattle.ll.specs.Grammar.{Sym, tok, nt, act}
-use Rattle.ll.specs.Actions.{go, stop, End, read, bad, stopped, spent}
+use Rattle.ll.specs.Actions.{Step, go, stop, End, read, bad, stopped, spent}
 use Rattle.ll.proofs.Theory.{mem, keep, nullb, and-left, and-right, and-both, or-left, or-cases, mem-append, mem-left, mem-right, mem-keep, keep-mem}
 use Rattle.ll.proofs.Check.{below-at, every, every-at}
 use Rattle.ll.proofs.Trail.{Trail, whole, more, other, none, refuses, eats, acts, grows}
 use Rattle.forms.specs.Names.{file}
 use Rattle.forms.specs.Rules.{forms, body}
-use Rattle.forms.specs.Tree.{State, Refusal, name-differs, too-deep, fresh, top, onTop, joined, marked, named, rowed, pickStep, isNamed, does, Reading}
+use Rattle.forms.specs.Tree.{State, Refusal, name-differs, too-deep, fresh, top, onTop, joined, marked, named, rowed, isNamed, does, Reading}
 use Rattle.forms.specs.Reading.{readingOf}
-use Rattle.forms.specs.Open.{Role, opening, closing, neither, pickRole, role, after, openFrom, openAfter}
+use Rattle.forms.specs.Open.{Role, opening, closing, neither, role, after, openFrom, openAfter}
 use Rattle.forms.proofs.Hints as hints
 use Rattle.forms.proofs.Tests as tests
 use Rattle.forms.proofs.Meaning.{trailed, reads-files}
@@ -62,7 +62,7 @@ abbrev headRole : List Sym → Role
 headRole [] = neither
 headRole (tok a ∷ α) = neither
 headRole (nt n ∷ α) = neither
-headRole (act a ∷ α) = pickRole (eqb a 5) opening (pickRole (eqb a 6) closing neither)
+headRole (act a ∷ α) = cond (eqb a 5) opening (cond (eqb a 6) closing neither)
 
 abbrev plain : List Sym → Bool
 plain α = sameRole (headRole α) neither
@@ -185,11 +185,11 @@ is-one q = or-left (eqb q q) false (subst T (sym (eq-eqb q q refl)) tt)
 
 -- what an action leaves of the count
 module _ (alike : ℕ → ℕ → Bool) (k : ℕ) (s t : State) (α : List Sym) where
-  same-name : (c : Bool) → pickStep c (go s) (stop name-differs) ≡ go t → s .depth ≡ t .depth
+  same-name : (c : Bool) → cond c (go s) (stop name-differs) ≡ go t → s .depth ≡ t .depth
   same-name true e = let z : s ≡ t = cc in ap (λ (x : State). x .depth) z
   same-name false e = let z : _≡_ {A = ℕ} 0 1 = cc in clash z
 
-  deeper : (c : Bool) → ltb (s .depth) 32 ≡ c → pickStep c (go (record { frames = s .frames; depth = s .depth + 1 })) (stop too-deep) ≡ go t → s .depth + 1 ≡ t .depth
+  deeper : (c : Bool) → ltb (s .depth) 32 ≡ c → cond {A = Step State Refusal} c (go (record { frames = s .frames; depth = s .depth + 1 })) (stop too-deep) ≡ go t → s .depth + 1 ≡ t .depth
   deeper true q e = let z : _≡_ {A = State} (record { frames = s .frames; depth = s .depth + 1 }) t = cc in ap (λ (x : State). x .depth) z
   deeper false q e = let z : _≡_ {A = ℕ} 0 1 = cc in clash z
 
@@ -209,10 +209,10 @@ module _ (alike : ℕ → ℕ → Bool) (k : ℕ) (s t : State) (α : List Sym) 
       ap (λ (r : Role). after r (s .depth)) (other (suc (suc (suc (suc (suc (suc (suc f))))))) (λ z. absurd (omega arith)) (λ z. absurd (omega arith)))
       ∙ of (record { frames = onTop (rowed f k) (s .frames); depth = s .depth }) (cc)
     where
-      other : (a : ℕ) → (a ≡ 5 → ⊥) → (a ≡ 6 → ⊥) → pickRole (eqb a 5) opening (pickRole (eqb a 6) closing neither) ≡ neither
+      other : (a : ℕ) → (a ≡ 5 → ⊥) → (a ≡ 6 → ⊥) → cond (eqb a 5) opening (cond (eqb a 6) closing neither) ≡ neither
       other a d e = rw (ne-eqb a 5 d, ne-eqb a 6 e)
 
-  low-deeper : (c : Bool) → ltb (s .depth) 32 ≡ c → pickStep c (go (record { frames = s .frames; depth = s .depth + 1 })) (stop too-deep) ≡ go t → t .depth ≤ 32
+  low-deeper : (c : Bool) → ltb (s .depth) 32 ≡ c → cond {A = Step State Refusal} c (go (record { frames = s .frames; depth = s .depth + 1 })) (stop too-deep) ≡ go t → t .depth ≤ 32
   low-deeper true q e =
       let z : _≡_ {A = State} (record { frames = s .frames; depth = s .depth + 1 }) t = cc in
       let y : s .depth + 1 ≡ t .depth = ap (λ (x : State). x .depth) z in
@@ -231,11 +231,11 @@ module _ (alike : ℕ → ℕ → Bool) (k : ℕ) (s t : State) (α : List Sym) 
   low-kept (suc (suc (suc (suc (suc (suc (suc f))))))) e l = omega (arith, of (record { frames = onTop (rowed f k) (s .frames); depth = s .depth }) (cc))
 
 -- an action refuses for depth only at the opening action
-named-not-deep : (s : State) (c : Bool) → pickStep c (go s) (stop name-differs) ≡ stop too-deep → ⊥
+named-not-deep : (s : State) (c : Bool) → cond c (go s) (stop name-differs) ≡ stop too-deep → ⊥
 named-not-deep s true e = let z : _≡_ {A = ℕ} 0 1 = cc in clash z
 named-not-deep s false e = let z : _≡_ {A = ℕ} 0 1 = cc in clash z
 
-full : (s : State) (c : Bool) → ltb (s .depth) 32 ≡ c → pickStep c (go (record { frames = s .frames; depth = s .depth + 1 })) (stop too-deep) ≡ stop too-deep → 32 ≤ s .depth
+full : (s : State) (c : Bool) → ltb (s .depth) 32 ≡ c → cond {A = Step State Refusal} c (go (record { frames = s .frames; depth = s .depth + 1 })) (stop too-deep) ≡ stop too-deep → 32 ≤ s .depth
 full s true q e = let z : _≡_ {A = ℕ} 0 1 = cc in clash z
 full s false q e = ltb-false (s .depth) 32 q
 
@@ -251,7 +251,7 @@ deepens alike k s (suc (suc (suc (suc (suc (suc zero)))))) e = let z : _≡_ {A 
 deepens alike k s (suc (suc (suc (suc (suc (suc (suc f))))))) e = let z : _≡_ {A = ℕ} 0 1 = cc in clash z
 
 -- an action refuses for a name only at the comparing action
-deep-not-named : (s : State) (c : Bool) → pickStep c (go (record { frames = s .frames; depth = s .depth + 1 })) (stop too-deep) ≡ stop name-differs → ⊥
+deep-not-named : (s : State) (c : Bool) → cond {A = Step State Refusal} c (go (record { frames = s .frames; depth = s .depth + 1 })) (stop too-deep) ≡ stop name-differs → ⊥
 deep-not-named s true e = let z : _≡_ {A = ℕ} 0 1 = cc in clash z
 deep-not-named s false e = let z : _≡_ {A = ℕ} 0 1 = cc in clash z
 

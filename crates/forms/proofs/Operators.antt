@@ -3,7 +3,7 @@
 use Prim.Native.Nat.{ℕ, zero, suc, _+_, _-_, _≤_, _<_}
 use mathlib.Core.Path.{_≡_, refl, sym, _∙_, ap, subst}
 use mathlib.Core.Logic.{⊎-elim}
-use mathlib.Core.Bool.{Bool, true, false, _&&_}
+use mathlib.Core.Bool.{Bool, true, false, _&&_, cond}
 use mathlib.Core.List.{List, [], _∷_, _++_}
 use native.Mathlib.Omega.{arith}
 use lib.Dec.{T, eqb, ltb, eqb→eq}
@@ -14,9 +14,9 @@ use Rattle.ll.specs.Actions.{go, stop, Reads, done, eat, acts, grow}
 use Rattle.ll.proofs.Theory.{mem, or-left, or-cases, and-left, and-right}
 use Rattle.ll.proofs.Check.{below-at, every, every-at}
 use Rattle.forms.specs.Rules.{forms, body}
-use Rattle.forms.specs.Tree.{Row, Frame, State, Refusal, name-differs, too-deep, fresh, top, onTop, joined, marked, named, rowOf, rowed, pickStep, isNamed, does, rowsOf, Reading}
+use Rattle.forms.specs.Tree.{Row, Frame, State, Refusal, name-differs, too-deep, fresh, top, onTop, joined, marked, named, rowOf, rowed, isNamed, does, rowsOf, Reading}
 use Rattle.forms.specs.Open.{among}
-use Rattle.forms.specs.Operators.{unaryOperators, binaryOperators, pickType, HasOperator, OperatorRight, EachRow}
+use Rattle.forms.specs.Operators.{unaryOperators, binaryOperators, HasOperator, OperatorRight, EachRow}
 use Rattle.forms.proofs.Hints as hints
 
 clash : {A : Type 0} → _≡_ {A = ℕ} 0 1 → A
@@ -254,17 +254,17 @@ module _ (W : List ℕ) where
   row-right n k q f t o = by (eqb n 28) (eqb n 29) t
     where
       by : (a b : Bool) → T (pickBool a (among q unaryOperators) (pickBool b (among q binaryOperators) (eqb q 0)))
-          → pickType a (HasOperator W unaryOperators (rowOf n k f)) (pickType b (HasOperator W binaryOperators (rowOf n k f)) (f .operator ≡ f .first))
+          → cond a (HasOperator W unaryOperators (rowOf n k f)) (cond b (HasOperator W binaryOperators (rowOf n k f)) (f .operator ≡ f .first))
       by true b t = has unaryOperators n k q f refl t o
       by false true t = has binaryOperators n k q f refl t o
       by false false t = has-none n k q f t o
 
   module _ (alike : ℕ → ℕ → Bool) (k : ℕ) (s t : State) (α : List Sym) where
-    same-name : (b : Bool) → pickStep b (go s) (stop name-differs) ≡ go t → s ≡ t
+    same-name : (b : Bool) → cond b (go s) (stop name-differs) ≡ go t → s ≡ t
     same-name true e = cc
     same-name false e = let z : _≡_ {A = ℕ} 0 1 = cc in clash z
 
-    one-deeper : (b : Bool) → pickStep b (go (record { frames = s .frames; depth = s .depth + 1 })) (stop too-deep) ≡ go t → s .frames ≡ t .frames
+    one-deeper : (b : Bool) → cond b (go (record { frames = s .frames; depth = s .depth + 1 })) (stop too-deep) ≡ go t → s .frames ≡ t .frames
     one-deeper true e = let z : _≡_ {A = State} (record { frames = s .frames; depth = s .depth + 1 }) t = cc in ap (λ (x : State). x .frames) z
     one-deeper false e = let z : _≡_ {A = ℕ} 0 1 = cc in clash z
 

@@ -3,7 +3,7 @@
 use Prim.Native.Nat.{ℕ, zero, suc, _+_, _-_, _<_}
 use mathlib.Core.Path.{_≡_, refl, sym as flip, _∙_, ap, subst}
 use mathlib.Core.List.{List, [], _∷_, _++_}
-use mathlib.Core.Bool.{Bool, true, false, _&&_}
+use mathlib.Core.Bool.{Bool, true, false, _&&_, cond}
 use native.Mathlib.Omega.{arith}
 use lib.Dec.{T, eqb, ltb, eqb→eq}
 use lib.ListN.{length}
@@ -14,7 +14,7 @@ use Rattle.ll.proofs.Theory.{mem, and-left, and-right}
 use Rattle.ll.proofs.Check.{below, below-at, imp, imp-at}
 use Rattle.ll.proofs.Room as room
 use Rattle.forms.specs.Rules.{forms, body}
-use Rattle.forms.specs.Tree.{Row, Frame, State, Refusal, name-differs, too-deep, fresh, top, onTop, joined, marked, named, rowed, pickStep, isNamed, does, start, rowsOf}
+use Rattle.forms.specs.Tree.{Row, Frame, State, Refusal, name-differs, too-deep, fresh, top, onTop, joined, marked, named, rowed, isNamed, does, start, rowsOf}
 use Rattle.forms.specs.Items.{ItemReading, itemRow, markRow, BeginWithMark}
 use Rattle.forms.proofs.Tests as tests
 
@@ -109,7 +109,7 @@ keeps-top : (i : ℕ) (u : Frame → Frame) (fs : List Frame) → Keeps (suc i) 
 keeps-top i u [] h = absurd h
 keeps-top i u (g ∷ fs) h = h
 
-picked : (b : Bool) (t : State) (r : Refusal) (u : State) → pickStep b (go t) (stop r) ≡ go u → t ≡ u
+picked : (b : Bool) (t : State) (r : Refusal) (u : State) → cond b (go t) (stop r) ≡ go u → t ≡ u
 picked true t r u e = cc
 picked false t r u e = let z : _≡_ {A = ℕ} 0 1 = cc in clash z
 

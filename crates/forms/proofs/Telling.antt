@@ -2,7 +2,7 @@
 -- name is compared exactly where it closes, and with what it closes. Assumes nothing.
 use Prim.Native.Nat.{ℕ, zero, suc, _<_}
 use mathlib.Core.Path.{_≡_, refl}
-use mathlib.Core.Bool.{Bool, true, false, _&&_, _||_}
+use mathlib.Core.Bool.{Bool, true, false, _&&_, _||_, cond}
 use mathlib.Core.List.{List, [], _∷_, _++_}
 use lib.Dec.{T, eqb}
 use lib.ListN.{getD}
@@ -50,10 +50,6 @@ abbrev pub pickKnown : Bool → Known → Known → Known
 pickKnown true a b = a
 pickKnown false a b = b
 
-abbrev pub pickOut : Bool → Out → Out → Out
-pickOut true a b = a
-pickOut false a b = b
-
 abbrev pub isOne : ℕ → List Sym → Bool
 isOne n [] = false
 isOne n (nt m ∷ l) = eqb n m || isOne n l
@@ -81,7 +77,7 @@ abbrev pub knownIn : ℕ → Known
 knownIn n = pickKnown (isOne n (labelled-concurrent ∷ block ∷ process ∷ labelled ∷ loop ∷ [])) labels unknown
 
 abbrev pub outOf : ℕ → Out
-outOf n = pickOut (isOne n (label ∷ [])) labelling (pickOut (isOne n (after-name ∷ after-first ∷ [])) lost kept)
+outOf n = cond (isOne n (label ∷ [])) labelling (cond (isOne n (after-name ∷ after-first ∷ [])) lost kept)
 
 abbrev pub EndsIs : Ends → Closed → ℕ → Type 0
 EndsIs clear c g = c ≡ nothing

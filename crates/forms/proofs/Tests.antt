@@ -7,7 +7,7 @@ use mathlib.Core.Bool.{Bool, false}
 use native.Mathlib.Omega.{arith}
 use lib.Dec.{T, leb, leb→le}
 use lib.ListN.{getD}
-use Rattle.ll.specs.Grammar.{run}
+use Rattle.ll.proofs.Running.{run}
 use Rattle.ll.proofs.Theory.{Tables, LL}
 use Rattle.ll.proofs.Check.{below-at, ll}
 use Rattle.ll.proofs.Budget.{Paid, paid}

@@ -2,7 +2,7 @@
 -- row over all of it. Both are computed tests of the rules. Assumes nothing.
 use Prim.Native.Nat.{ℕ, zero, suc, _+_, _-_, _≤_}
 use mathlib.Core.Path.{_≡_, refl, sym, _∙_, ap, subst}
-use mathlib.Core.Bool.{Bool, true, false, _&&_}
+use mathlib.Core.Bool.{Bool, true, false, _&&_, cond}
 use mathlib.Core.List.{List, [], _∷_, _++_, append-assoc, append-nil}
 use native.Mathlib.Omega.{arith}
 use lib.Dec.{T, eqb, ltb, leb, eqb→eq, leb→le}
@@ -15,7 +15,7 @@ use Rattle.ll.proofs.Check.{below-at, imp, imp-at}
 use Rattle.ll.proofs.Room.{pickT, pickB, nested, nest-down}
 use Rattle.forms.specs.Names.{file, units, unit, package-unit, entity-unit, architecture-unit}
 use Rattle.forms.specs.Rules.{forms, body}
-use Rattle.forms.specs.Tree.{Row, Frame, State, Refusal, name-differs, too-deep, fresh, top, onTop, joined, marked, named, rowOf, rowed, pickStep, does, isNamed, rowsOf, Reading}
+use Rattle.forms.specs.Tree.{Row, Frame, State, Refusal, name-differs, too-deep, fresh, top, onTop, joined, marked, named, rowOf, rowed, does, isNamed, rowsOf, Reading}
 use Rattle.forms.specs.Forest.{Forest, bare, Tiled, none}
 use Rattle.forms.specs.Forest as forest
 use Rattle.forms.proofs.Tests as tests
@@ -200,11 +200,11 @@ record Step-on (i : ℕ) (k : ℕ) (t : State) (α : List Sym) : Type 0 where
   pub tiling : Tiling flag k (t .frames)
 
 module _ (alike : ℕ → ℕ → Bool) (k : ℕ) (s t : State) (α : List Sym) (b : Bool) (i : ℕ) (size : length (s .frames) ≡ suc i) (standing : Standing k (s .frames)) (tiling : Tiling b k (s .frames)) where
-  same-name : (c : Bool) → pickStep c (go s) (stop name-differs) ≡ go t → s .frames ≡ t .frames
+  same-name : (c : Bool) → cond c (go s) (stop name-differs) ≡ go t → s .frames ≡ t .frames
   same-name true e = let z : s ≡ t = cc in ap (λ (x : State). x .frames) z
   same-name false e = let z : _≡_ {A = ℕ} 0 1 = cc in clash z
 
-  one-deeper : (c : Bool) → pickStep c (go (record { frames = s .frames; depth = s .depth + 1 })) (stop too-deep) ≡ go t → s .frames ≡ t .frames
+  one-deeper : (c : Bool) → cond c (go (record { frames = s .frames; depth = s .depth + 1 })) (stop too-deep) ≡ go t → s .frames ≡ t .frames
   one-deeper true e = let z : _≡_ {A = State} (record { frames = s .frames; depth = s .depth + 1 }) t = cc in ap (λ (x : State). x .frames) z
   one-deeper false e = let z : _≡_ {A = ℕ} 0 1 = cc in clash z
 

@@ -2,12 +2,12 @@
 -- The names of the units, blocks, processes, loops and ifs that stand open are a stack, and each end closes the innermost.
 -- Assumes nothing: these are definitions.
 use Prim.Native.Nat.{ℕ, zero, suc, _-_}
-use mathlib.Core.Bool.{Bool, true, false, _&&_}
+use mathlib.Core.Bool.{Bool, true, false, _&&_, cond}
 use mathlib.Core.List.{List, [], _∷_}
 use lib.ListN.{getD}
 use Rattle.ll.specs.Grammar.{Sym}
 use Rattle.forms.specs.Kinds.{identifier, word-architecture, word-block, word-end, word-entity, word-loop, word-package, word-process, left-paren, colon}
-use Rattle.forms.specs.Open.{Role, opening, closing, neither, pickRole, among, role}
+use Rattle.forms.specs.Open.{Role, opening, closing, neither, among, role}
 
 -- what is closed by name: nothing; or what has this name, told as its element's number and one more, 0 where it has none
 pub data Closed : Type 0 where
@@ -21,18 +21,6 @@ pub record Walk : Type 0 where
   pub last : ℕ
   pub names : List ℕ
   pub ends : Closed
-
-abbrev pub pickNumber : Bool → ℕ → ℕ → ℕ
-pickNumber true a b = a
-pickNumber false a b = b
-
-abbrev pub pickNames : Bool → List ℕ → List ℕ → List ℕ
-pickNames true a b = a
-pickNames false a b = b
-
-abbrev pub pickClosed : Bool → Closed → Closed → Closed
-pickClosed true a b = a
-pickClosed false a b = b
 
 -- the name of the innermost, and the names of what stands open around it
 abbrev pub innermost : List ℕ → ℕ
@@ -72,7 +60,7 @@ behindUnit p t = isIdentifier t && among p unitWords
 
 -- the word of a block, process, loop or if that opens
 abbrev pub opensOne : ℕ → ℕ → Bool
-opensOne p t = isOpening (pickRole (among t (left-paren ∷ [])) neither (role p t))
+opensOne p t = isOpening (cond (among t (left-paren ∷ [])) neither (role p t))
 
 -- a word right behind end, of what may be closed by name
 abbrev pub behindEnd : ℕ → ℕ → Bool
@@ -80,19 +68,19 @@ behindEnd p t = isEnd p && among t closedWords
 
 -- the label of what opens behind an element of kind p, k elements having been read: the identifier before the colon
 abbrev pub labelOf : ℕ → ℕ → ℕ
-labelOf p k = pickNumber (among p (colon ∷ [])) (k - 1) 0
+labelOf p k = cond (among p (colon ∷ [])) (k - 1) 0
 
 -- the names of what stands open behind one more element, of kind t
 abbrev pub namesAfter : Walk → ℕ → List ℕ
 namesAfter x t =
-    pickNames (isEnd t) (around (x .names))
-    (pickNames (behindUnit (x .last) t && isNothing (x .ends)) (suc (x .count) ∷ x .names)
-    (pickNames (opensOne (x .last) t) (labelOf (x .last) (x .count) ∷ x .names)
+    cond (isEnd t) (around (x .names))
+    (cond (behindUnit (x .last) t && isNothing (x .ends)) (suc (x .count) ∷ x .names)
+    (cond (opensOne (x .last) t) (labelOf (x .last) (x .count) ∷ x .names)
     (x .names)))
 
 -- what the end closes behind which that element stands, with nothing but its word between
 abbrev pub endsAfter : Walk → ℕ → Closed
-endsAfter x t = pickClosed (isEnd t) (named (innermost (x .names))) (pickClosed (behindEnd (x .last) t) (x .ends) nothing)
+endsAfter x t = cond (isEnd t) (named (innermost (x .names))) (cond (behindEnd (x .last) t) (x .ends) nothing)
 
 abbrev pub walked : Walk → ℕ → Walk
 walked x t = record { count = suc (x .count); last = t; names = namesAfter x t; ends = endsAfter x t }
@@ -109,7 +97,7 @@ unwalked = record { count = 0; last = 0; names = []; ends = nothing }
 
 -- what an element of kind t closes by name: a closing name is an identifier right behind end, or behind end and its word
 abbrev pub closedBy : Walk → ℕ → Closed
-closedBy x t = pickClosed (isIdentifier t) (x .ends) nothing
+closedBy x t = cond (isIdentifier t) (x .ends) nothing
 
 -- what element k closes by name
 abbrev pub closesAt : List ℕ → ℕ → Closed

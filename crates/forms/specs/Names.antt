@@ -1,6 +1,6 @@
 -- What the rules name, each under its own name, and the actions that stand in rules. Assumes nothing: these are definitions.
 use Prim.Native.Nat.{ℕ, _+_}
-use Rattle.ll.specs.Grammar.{Sym, tok, nt, act}
+use Rattle.ll.specs.Grammar.{Sym, nt, act}
 
 abbrev pub file : Sym
 file = nt 0

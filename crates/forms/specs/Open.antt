@@ -2,7 +2,7 @@
 -- reader covers": each opens at its first word or `(` and closes at its end or `)`; elsif and else close one and open one).
 -- Assumes nothing: these are definitions.
 use Prim.Native.Nat.{ℕ, zero, suc, _+_, _-_}
-use mathlib.Core.Bool.{Bool, true, false, _||_}
+use mathlib.Core.Bool.{Bool, false, _||_, cond}
 use mathlib.Core.List.{List, [], _∷_}
 use lib.Dec.{eqb}
 use Rattle.ll.specs.Grammar.{Sym}
@@ -13,10 +13,6 @@ pub data Role : Type 0 where
   closing : Role
   neither : Role
 
-abbrev pub pickRole : Bool → Role → Role → Role
-pickRole true a b = a
-pickRole false a b = b
-
 abbrev pub among : ℕ → List Sym → Bool
 among t [] = false
 among t (s ∷ l) = eqb t (numberOf s) || among t l
@@ -25,12 +21,12 @@ among t (s ∷ l) = eqb t (numberOf s) || among t l
 -- a range or a condition it belongs to its for or while.
 abbrev pub role : ℕ → ℕ → Role
 role p t =
-    pickRole (among t (left-paren ∷ word-for ∷ word-while ∷ [])) opening
-    (pickRole (among t (right-paren ∷ [])) closing
-    (pickRole (among t (word-if ∷ word-process ∷ word-block ∷ [])) (pickRole (among p (word-end ∷ [])) closing opening)
-    (pickRole (among t (word-loop ∷ []))
-    (pickRole (among p (word-end ∷ [])) closing
-    (pickRole (among p (word-begin ∷ word-then ∷ word-else ∷ word-loop ∷ semicolon ∷ colon ∷ [])) opening neither))
+    cond (among t (left-paren ∷ word-for ∷ word-while ∷ [])) opening
+    (cond (among t (right-paren ∷ [])) closing
+    (cond (among t (word-if ∷ word-process ∷ word-block ∷ [])) (cond (among p (word-end ∷ [])) closing opening)
+    (cond (among t (word-loop ∷ []))
+    (cond (among p (word-end ∷ [])) closing
+    (cond (among p (word-begin ∷ word-then ∷ word-else ∷ word-loop ∷ semicolon ∷ colon ∷ [])) opening neither))
     neither)))
 
 abbrev pub after : Role → ℕ → ℕ

@@ -2,7 +2,7 @@
 -- Assumes nothing: these are definitions.
 use Prim.Native.Nat.{ℕ, _+_, _≤_, _<_}
 use mathlib.Core.Path.{_≡_}
-use mathlib.Core.Bool.{Bool, true, false}
+use mathlib.Core.Bool.{true, cond}
 use mathlib.Core.List.{List, [], _∷_}
 use lib.Dec.{eqb}
 use lib.ListN.{getD}
@@ -22,10 +22,6 @@ binaryOperators =
     ∷ equal ∷ not-equal ∷ less ∷ at-most ∷ greater ∷ at-least
     ∷ plus ∷ minus ∷ ampersand ∷ star ∷ slash ∷ word-mod ∷ word-rem ∷ double-star ∷ []
 
-abbrev pub pickType : Bool → Type 0 → Type 0 → Type 0
-pickType true a b = a
-pickType false a b = b
-
 -- the row's operator is one of the row's elements, and of one of these kinds
 abbrev pub HasOperator : List ℕ → List Sym → Row → Type 0
 HasOperator w kinds r = (r .first ≤ r .operator) × (r .operator < r .first + r .count) × (among (getD w (r .operator) 0) kinds ≡ true)
@@ -33,8 +29,8 @@ HasOperator w kinds r = (r .first ≤ r .operator) × (r .operator < r .first + 
 -- what the operator column of a row says: in form 28 a sign, abs or not, in form 29 a binary operator, else the first element
 abbrev pub OperatorRight : List ℕ → Row → Type 0
 OperatorRight w r =
-    pickType (eqb (r .form) 28) (HasOperator w unaryOperators r)
-    (pickType (eqb (r .form) 29) (HasOperator w binaryOperators r)
+    cond (eqb (r .form) 28) (HasOperator w unaryOperators r)
+    (cond (eqb (r .form) 29) (HasOperator w binaryOperators r)
     (r .operator ≡ r .first))
 
 -- of every row

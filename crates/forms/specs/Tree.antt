@@ -1,12 +1,11 @@
 -- What the actions of the rules do: the tree of a file, row by row, and refusals 6 and 7 (01, "Forms of the strict reading" and "Refusals
 -- and their order"). `IsFile` says what a file is and which rows it has. Assumes nothing: these are definitions.
 use Prim.Native.Nat.{ℕ, zero, suc, _+_, _-_}
-use mathlib.Core.Path.{_≡_}
 use mathlib.Core.List.{List, [], _∷_, _++_}
-use mathlib.Core.Bool.{Bool, true, false}
+use mathlib.Core.Bool.{Bool, false, cond}
 use lib.Dec.{ltb}
-use lib.ListN.{length, getD}
-use Rattle.ll.specs.Grammar.{Sym, Gen}
+use lib.ListN.{length}
+use Rattle.ll.specs.Grammar.{Gen}
 use Rattle.ll.specs.Actions.{Step, go, stop, Reads}
 use Rattle.forms.specs.Names.{file}
 use Rattle.forms.specs.Rules.{forms}
@@ -93,10 +92,6 @@ rowOf n k f = record { form = n; first = f .first; count = k - f .first; rows = 
 abbrev pub rowed : ℕ → ℕ → Frame → Frame
 rowed n k f = record { first = f .first; operator = f .operator; name = f .name; rows = rowOf n k f ∷ f .rows }
 
-abbrev pub pickStep : Bool → Step State Refusal → Step State Refusal → Step State Refusal
-pickStep true a b = a
-pickStep false a b = b
-
 -- a frame's name is that of element j
 abbrev pub isNamed : (ℕ → ℕ → Bool) → ℕ → ℕ → Bool
 isNamed alike zero j = false
@@ -108,8 +103,8 @@ doAction alike opens k s = go (record { frames = fresh k ∷ s .frames; depth = 
 doAction alike closes k s = go (record { frames = joined (s .frames); depth = s .depth })
 doAction alike marks k s = go (record { frames = onTop (marked (k - 1)) (s .frames); depth = s .depth })
 doAction alike names k s = go (record { frames = onTop (named k) (s .frames); depth = s .depth })
-doAction alike same k s = pickStep (isNamed alike (top (s .frames) .name) (k - 1)) (go s) (stop name-differs)
-doAction alike deeper k s = pickStep (ltb (s .depth) mostOpen) (go (record { frames = s .frames; depth = s .depth + 1 })) (stop too-deep)
+doAction alike same k s = cond (isNamed alike (top (s .frames) .name) (k - 1)) (go s) (stop name-differs)
+doAction alike deeper k s = cond (ltb (s .depth) mostOpen) (go (record { frames = s .frames; depth = s .depth + 1 })) (stop too-deep)
 doAction alike shallower k s = go (record { frames = s .frames; depth = s .depth - 1 })
 doAction alike (row n) k s = go (record { frames = onTop (rowed n k) (s .frames); depth = s .depth })
 

@@ -29,6 +29,15 @@ pub rem-small : (a b : ℤ) → 0 < natAbs b → natAbs (remZ a b) < natAbs b
 rem-small (pos a) b h = mod-lt a h
 rem-small (negsuc a) b h = rw (natAbs-neg (pos (suc a % natAbs b))) (mod-lt (suc a) h)
 
+-- with the dividend's sign: that of a dividend which is not negative is not negative, that of a negative one is not positive
+abbrev DividendSigned : ℤ → ℤ → Type 0
+DividendSigned (pos a) r = (m : ℕ) × (r ≡ pos m)
+DividendSigned (negsuc a) r = (m : ℕ) × (r ≡ negℤ (pos m))
+
+pub rem-signed : (a b : ℤ) → DividendSigned a (remZ a b)
+rem-signed (pos a) b = (a % natAbs b, refl)
+rem-signed (negsuc a) b = (suc a % natAbs b, refl)
+
 -- `mod` is the remainder, or that and the divisor
 pub mod-is : (r b : ℤ) → (toSign r b ≡ r) ⊎ (toSign r b ≡ r +ℤ b)
 unfolding toSign

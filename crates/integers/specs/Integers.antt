@@ -1,12 +1,12 @@
 -- Arithmetic on integers, in ℤ, as 01's section "Pieces, items, states" has it: a whole number, or the state that stops it.
 -- Assumes nothing.
-use Prim.Native.Nat.{ℕ, zero, suc}
-use mathlib.Core.Bool.{Bool, cond}
+use Prim.Native.Nat.{zero, suc}
+use mathlib.Core.Bool.{cond}
 use lib.Dec.{leb, eqb}
 use lib.IntN.{ℤ, pos, negsuc, natAbs, _+ℤ_, _-ℤ_, _*ℤ_, pow}
 use lib.Signed.{quotZ, remZ}
 use Rattle.integers.specs.declared.Folded.{Folded}
-use Rattle.integers.specs.declared.Folded.the-variants.{Whole, Truth, Stopped}
+use Rattle.integers.specs.declared.Folded.the-variants.{Whole, Stopped}
 use Rattle.integers.specs.declared.Arithmetic.{Arithmetic}
 use Rattle.integers.specs.declared.Arithmetic.the-variants.{Add, Subtract, Multiply, Divide, Remainder, Modulo, Power}
 

@@ -1,7 +1,7 @@
 // Arithmetic on the integers of 01, which are at most 2147483647 in size. Every public function takes any two numbers of 32 bits.
 ghost use mathlib.Core.Path.{_≡_};
-ghost use Prim.Native.Nat.{ℕ, _≤_};
-ghost use lib.IntN.{ℤ, pos, natAbs, negℤ, _+ℤ_, _-ℤ_, _*ℤ_, pow};
+ghost use Prim.Native.Nat.{_≤_};
+ghost use lib.IntN.{pos, natAbs, negℤ, _+ℤ_, _-ℤ_, _*ℤ_, pow};
 ghost use lib.Signed.{quotZ, remZ};
 ghost use Rattle.integers.specs.Integers.{sizedOf, dividedOf, toSign, powerOf, arithmeticOf};
 

@@ -1,13 +1,13 @@
 -- The ways of an item, in the code's terms: each premise is what a call or a test gives. Assumes nothing.
 use mathlib.Core.Path.{_≡_, refl, sym, ap, _∙_}
-use mathlib.Core.Bool.{Bool, true, false, not, cond, _&&_, _||_}
+use mathlib.Core.Bool.{Bool, true, false, not, cond, _||_}
 use mathlib.Core.List.{List, [], _∷_}
 use Prim.Native.Nat.{ℕ, zero, suc, _+_, _-_, _*_, _/_, _≤_, _<_, min}
 use native.Mathlib.Nat.{zero-min, min-zero, suc-min-suc, add-zero}
 use native.Mathlib.Omega.{arith}
 use native.Mathlib.Numerals.{add-one}
 use borrow.Author.Tests.{eq-eqb, ne-eqb, lt-ltb, le-ltb, not-true, not-false}
-use lib.Dec.{eqb, ltb}
+use lib.Dec.{eqb}
 use lib.ListN.{length, getD, drop, take, set, length-drop}
 use lib.Seq.{drop-drop, drop-cons, getD-drop, sets, length-sets}
 use Rattle.classes.proofs.Laws.{by-test}
@@ -21,7 +21,8 @@ use Rattle.marks.specs.Marks.{constantOf, subtypeOf, rangedOf}
 use Rattle.values.specs.Words.{stateOf, kindOf, lowOf, highOf}
 use Rattle.values.specs.declared.Value.{Value}
 use Rattle.values.specs.declared.Value.the-variants.{Without}
-use Rattle.items.specs.Items.{heldIn, rowsHeld, anyDown, goesDownIn, doubledIn, expressionAt, rangeAt, boundedAt, markAt, formedAt, valueAt, valueWords, completedAt, completedFrom, completed}
+use Rattle.items.specs.Items.{heldIn, rowsHeld, goesDownIn, doubledIn, expressionAt, rangeAt, boundedAt, markAt, formedAt, valueAt, valueWords, completedAt, completedFrom, completed}
+use Rattle.pieces.specs.Kinds.{anyDown}
 
 -- ---- the rows of a piece
 

@@ -1,16 +1,17 @@
 -- What the items of a package come to, over the tables: element table, records, links of names, twins and the rows of each piece, which stand
 -- from its first element's row on. Assumes nothing.
 use Prim.Native.Nat.{ℕ, zero, suc, _+_, _-_, _*_, _/_, min}
-use mathlib.Core.Bool.{Bool, true, false, cond, not, _&&_, _||_}
+use mathlib.Core.Bool.{Bool, cond, not, _&&_, _||_}
 use mathlib.Core.List.{List, [], _∷_}
 use lib.Dec.{eqb, ltb}
 use lib.ListN.{length, getD, drop, take}
 use lib.Seq.{sets}
 use Rattle.places.specs.Places.{rowsIn, kindsOf}
+use Rattle.pieces.specs.Kinds.{anyDown}
 use Rattle.records.specs.Records.{wordAt, isItem, isClaim}
 use Rattle.names.specs.Language.{languageOf}
 use Rattle.folding.specs.declared.Outcome.{Outcome}
-use Rattle.folds.specs.Folds.{elementIn, nameValue, foldOf}
+use Rattle.folds.specs.Folds.{nameValue, foldOf}
 use Rattle.marks.specs.Marks.{constantOf, subtypeOf, rangedOf}
 use Rattle.values.specs.Words.{stateOf, kindOf, lowOf, highOf}
 use Rattle.values.specs.declared.Value.{Value}
@@ -24,11 +25,6 @@ heldIn (suc n) words = cond (eqb (getD words 0 0) 0) 0 (suc (heldIn n (drop 5 wo
 -- how many rows piece i has
 unfoldable pub rowsHeld : List ℕ → List ℕ → ℕ → ℕ
 rowsHeld rows items i = heldIn (min (wordAt items i 2) (length rows / 5 - wordAt items i 1)) (drop (5 * wordAt items i 1) rows)
-
--- the word downto (58) among kinds
-unfoldable pub anyDown : List ℕ → Bool
-anyDown [] = false
-anyDown (k ∷ ks) = eqb k 58 || anyDown ks
 
 -- the word downto stands in piece i
 unfoldable pub goesDownIn : List ℕ → List ℕ → ℕ → Bool

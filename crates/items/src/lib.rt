@@ -2,13 +2,10 @@
 use folding::Outcome;
 use values::Value;
 ghost use mathlib.Core.Path.{_≡_};
-ghost use mathlib.Core.Bool.{_||_};
-ghost use Prim.Native.Nat.{ℕ, _+_, _-_, _*_, _/_, _≤_, _<_};
-ghost use lib.ListN.{length, drop, take};
+ghost use Prim.Native.Nat.{_+_, _-_, _*_, _/_, _≤_, _<_};
+ghost use lib.ListN.{length};
 ghost use lib.Seq.{sets};
-ghost use Rattle.places.specs.Places.{kindsOf};
-ghost use Rattle.records.specs.Records.{wordAt};
-ghost use Rattle.items.specs.Items.{heldIn, rowsHeld, anyDown, goesDownIn, doubledIn, expressionAt, rangeAt, markAt, boundedAt, formedAt, valueAt, valueWords, completedAt, completedFrom, completed};
+ghost use Rattle.items.specs.Items.{rowsHeld, goesDownIn, doubledIn, expressionAt, rangeAt, markAt, boundedAt, formedAt, valueAt, valueWords, completedAt, completed};
 
 fn minus(a: usize, b: usize) -> usize
     ensures { λ r. ⌜ r ≡ a - b ⌝ }

@@ -4,28 +4,30 @@ use Prim.Native.Nat.{ℕ, zero, suc, _≤_}
 use mathlib.Core.Path.{_≡_, refl, sym, _∙_, subst}
 use mathlib.Core.Logic.{_⊎_, inl, inr}
 use mathlib.Core.List.{List, [], _∷_, _++_}
-use mathlib.Core.Bool.{Bool, true, false}
+use mathlib.Core.Bool.{Bool, true, false, cond}
 use native.Mathlib.Omega.{arith}
 use lib.Dec.{eqb}
 use borrow.Author.Tests.{eq-eqb, eqb-true}
-use Rattle.ll.specs.Grammar.{Sym, tok, nt, act, Grammar, Gen, look, Out, run, pickOut, choose}
+use Rattle.ll.specs.Grammar.{Sym, tok, nt, act, Grammar, Gen, look}
+use Rattle.ll.proofs.Running.{Out, run, choose}
 use Rattle.ll.specs.Grammar as plain
-use Rattle.ll.specs.Actions.{Step, go, stop, Reads, done, eat, acts, grow, End, read, bad, stopped, spent, pickEnd, chooseEnd, goOn, runs}
+use Rattle.ll.proofs.Running as running
+use Rattle.ll.specs.Actions.{Step, go, stop, Reads, done, eat, acts, grow, End, read, bad, stopped, spent, chooseEnd, goOn, runs}
 use Rattle.ll.proofs.Theory.{Tables, LL, Fol, picked, fol-grow}
 
 clash : {A : Type 0} → _≡_ {A = ℕ} 0 1 → A
 clash z = absurd (omega arith)
 
 -- a refusal comes at an element that was not read yet
-least-tok : (k j : ℕ) (o : Out) → (o ≡ plain.Out.bad j → suc k ≤ j) → (b : Bool) → pickOut b o (plain.Out.bad k) ≡ plain.Out.bad j → k ≤ j
+least-tok : (k j : ℕ) (o : Out) → (o ≡ running.Out.bad j → suc k ≤ j) → (b : Bool) → cond b o (running.Out.bad k) ≡ running.Out.bad j → k ≤ j
 least-tok k j o ih true e = let h = ih e in omega arith
 least-tok k j o ih false e = let z : k ≡ j = cc in omega arith
 
-least-nt : (c k j : ℕ) (f : ℕ → Out) → ((p : ℕ) → f p ≡ plain.Out.bad j → k ≤ j) → choose c k f ≡ plain.Out.bad j → k ≤ j
+least-nt : (c k j : ℕ) (f : ℕ → Out) → ((p : ℕ) → f p ≡ running.Out.bad j → k ≤ j) → choose c k f ≡ running.Out.bad j → k ≤ j
 least-nt zero k j f ih e = let z : k ≡ j = cc in omega arith
 least-nt (suc p) k j f ih e = ih p e
 
-pub least : (body : ℕ → List Sym) (predict : ℕ → ℕ → ℕ) (f : ℕ) (α : List Sym) (w : List ℕ) (k j : ℕ) → run body predict f α w k ≡ plain.Out.bad j → k ≤ j
+pub least : (body : ℕ → List Sym) (predict : ℕ → ℕ → ℕ) (f : ℕ) (α : List Sym) (w : List ℕ) (k j : ℕ) → run body predict f α w k ≡ running.Out.bad j → k ≤ j
 unfolding run
 least body predict zero α w k j e = let z : _≡_ {A = ℕ} 0 1 = cc in clash z
 least body predict (suc f) [] [] k j e = let z : _≡_ {A = ℕ} 0 1 = cc in clash z
@@ -46,12 +48,12 @@ module _ {S R : Type 0} (G : Grammar) (predict : ℕ → ℕ → ℕ) (does : �
 
   -- an end with actions beside one without
   abbrev pub Agree : End S R → Out → Type 0
-  Agree (read s) o = o ≡ plain.Out.good
-  Agree (bad j) o = o ≡ plain.Out.bad j
-  Agree (stopped j r) o = (i : ℕ) → o ≡ plain.Out.bad i → j ≤ i
-  Agree spent o = o ≡ plain.Out.spent
+  Agree (read s) o = o ≡ running.Out.good
+  Agree (bad j) o = o ≡ running.Out.bad j
+  Agree (stopped j r) o = (i : ℕ) → o ≡ running.Out.bad i → j ≤ i
+  Agree spent o = o ≡ running.Out.spent
 
-  agree-tok : (k : ℕ) (x : End S R) (o : Out) → Agree x o → (b : Bool) → Agree (pickEnd b x (bad k)) (pickOut b o (plain.Out.bad k))
+  agree-tok : (k : ℕ) (x : End S R) (o : Out) → Agree x o → (b : Bool) → Agree (cond b x (bad k)) (cond b o (running.Out.bad k))
   agree-tok k x o h true = h
   agree-tok k x o h false = refl
 
@@ -59,7 +61,7 @@ module _ {S R : Type 0} (G : Grammar) (predict : ℕ → ℕ → ℕ) (does : �
   agree-nt zero k f g h = refl
   agree-nt (suc p) k f g h = h p
 
-  agree-act : (k : ℕ) (x : Step S R) (f : S → End S R) (o : Out) → ((t : S) → Agree (f t) o) → ((i : ℕ) → o ≡ plain.Out.bad i → k ≤ i) → Agree (goOn x k f) o
+  agree-act : (k : ℕ) (x : Step S R) (f : S → End S R) (o : Out) → ((t : S) → Agree (f t) o) → ((i : ℕ) → o ≡ running.Out.bad i → k ≤ i) → Agree (goOn x k f) o
   agree-act k (go t) f o h l = h t
   agree-act k (stop r) f o h l = l
 
@@ -79,7 +81,7 @@ module _ {S R : Type 0} (G : Grammar) (predict : ℕ → ℕ → ℕ) (does : �
   module _ (T : Tables) (L : LL G predict T) where
     -- what the machine reads is a reading
     read-tok : (a t k : ℕ) (α : List Sym) (w : List ℕ) (s s′ : S) (o : End S R) → (o ≡ read s′ → Reads S R G does α (suc k) s w s′) → (b : Bool) → eqb a t ≡ b
-        → pickEnd b o (bad k) ≡ read s′ → Reads S R G does (tok a ∷ α) k s (t ∷ w) s′
+        → cond b o (bad k) ≡ read s′ → Reads S R G does (tok a ∷ α) k s (t ∷ w) s′
     read-tok a t k α w s s′ o ih true q e = subst (λ (x : ℕ). Reads S R G does (tok a ∷ α) k s (x ∷ w) s′) (eqb-true a t q) (eat (ih e))
     read-tok a t k α w s s′ o ih false q e = let z : _≡_ {A = ℕ} 0 1 = cc in clash z
 

@@ -3,11 +3,12 @@
 use Prim.Native.Nat.{ℕ, zero, suc, _+_, _-_, _*_, _≤_, _<_}
 use mathlib.Core.Path.{_≡_, refl, subst}
 use mathlib.Core.List.{List, [], _∷_, _++_}
-use mathlib.Core.Bool.{Bool, true, false}
+use mathlib.Core.Bool.{Bool, true, false, cond}
 use native.Mathlib.Omega.{arith}
 use lib.Dec.{T, eqb, leb, leb→le}
 use lib.ListN.{length}
-use Rattle.ll.specs.Grammar.{Sym, tok, nt, act, Grammar, look, Out, bad, spent, pickOut, choose, run}
+use Rattle.ll.specs.Grammar.{Sym, tok, nt, act, Grammar, look}
+use Rattle.ll.proofs.Running.{Out, bad, spent, choose, run}
 use Rattle.ll.proofs.Theory.{Tables, LL}
 use Rattle.ll.proofs.Check.{below, below-at}
 
@@ -79,7 +80,7 @@ module _ (body : ℕ → List Sym) (predict : ℕ → ℕ → ℕ) (c d : ℕ �
   pub due-act : (a n : ℕ) (α : List Sym) → due c d α n < due c d (act a ∷ α) n
   due-act a n α = omega arith
 
-  stop-tok : (k : ℕ) (o : Out) → (o ≡ spent → ⊥) → (b : Bool) → pickOut b o (bad k) ≡ spent → ⊥
+  stop-tok : (k : ℕ) (o : Out) → (o ≡ spent → ⊥) → (b : Bool) → cond b o (bad k) ≡ spent → ⊥
   stop-tok k o f true e = f e
   stop-tok k o f false e = let z : _≡_ {A = ℕ} 0 1 = cc in clash z
 

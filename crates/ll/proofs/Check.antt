@@ -6,9 +6,10 @@ use mathlib.Core.List.{List, [], _∷_}
 use mathlib.Core.Bool.{Bool, true, false, _&&_}
 use native.Mathlib.Omega.{arith}
 use native.Mathlib.Nat.{eq-or-lt-of-le, le-of-suc-le-suc}
-use lib.Dec.{T, eqb, ltb, leb, eqb→eq, leb→le}
+use lib.Dec.{T, eqb, ltb, eqb→eq, leb→le}
 use lib.ListN.{getD}
-use Rattle.ll.specs.Grammar.{Sym, tok, nt, act, Grammar, Out, good, bad, spent, run, predictBy}
+use Rattle.ll.specs.Grammar.{Sym, tok, nt, act, Grammar, predictBy}
+use Rattle.ll.proofs.Running.{Out, good, bad, spent, run}
 use Rattle.ll.proofs.Theory.{or-cases, and-left, and-right, mem, inits, nullb, Inside, Tables, LL, sound}
 
 abbrev pub below : ℕ → (ℕ → Bool) → Bool

@@ -1,3 +1,4 @@
+pub mod Running
 pub mod Theory
 pub mod Check
 pub mod Budget

@@ -4,12 +4,13 @@ use Prim.Native.Nat.{ℕ, zero, suc, _+_, _≤_, _<_}
 use mathlib.Core.Path.{_≡_, refl, sym, _∙_, subst}
 use mathlib.Core.Logic.{_⊎_, inl, inr, ⊎-elim}
 use mathlib.Core.List.{List, [], _∷_, _++_, append-assoc}
-use mathlib.Core.Bool.{Bool, true, false, _||_, _&&_}
+use mathlib.Core.Bool.{Bool, true, false, _||_, _&&_, cond}
 use native.Mathlib.Omega.{arith}
 use lib.Dec.{T, eqb}
 use lib.ListN.{length, take}
 use borrow.Author.Tests.{eq-eqb, eqb-true, eqb-false}
-use Rattle.ll.specs.Grammar.{Sym, tok, nt, act, Grammar, Gen, done, eat, skip, grow, look, Out, good, bad, spent, pickOut, choose, run}
+use Rattle.ll.specs.Grammar.{Sym, tok, nt, act, Grammar, Gen, done, eat, skip, grow, look}
+use Rattle.ll.proofs.Running.{Out, good, bad, spent, choose, run}
 
 pub or-cases : (a b : Bool) → T (a || b) → T a ⊎ T b
 or-cases true b h = inl tt
@@ -114,7 +115,7 @@ good≢bad k e = let z : _≡_ {A = ℕ} 0 1 = cc in absurd (omega arith)
 module _ (G : Grammar) (predict : ℕ → ℕ → ℕ) where
   -- soundness needs the table alone
   module _ (table : (n t p : ℕ) → predict n t ≡ suc p → (p < G .count) × (G .lhs p ≡ n)) where
-    sound-tok : (a t : ℕ) (α : List Sym) (w : List ℕ) (k : ℕ) (o : Out) → (o ≡ good → Gen G α w) → (b : Bool) → eqb a t ≡ b → pickOut b o (bad k) ≡ good → Gen G (tok a ∷ α) (t ∷ w)
+    sound-tok : (a t : ℕ) (α : List Sym) (w : List ℕ) (k : ℕ) (o : Out) → (o ≡ good → Gen G α w) → (b : Bool) → eqb a t ≡ b → cond b o (bad k) ≡ good → Gen G (tok a ∷ α) (t ∷ w)
     sound-tok a t α w k o ih true q e = subst (λ (x : ℕ). Gen G (tok a ∷ α) (x ∷ w)) (eqb-true a t q) (eat (ih e))
     sound-tok a t α w k o ih false q e = good≢bad k e
 
@@ -258,7 +259,7 @@ module _ (G : Grammar) (predict : ℕ → ℕ → ℕ) (S : Tables) (L : LL G pr
   not-tok a t α q (eat g) = eqb-false a a q refl
 
   viable-tok : (a t : ℕ) (α : List Sym) (w : List ℕ) (k j : ℕ) (o : Out) → Fol α → (o ≡ bad j → Viable α w (suc k) j)
-      → (b : Bool) → eqb a t ≡ b → pickOut b o (bad k) ≡ bad j → Viable (tok a ∷ α) (t ∷ w) k j
+      → (b : Bool) → eqb a t ≡ b → cond b o (bad k) ≡ bad j → Viable (tok a ∷ α) (t ∷ w) k j
   viable-tok a t α w k j o φ ih true q e =
       let r = ih e in
       let pl = r .place in

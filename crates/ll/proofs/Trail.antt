@@ -3,11 +3,11 @@
 use Prim.Native.Nat.{ℕ, zero, suc, _<_}
 use mathlib.Core.Path.{_≡_, refl, subst}
 use mathlib.Core.List.{List, [], _∷_, _++_}
-use mathlib.Core.Bool.{Bool, true, false}
+use mathlib.Core.Bool.{Bool, true, false, cond}
 use lib.Dec.{eqb}
 use borrow.Author.Tests.{eqb-true}
 use Rattle.ll.specs.Grammar.{Sym, tok, nt, act, Grammar, look}
-use Rattle.ll.specs.Actions.{Step, go, stop, End, read, bad, stopped, spent, pickEnd, chooseEnd, goOn, runs}
+use Rattle.ll.specs.Actions.{Step, go, stop, End, read, bad, stopped, spent, chooseEnd, goOn, runs}
 
 -- From the row of symbols α, element k and the state s, the elements left being of the kinds w, a reading ends so.
 pub data Trail (S R : Type 0) (G : Grammar) (does : ℕ → ℕ → S → Step S R) : List Sym → ℕ → S → List ℕ → End S R → Type 0 where
@@ -25,7 +25,7 @@ module _ {S R : Type 0} (G : Grammar) (predict : ℕ → ℕ → ℕ) (does : �
   abbrev Left : List Sym → ℕ → S → List ℕ → End S R → Type 0
   Left α k s w o = (o ≡ spent → ⊥) → Trail S R G does α k s w o
 
-  ate : (a t k : ℕ) (α : List Sym) (w : List ℕ) (s : S) (o : End S R) → Left α (suc k) s w o → (b : Bool) → eqb a t ≡ b → Left (tok a ∷ α) k s (t ∷ w) (pickEnd b o (bad k))
+  ate : (a t k : ℕ) (α : List Sym) (w : List ℕ) (s : S) (o : End S R) → Left α (suc k) s w o → (b : Bool) → eqb a t ≡ b → Left (tok a ∷ α) k s (t ∷ w) (cond b o (bad k))
   ate a t k α w s o ih true q d = subst (λ (x : ℕ). Trail S R G does (tok a ∷ α) k s (x ∷ w) o) (eqb-true a t q) (eats (ih d))
   ate a t k α w s o ih false q d = other
 

@@ -4,7 +4,7 @@
 use Prim.Native.Nat.{ℕ, zero, suc, _<_}
 use mathlib.Core.Path.{_≡_}
 use mathlib.Core.List.{List, [], _∷_, _++_}
-use mathlib.Core.Bool.{Bool, true, false}
+use mathlib.Core.Bool.{cond}
 use lib.Dec.{eqb}
 use Rattle.ll.specs.Grammar.{Sym, tok, nt, act, Grammar, look}
 
@@ -28,10 +28,6 @@ pub data End (S R : Type 0) : Type 0 where
   stopped : ℕ → R → End S R
   spent : End S R
 
-abbrev pub pickEnd : {S R : Type 0} → Bool → End S R → End S R → End S R
-pickEnd true a b = a
-pickEnd false a b = b
-
 -- a rule's number and one more, or 0 where no rule fits
 abbrev pub chooseEnd : {S R : Type 0} → ℕ → ℕ → (ℕ → End S R) → End S R
 chooseEnd zero k f = bad k
@@ -47,6 +43,6 @@ runs body predict does zero α w k s = spent
 runs body predict does (suc f) [] [] k s = read s
 runs body predict does (suc f) [] (t ∷ w) k s = bad k
 runs body predict does (suc f) (tok a ∷ α) [] k s = bad k
-runs body predict does (suc f) (tok a ∷ α) (t ∷ w) k s = pickEnd (eqb a t) (runs body predict does f α w (suc k) s) (bad k)
+runs body predict does (suc f) (tok a ∷ α) (t ∷ w) k s = cond (eqb a t) (runs body predict does f α w (suc k) s) (bad k)
 runs body predict does (suc f) (act a ∷ α) w k s = goOn (does a k s) k (λ t. runs body predict does f α w k t)
 runs body predict does (suc f) (nt n ∷ α) w k s = chooseEnd (predict n (look w)) k (λ p. runs body predict does f (body p ++ α) w k s)

@@ -1,10 +1,7 @@
--- A grammar as data, what it generates, and the machine that reads by a table of rules, looking one element ahead. No grammar in
--- particular stands here. Assumes nothing: these are definitions.
-use Prim.Native.Nat.{ℕ, zero, suc, _+_, _<_}
+-- A grammar as data, and what it generates. No grammar in particular stands here. Assumes nothing: these are definitions.
+use Prim.Native.Nat.{ℕ, _<_}
 use mathlib.Core.Path.{_≡_}
 use mathlib.Core.List.{List, [], _∷_, _++_}
-use mathlib.Core.Bool.{Bool, true, false}
-use lib.Dec.{eqb}
 use lib.ListN.{getD}
 
 -- a symbol of a rule: an element of a kind, what another rule names, or an action, which reads nothing
@@ -30,30 +27,6 @@ pub data Gen (G : Grammar) : List Sym → List ℕ → Type 0 where
 abbrev pub look : List ℕ → ℕ
 look [] = 0
 look (t ∷ w) = t
-
-pub data Out : Type 0 where
-  good : Out
-  bad : ℕ → Out
-  spent : Out
-
-abbrev pub pickOut : Bool → Out → Out → Out
-pickOut true a b = a
-pickOut false a b = b
-
--- a rule's number and one more, or 0 where no rule fits
-abbrev pub choose : ℕ → ℕ → (ℕ → Out) → Out
-choose zero k f = bad k
-choose (suc p) k f = f p
-
--- what is left to read is α, the elements left are w, and k were read: at most f steps
-unfoldable pub run : (ℕ → List Sym) → (ℕ → ℕ → ℕ) → ℕ → List Sym → List ℕ → ℕ → Out
-run body predict zero α w k = spent
-run body predict (suc f) [] [] k = good
-run body predict (suc f) [] (t ∷ w) k = bad k
-run body predict (suc f) (tok a ∷ α) [] k = bad k
-run body predict (suc f) (tok a ∷ α) (t ∷ w) k = pickOut (eqb a t) (run body predict f α w (suc k)) (bad k)
-run body predict (suc f) (act a ∷ α) w k = run body predict f α w k
-run body predict (suc f) (nt n ∷ α) w k = choose (predict n (look w)) k (λ p. run body predict f (body p ++ α) w k)
 
 -- A table of rules: a line to each name, a column to each next kind, in it the rule's number and one more, or 0.
 abbrev pub predictBy : List (List ℕ) → ℕ → ℕ → ℕ

@@ -27,9 +27,9 @@ use Rattle.names.proofs.Firsts.{any-found, any-at}
 use Rattle.names.proofs.Tables.{filled-at}
 use Rattle.operands.specs.Operands.{bytesAt}
 use Rattle.items.specs.Items.{doubledIn}
-use Rattle.worded.specs.Elements.{Element, Piece, elementAt, at, kinds, piecesOf}
+use Rattle.worded.specs.Elements.{Element, Piece, at, kinds, piecesOf}
 use Rattle.worded.proofs.Cutting.{total}
-use Rattle.worded.proofs.Tables.{cell-word, element-at, row-within}
+use Rattle.worded.proofs.Tables.{cell-word, element-at, row-within, elementAt}
 use Rattle.meaning.specs.Names.{classOf, ownName, claims, language, claimsIn, doubled, ownDoubled, Done}
 use Rattle.meaning.proofs.Records.{pendings, piecesDone, pieces-length, word-past}
 use Rattle.meaning.proofs.Places.{tableOf, elements}

@@ -17,12 +17,13 @@ use Rattle.records.specs.Records.{wordAt}
 use Rattle.operands.specs.Operands.{literalBy, literalIn}
 use Rattle.tree.specs.Answers.{wordsOf}
 use Rattle.tree.specs.Items.{rowsOfPiece, pieceWords, itemsIn, itemRows}
-use Rattle.tree.specs.Items as by-rows
+use Rattle.tree.proofs.Items as by-rows
 use Rattle.tree.proofs.Items.{item-rows-at, item-rows-size}
 use Rattle.folds.specs.Folds.{elementIn, literalAt, kindIn}
-use Rattle.items.specs.Items.{heldIn, rowsHeld, anyDown, goesDownIn}
-use Rattle.worded.specs.Elements.{Element, Piece, nothing, at, kinds, elementsOf, piecesOf, elementAt}
-use Rattle.worded.proofs.Tables.{element-at, kinds-of}
+use Rattle.items.specs.Items.{heldIn, rowsHeld, goesDownIn}
+use Rattle.pieces.specs.Kinds.{anyDown}
+use Rattle.worded.specs.Elements.{Element, Piece, nothing, at, kinds, elementsOf, piecesOf}
+use Rattle.worded.proofs.Tables.{element-at, kinds-of, elementAt}
 use Rattle.worded.proofs.Cutting.{kindsEach, cut-kinds, joinAll, total, cut-joins, at-piece, total-append, total-joins, kinds-length}
 use Rattle.meaning.proofs.Rows.{held-piece}
 

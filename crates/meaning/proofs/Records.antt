@@ -5,10 +5,10 @@ use mathlib.Core.List.{List, [], _∷_, _++_, append-assoc}
 use Prim.Native.Nat.{ℕ, zero, suc, _+_, _-_, _*_, _/_, _≤_, _<_}
 use native.Mathlib.Nat.{add-zero, add-assoc}
 use native.Mathlib.Omega.{arith}
-use borrow.Author.Tests.{lt-ltb, le-ltb, le-leb, lt-leb, leb-true, leb-false, ltb-true, ltb-false}
+use borrow.Author.Tests.{lt-ltb, le-leb}
 use lib.Dec.{leb, ltb}
-use lib.ListN.{length, getD, take, drop, set, replicate, length-append, length-replicate}
-use lib.Seq.{sets, sets-eq, length-sets, getD-drop}
+use lib.ListN.{length, getD, set, replicate, length-append}
+use lib.Seq.{sets}
 use Rattle.pieces.specs.Kinds.{markOf}
 use Rattle.pieces.specs.Records as marks
 use Rattle.records.specs.Records.{wordAt, isItem}

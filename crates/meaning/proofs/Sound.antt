@@ -20,7 +20,7 @@ use Rattle.values.specs.declared.Value.the-variants.{Without}
 use Rattle.marks.proofs.Sound.{Keeps, small, SoundOutcome, Sound, wrong-leaf-sound, literal-sound, combined-sound, signed-sound, operand-sound, lean-sound, language-sound, choose-sound}
 use Rattle.marks.proofs.Laws.{Constant, Subtype, Fits, fits-sound, constant-fits, subtype-fits, ranged-fits}
 use Rattle.folds.specs.Expressions.{behind, rowOutcome, outcomeIn}
-use Rattle.items.specs.Items.{anyDown}
+use Rattle.pieces.specs.Kinds.{anyDown}
 use Rattle.worded.specs.Elements.{Element, Piece, at, kinds}
 use Rattle.meaning.specs.Names.{classOf, language, claims, doubled, ownDoubled, Done, claimedAbove, firstAbove, useOf}
 use Rattle.meaning.specs.Items.{valued, bounded, formed, unlessDoubled, valueOf, doneOf}

@@ -1,17 +1,16 @@
 -- What each piece of a package comes to, from the first to the last, and the item table (01, "Pieces, items, states"). Assumes nothing.
 use Prim.Native.Nat.{ℕ, _+_}
-use mathlib.Core.Bool.{Bool, true, false, cond, _||_}
+use mathlib.Core.Bool.{Bool, true, false, cond}
 use mathlib.Core.List.{List, [], _∷_, _++_}
 use lib.Dec.{eqb}
 use lib.ListN.{length}
 use Rattle.forms.specs.Tree.{Row}
-use Rattle.pieces.specs.Kinds.{markOf}
+use Rattle.pieces.specs.Kinds.{markOf, anyDown}
 use Rattle.pieces.specs.Records.{nameOf}
 use Rattle.records.specs.Records.{isItem}
 use Rattle.tree.specs.Items.{rowsOfPiece}
 use Rattle.folding.specs.declared.Outcome.{Outcome}
 use Rattle.operands.specs.Operands.{literalBy}
-use Rattle.items.specs.Items.{anyDown}
 use Rattle.marks.specs.Marks.{operandOf, constantOf, subtypeOf, rangedOf}
 use Rattle.values.specs.Words.{stateOf, kindOf, lowOf, highOf}
 use Rattle.values.specs.declared.Value.{Value}

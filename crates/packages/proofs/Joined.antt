@@ -2,9 +2,9 @@
 use mathlib.Core.Path.{_≡_, refl, sym, ap, ap₂, _∙_}
 use mathlib.Core.Bool.{Bool, true, false, cond}
 use mathlib.Core.List.{List, [], _∷_, _++_}
-use Prim.Native.Nat.{ℕ, suc, _+_, _-_, _*_, _/_, _≤_, _<_, min}
+use Prim.Native.Nat.{ℕ, suc, _+_, _-_, _*_, _/_, _≤_, min}
 use native.Mathlib.Omega.{arith}
-use borrow.Author.Tests.{ltb-true, ltb-false}
+use borrow.Author.Tests.{ltb-false}
 use lib.Dec.{ltb}
 use lib.ListN.{length, replicate, length-append, length-replicate}
 use Rattle.reading.specs.Rows.{rowsOf}
@@ -17,28 +17,24 @@ use Rattle.refusals.specs.declared.Refusal.{Refusal}
 use Rattle.places.specs.declared.ElementNumber.{ElementNumber}
 use Rattle.reading.proofs.TableLaws.{length-cells}
 use Rattle.reading.proofs.Answers.{table-read, table-refused, table-length, read-count, read-few}
-use Rattle.places.specs.Places.{kindsOf}
 use Rattle.pieces.specs.Kinds as by-kinds
-use Rattle.pieces.specs.Records.{piecesIn, marking, recordTable, holds}
+use Rattle.pieces.specs.Records.{piecesIn, marking, recordTable}
 use Rattle.pieces.specs.Records as marks
 use Rattle.pieces.specs.declared.Marking.{Marking}
 use Rattle.pieces.specs.declared.Marking.the-variants as M
-use Rattle.pairs.specs.Pairs.{pairOf}
-use Rattle.pairs.specs.declared.Pair.{Pair}
-use Rattle.pairs.specs.declared.Pair.the-variants.{Neither}
 use Rattle.names.specs.Names.{recordsIn, linksTable, ownsTable, twinsTable, anyTwin, sharedPair}
 use Rattle.names.proofs.Promises.{first-shared, none-shared}
-use Rattle.worded.specs.Elements.{Element, Piece, elementsOf, kinds, piecesOf, closes, opens}
+use Rattle.worded.specs.Elements.{Piece, elementsOf, piecesOf}
 use Rattle.worded.proofs.Tables.{kinds-of}
 use Rattle.worded.proofs.Cutting.{kindsEach, cut-kinds}
-use Rattle.meaning.specs.Items.{recordsFrom, recordsOf}
-use Rattle.meaning.proofs.Records.{pendings, piecesDone, pieces-pending, pieces-length, records-length, marked-records}
+use Rattle.meaning.specs.Items.{recordsFrom}
+use Rattle.meaning.proofs.Records.{pendings, pieces-pending, pieces-length, records-length, marked-records}
 use Rattle.meaning.proofs.Places.{tableOf}
 use Rattle.meaning.proofs.Stages.{completed-all}
 use Rattle.packages.proofs.Told.{told-all, pairs-same}
-use Rattle.packages.specs.Tables.{refusedBy, pairBy, summedOf, itemsCompleted, itemsSurvey, piecesSurvey, piecesItems, kept}
+use Rattle.packages.specs.Tables.{pairBy, itemsCompleted, itemsSurvey, piecesSurvey, piecesItems, kept}
 use Rattle.packages.specs.Tables as tables
-use Rattle.packages.specs.Survey.{itemTable, summary, left, surveyOf, elementsAfter, itemsAfter}
+use Rattle.packages.specs.Survey.{itemTable, summary, left, surveyOf, elementsAfter, itemsAfter, refusedBy, summedOf}
 use Rattle.packages.specs.Survey as survey
 use Rattle.packages.specs.declared.Survey.{Survey}
 use Rattle.packages.specs.declared.Outcome.{Outcome}

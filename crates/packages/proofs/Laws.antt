@@ -1,10 +1,10 @@
 -- The survey's steps, in the code's terms: each premise is what a call or a match gives. Assumes nothing.
-use mathlib.Core.Path.{_≡_, refl, sym, ap, _∙_}
+use mathlib.Core.Path.{_≡_, sym, _∙_}
 use mathlib.Core.Bool.{Bool, true, false}
 use mathlib.Core.List.{List}
 use Prim.Native.Nat.{ℕ}
 use lib.ListN.{length, replicate}
-use Rattle.pieces.specs.Records.{piecesIn, marking, recordTable, holds}
+use Rattle.pieces.specs.Records.{piecesIn, marking, recordTable}
 use Rattle.pieces.specs.declared.Marking.{Marking}
 use Rattle.pieces.specs.declared.Marking.the-variants as M
 use Rattle.records.specs.Tallies.{tallyOf}
@@ -16,9 +16,10 @@ use Rattle.pairs.specs.declared.Pair.the-variants.{Neither}
 use Rattle.names.specs.Names.{linksTable, ownsTable, twinsTable, anyTwin}
 use Rattle.tree.specs.Items.{itemRows}
 use Rattle.items.specs.Items.{completed}
-use Rattle.packages.specs.Tables.{refusedBy, pairBy, summedOf, itemsCompleted, itemsSurvey, byMarking, piecesSurvey, itemsByMarking, piecesItems, kept}
+use Rattle.packages.specs.Tables.{pairBy, itemsCompleted, itemsSurvey, piecesSurvey, piecesItems, kept}
+use Rattle.packages.specs.Survey.{refusedBy, summedOf}
 use Rattle.packages.specs.declared.Survey.{Survey}
-use Rattle.packages.specs.declared.Outcome.the-variants.{Done, Refused}
+use Rattle.packages.specs.declared.Outcome.the-variants.{Done}
 use Rattle.refusals.specs.declared.SurveyRefusal.the-variants.{TooMany, ItemsShort}
 
 pub pair-there : (any : Bool) (owns : List ℕ) (n : ℕ) (r : Pair) → any ≡ true → r ≡ pairOf owns n → r ≡ pairBy any owns n

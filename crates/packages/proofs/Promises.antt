@@ -1,15 +1,18 @@
 -- The promises of the survey, proved. Assumes nothing.
 use mathlib.Core.Path.{_≡_, refl, sym, ap, subst, _∙_}
+use mathlib.Core.Logic.{_↔_}
 use mathlib.Core.Bool.{Bool, true, false, cond}
-use mathlib.Core.List.{List, [], _∷_}
-use Prim.Native.Nat.{ℕ, zero, suc, _+_, _*_, _/_, _≤_, _<_}
+use mathlib.Core.List.{List}
+use Prim.Native.Nat.{ℕ, _*_, _/_, _≤_, _<_}
 use native.Mathlib.Omega.{arith}
-use native.Mathlib.Nat.{add-zero, zero-add}
+use native.Mathlib.Nat.{zero-add}
 use borrow.Author.Tests.{le-ltb, lt-ltb, ltb-true, ltb-false}
 use lib.Dec.{ltb}
-use lib.ListN.{length, getD, replicate}
+use lib.ListN.{length, getD}
 use Rattle.records.specs.Tallies.{inState, countsFrom, tallyOf}
 use Rattle.records.specs.Frames.{frameGood}
+use Rattle.records.proofs.Counting.{counts-at}
+use Rattle.records.proofs.Wholes.{whole-exactly}
 use Rattle.names.specs.Names.{sharedPair}
 use Rattle.pieces.specs.declared.Marking.{Marking}
 use Rattle.pieces.specs.declared.Marking.the-variants as M
@@ -18,9 +21,8 @@ use Rattle.reading.specs.Reading as elements
 use Rattle.reading.specs.declared.Reading.{Reading}
 use Rattle.reading.specs.declared.Reading.the-variants as R
 use Rattle.worded.specs.Elements.{piecesOf}
-use Rattle.packages.specs.Tables.{refusedBy, summedOf}
 use Rattle.pieces.specs.Records.{marking}
-use Rattle.packages.specs.Survey.{itemTable, summary, byMarking, byReading, surveyOf, elementsAfter, itemsAfter}
+use Rattle.packages.specs.Survey.{itemTable, summary, byMarking, byReading, surveyOf, elementsAfter, itemsAfter, refusedBy, summedOf}
 use Rattle.reading.specs.Given.{Taken, Given}
 use Rattle.reading.proofs.Answers.{ReadingSays, reading-says, taken-read, refused-reading}
 use Rattle.packages.specs.Promises.{NoChoice, ZerosOnRefusal, Surveyed, ElementsExactly, TooManyExactly, ItemsShortExactly, SaysOfRecords}
@@ -113,17 +115,12 @@ items-short-exactly s e i k = (
   λ x. rw (taken-read s e (x .0), le-ltb 1024 (length (piecesOf s)) (x .1), lt-ltb (i / 8) (length (piecesOf s)) (x .2), x .3),
 )
 
--- the counts of a tally, one by one
-count-at : (items : List ℕ) (n k m j : ℕ) → j < m → getD (countsFrom items n k m) j 0 ≡ inState (k + j) items 0 n
-unfolding countsFrom
-count-at items n k zero j h = absurd (omega arith)
-count-at items n k (suc m) zero h = ap (λ (x : ℕ). inState x items 0 n) (sym (add-zero k))
-count-at items n k (suc m) (suc j) h = let z : suc k + j ≡ k + suc j = omega arith in count-at items n (suc k) m j (omega arith) ∙ ap (λ (x : ℕ). inState x items 0 n) z
-
 -- what a survey says of n records
 abbrev Says : List ℕ → List ℕ → List ℕ → ℕ → Summary → Survey → Type 0
 Says s table items n y x =
-    (y .pieces ≡ n) × (y .frame ≡ frameGood s table items n) × (y .pair ≡ sharedPair s table items n) × ((k : ℕ) → k ≤ 10 → getD (x .tally .counts) k 0 ≡ inState k items 0 n)
+    (y .pieces ≡ n) × (y .frame ≡ frameGood s table items n) × (y .pair ≡ sharedPair s table items n)
+    × ((k : ℕ) → k ≤ 10 → getD (x .tally .counts) k 0 ≡ inState k items 0 n)
+    × ((y .whole ≡ true) ↔ ((y .frame ≡ true) × ((k : ℕ) → 1 ≤ k → k ≤ 10 → inState k items 0 n ≡ 0)))
 
 same-done : (a b : Summary) → Done a ≡ Done b → a ≡ b
 same-done a b e = cc
@@ -133,9 +130,17 @@ unfolding summary summedOf tallyOf
 by-marking-done (M.Marked k) s table items n words y e h =
     let r = marked-room n words k e in
     let z = same-done _ y h in
-    let c : (j : ℕ) → j ≤ 10 → getD (countsFrom items k 0 11) j 0 ≡ inState j items 0 k = λ j l. count-at items k 0 11 j (omega arith) ∙ ap (λ (x : ℕ). inState x items 0 k) (zero-add j) in
-    subst (λ (x : ℕ). Says s table items x y (byMarking (M.Marked k) s table items)) (r .0)
-    (ap (λ (x : Summary). x .pieces) (sym z), ap (λ (x : Summary). x .frame) (sym z), ap (λ (x : Summary). x .pair) (sym z), c)
+    let c : (j : ℕ) → j ≤ 10 → getD (countsFrom items k 0 11) j 0 ≡ inState j items 0 k = λ j l. counts-at items k 0 11 j (omega arith) ∙ ap (λ (x : ℕ). inState x items 0 k) (zero-add j) in
+    subst (λ (x : ℕ). Says s table items x y (byMarking (M.Marked k) s table items)) (r .0) (
+      ap (λ (x : Summary). x .pieces) (sym z),
+      ap (λ (x : Summary). x .frame) (sym z),
+      ap (λ (x : Summary). x .pair) (sym z),
+      c,
+      subst
+          (λ (x : Summary). (x .whole ≡ true) ↔ ((x .frame ≡ true) × ((j : ℕ) → 1 ≤ j → j ≤ 10 → inState j items 0 k ≡ 0)))
+          z
+          (whole-exactly (frameGood s table items k) items k),
+    )
 by-marking-done M.TooMany s table items n words y e h = let z : _≡_ {A = ℕ} 0 1 = cc in clash z
 by-marking-done (M.TableShort k) s table items n words y e h = let z : _≡_ {A = ℕ} 0 1 = cc in clash z
 
@@ -147,4 +152,4 @@ pub says-of-records : SaysOfRecords
 unfolding elementsAfter itemsAfter surveyOf
 says-of-records s e i y h =
     let r = by-reading-done (readingOf s e) s (elements.tableOf s e) i y h in
-    (rw h, rw h, r .0, r .1, r .2, r .3)
+    (rw h, rw h, r .0, r .1, r .2, r .3, r .4)

@@ -2,22 +2,20 @@
 -- are the survey of the text. Assumes nothing.
 use mathlib.Core.Path.{_≡_, refl, sym, ap, _∙_}
 use mathlib.Core.List.{List, [], _∷_, _++_}
-use Prim.Native.Nat.{ℕ, zero, suc, _-_, _*_, _/_, _≤_}
-use native.Mathlib.Omega.{arith}
-use lib.ListN.{length, getD, replicate}
+use Prim.Native.Nat.{ℕ, _-_, _*_, _≤_}
+use lib.ListN.{length, replicate}
 use Rattle.reading.specs.Rows.{rowsOf}
 use Rattle.names.specs.Names.{linksTable, twinsTable, sharedPair}
 use Rattle.worded.specs.Elements.{Piece, piecesOf}
 use Rattle.meaning.specs.Names.{Done, ownDoubled}
 use Rattle.meaning.specs.Items.{doneOf, donesFrom, donesOf, recordsOf}
-use Rattle.meaning.proofs.Records.{pending, pendings, piecesDone, pieces-pending, pieces-append, pieces-length}
+use Rattle.meaning.proofs.Records.{pendings, piecesDone, pieces-pending, pieces-length}
 use Rattle.meaning.proofs.Words.{pieceAt, pieces-waiting}
 use Rattle.meaning.proofs.Words as held
 use Rattle.meaning.proofs.Places.{tableOf}
 use Rattle.meaning.proofs.Doubles.{doubled-in, pair-same}
 use Rattle.meaning.proofs.Uses.{use-linked}
-use Rattle.meaning.proofs.Stages.{Told, ToldAll}
-use Rattle.meaning.proofs.Good.{Good}
+use Rattle.meaning.proofs.Stages.{ToldAll}
 use Rattle.packages.specs.Survey.{itemTable}
 
 -- the piece behind those done

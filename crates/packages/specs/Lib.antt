@@ -1,3 +1,3 @@
-pub mod Tables
 pub mod Survey
+pub mod Tables
 pub mod Promises

@@ -2,7 +2,7 @@
 use Prim.Native.Nat.{ℕ, _*_, _/_, _≤_, _<_}
 use mathlib.Core.Path.{_≡_}
 use mathlib.Core.Logic.{_↔_}
-use mathlib.Core.Bool.{Bool, true}
+use mathlib.Core.Bool.{true}
 use mathlib.Core.List.{List}
 use lib.ListN.{length, getD, replicate}
 use Rattle.places.specs.Sizes.{mostPieces}
@@ -13,8 +13,7 @@ use Rattle.reading.specs.Given.{Taken, Given}
 use Rattle.reading.specs.Reading as elements
 use Rattle.refusals.specs.declared.Refusal.{Refusal}
 use Rattle.worded.specs.Elements.{piecesOf}
-use Rattle.packages.specs.Tables.{refusedBy}
-use Rattle.packages.specs.Survey.{surveyOf, elementsAfter, itemsAfter, itemTable}
+use Rattle.packages.specs.Survey.{surveyOf, elementsAfter, itemsAfter, itemTable, refusedBy}
 use Rattle.packages.specs.declared.Survey.{Survey}
 use Rattle.packages.specs.declared.Summary.{Summary}
 use Rattle.packages.specs.declared.Outcome.the-variants.{Done, Refused}
@@ -55,11 +54,12 @@ ItemsShortExactly =
     (s : List ℕ) (e i k : ℕ)
     → (surveyOf s e i .outcome ≡ Refused (ItemsShort k)) ↔ (Taken s e × (length (piecesOf s) ≤ mostPieces) × (i / 8 < length (piecesOf s)) × (k ≡ i / 8))
 
--- What a survey that is done says: the frame and the first pair are those of its records, and each count of the tally is the number of items
--- in that state.
+-- What a survey that is done says: the frame and the first pair are those of its records, each count of the tally is the number of items in
+-- that state, and it is whole when the frame is good and every item is in state 0.
 abbrev pub SaysOfRecords : Type 0
 SaysOfRecords =
     (s : List ℕ) (e i : ℕ) (y : Summary) → surveyOf s e i .outcome ≡ Done y
     → (itemsAfter s e i ≡ itemTable s i) × (elementsAfter s e i ≡ elements.tableOf s e) × (y .pieces ≡ length (piecesOf s))
     × (y .frame ≡ frameGood s (elements.tableOf s e) (itemTable s i) (length (piecesOf s))) × (y .pair ≡ sharedPair s (elements.tableOf s e) (itemTable s i) (length (piecesOf s)))
     × ((k : ℕ) → k ≤ 10 → getD (surveyOf s e i .tally .counts) k 0 ≡ inState k (itemTable s i) 0 (length (piecesOf s)))
+    × ((y .whole ≡ true) ↔ ((y .frame ≡ true) × ((k : ℕ) → 1 ≤ k → k ≤ 10 → inState k (itemTable s i) 0 (length (piecesOf s)) ≡ 0)))

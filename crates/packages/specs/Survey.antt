@@ -13,15 +13,30 @@ use Rattle.pieces.specs.declared.Marking.the-variants as M
 use Rattle.names.specs.Names.{sharedPair}
 use Rattle.worded.specs.Elements.{piecesOf}
 use Rattle.meaning.specs.Items.{recordsOf}
-use Rattle.packages.specs.Tables.{refusedBy, summedOf}
+use Rattle.records.specs.Tallies.{tallyOf}
+use Rattle.records.specs.Frames.{frameGood, wholeOf}
+use Rattle.pairs.specs.declared.Pair.{Pair}
 use Rattle.packages.specs.declared.Outcome.{Outcome}
 use Rattle.packages.specs.declared.Outcome.the-variants.{Done, Refused}
 use Rattle.packages.specs.declared.Survey.{Survey}
+use Rattle.refusals.specs.declared.SurveyRefusal.{SurveyRefusal}
 use Rattle.refusals.specs.declared.SurveyRefusal.the-variants.{Elements, TooMany, ItemsShort}
+
+-- a refused survey has no item in any state
+abbrev pub refusedBy : SurveyRefusal → Survey
+refusedBy r = record { outcome = Refused r; tally = record { counts = replicate 11 0 } }
 
 -- the item table of a text: "one record to a piece", and zeros behind
 unfoldable pub itemTable : List ℕ → ℕ → List ℕ
 itemTable text words = recordsOf text ++ replicate (words - 8 * length (piecesOf text)) 0
+
+-- what n records say together: frame, whole and tally, and the pair
+unfoldable pub summedOf : List ℕ → List ℕ → List ℕ → ℕ → Pair → Survey
+summedOf text table items n pair =
+    record {
+      outcome = Done (record { pieces = n; frame = frameGood text table items n; whole = wholeOf (frameGood text table items n) (tallyOf items n); pair = pair });
+      tally = tallyOf items n;
+    }
 
 -- the survey of a text that is not refused: what its records say together, and the first pair
 unfoldable pub summary : List ℕ → List ℕ → List ℕ → ℕ → Survey

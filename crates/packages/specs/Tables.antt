@@ -7,34 +7,20 @@ use Rattle.places.specs.Sizes.{mostElements, mostPieces}
 use Rattle.pieces.specs.Records.{piecesIn, marking, recordTable}
 use Rattle.pieces.specs.declared.Marking.{Marking}
 use Rattle.pieces.specs.declared.Marking.the-variants as M
-use Rattle.records.specs.Tallies.{tallyOf}
-use Rattle.records.specs.Frames.{frameGood, wholeOf}
 use Rattle.pairs.specs.Pairs.{pairOf}
 use Rattle.pairs.specs.declared.Pair.{Pair}
 use Rattle.pairs.specs.declared.Pair.the-variants.{Neither}
 use Rattle.names.specs.Names.{linksTable, ownsTable, twinsTable, anyTwin}
 use Rattle.tree.specs.Items.{itemRows}
 use Rattle.items.specs.Items.{completed}
+use Rattle.packages.specs.Survey.{refusedBy, summedOf}
 use Rattle.packages.specs.declared.Survey.{Survey}
 use Rattle.packages.specs.declared.Outcome.{Outcome}
 use Rattle.packages.specs.declared.Outcome.the-variants.{Done, Refused}
-use Rattle.refusals.specs.declared.SurveyRefusal.{SurveyRefusal}
 use Rattle.refusals.specs.declared.SurveyRefusal.the-variants.{TooMany, ItemsShort}
-
--- a refused survey has no item in any state
-abbrev pub refusedBy : SurveyRefusal → Survey
-refusedBy r = record { outcome = Refused r; tally = record { counts = replicate 11 0 } }
 
 abbrev pub pairBy : Bool → List ℕ → ℕ → Pair
 pairBy any owns n = cond any (pairOf owns n) Neither
-
--- what n records say together: frame, whole and tally, and the pair
-unfoldable pub summedOf : List ℕ → List ℕ → List ℕ → ℕ → Pair → Survey
-summedOf text table items n pair =
-    record {
-      outcome = Done (record { pieces = n; frame = frameGood text table items n; whole = wholeOf (frameGood text table items n) (tallyOf items n); pair = pair });
-      tally = tallyOf items n;
-    }
 
 -- the records of n marked pieces, completed
 unfoldable pub itemsCompleted : List ℕ → List ℕ → ℕ → List ℕ → ℕ → List ℕ

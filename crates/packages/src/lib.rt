@@ -8,8 +8,8 @@ use records::Tally;
 use refusals::SurveyRefusal;
 ghost use mathlib.Core.Path.{_≡_};
 ghost use lib.ListN.{length};
-ghost use Rattle.packages.specs.Tables.{refusedBy, pairBy, summedOf, itemsSurvey, itemsCompleted, kept, piecesSurvey, piecesItems};
-ghost use Rattle.packages.specs.Survey.{surveyOf, elementsAfter, itemsAfter};
+ghost use Rattle.packages.specs.Tables.{pairBy, itemsSurvey, itemsCompleted, kept, piecesSurvey, piecesItems};
+ghost use Rattle.packages.specs.Survey.{surveyOf, elementsAfter, itemsAfter, refusedBy, summedOf};
 
 // What the survey says of a package as a whole, its tally aside.
 pub struct Summary {

@@ -1,11 +1,11 @@
 -- The kinds of elements that pieces are told by, and what a piece is by its kinds. Assumes nothing.
 use Prim.Native.Nat.{ℕ, _+_}
-use mathlib.Core.Bool.{Bool, true, false, cond, _&&_, _||_}
-use mathlib.Core.List.{List}
+use mathlib.Core.Bool.{Bool, false, cond, _&&_, _||_}
+use mathlib.Core.List.{List, [], _∷_}
 use lib.Dec.{eqb}
 use lib.ListN.{length, getD, take, drop}
 use Rattle.places.specs.Places.{kindsOf}
-use Rattle.pieces.specs.Cutting.{cut, pieceSize}
+use Rattle.pieces.specs.Cutting.{cut}
 use Rattle.pieces.specs.declared.Mark.{Mark}
 
 -- a class and a place
@@ -60,3 +60,8 @@ claimMark p = cond (isName (getD p 1 0)) (claimOf (getD p 0 0)) (mark 5 0)
 -- "class 1 to 5: heading, closing, constant, subtype, unclaimed", and the name's place in the piece, 0 where there is none
 unfoldable pub markOf : List ℕ → Mark
 markOf p = cond (isHeading p) (mark 1 1) (cond (isClosing p) (mark 2 (cond (hasName p) (behindWord p) 0)) (claimMark p))
+
+-- the word downto (58) stands among these: the direction of a subtype's range
+unfoldable pub anyDown : List ℕ → Bool
+anyDown [] = false
+anyDown (k ∷ ks) = eqb k 58 || anyDown ks

@@ -1,6 +1,6 @@
 -- The records of pieces before any item is read, and the refusals 9 and 10: "one record to a piece (class 1 to 5 ...; first element, count, name
 -- element, state; in state 0 kind ... and two numbers; what is absent is 0)". Assumes nothing.
-use Prim.Native.Nat.{ℕ, _+_, _-_, _*_, _/_, min}
+use Prim.Native.Nat.{ℕ, _+_, _-_, _/_, min}
 use mathlib.Core.Bool.{cond}
 use mathlib.Core.List.{List, [], _∷_, _++_}
 use lib.Dec.{eqb, ltb}

@@ -9,9 +9,6 @@ use Rattle.places.specs.Sizes.{mostBytes, mostElements}
 use Rattle.places.specs.Places.{rowWords}
 use Rattle.reading.specs.Rows.{rowsOf}
 use Rattle.reading.specs.Table.{cells}
-use Rattle.places.specs.declared.BytePlace.{BytePlace}
-use Rattle.places.specs.declared.ElementNumber.{ElementNumber}
-use Rattle.refusals.specs.declared.Refusal.{Refusal}
 use Rattle.refusals.specs.declared.Refusal.the-variants.{TextTooLong, TooManyElements, TableShort}
 use Rattle.reading.specs.declared.Reading.{Reading}
 use Rattle.reading.specs.declared.Reading.the-variants.{Read, Refused}

@@ -68,7 +68,7 @@ unfolding countsFrom
 counts-length items n k zero = refl
 counts-length items n k (suc m) = ap suc (counts-length items n (suc k) m)
 
-counts-at : (items : List ℕ) (n k m j : ℕ) → j < m → getD (countsFrom items n k m) j 0 ≡ inState (k + j) items 0 n
+pub counts-at : (items : List ℕ) (n k m j : ℕ) → j < m → getD (countsFrom items n k m) j 0 ≡ inState (k + j) items 0 n
 unfolding countsFrom
 counts-at items n k zero j h = absurd (not-suc-le-zero h)
 counts-at items n k (suc m) zero h = rw (add-zero k)

@@ -1,9 +1,9 @@
 // What the item records say together: the tally, and whether the frame is good. Every public function takes any tables.
 ghost use mathlib.Core.Path.{_≡_};
-ghost use Prim.Native.Nat.{ℕ, _+_, _-_, _≤_, _<_};
+ghost use Prim.Native.Nat.{_+_, _-_, _≤_, _<_};
 ghost use Rattle.records.specs.Records.{wordAt, isItem, isClaim, stateOf};
 ghost use Rattle.records.specs.Tallies.{tallyOf};
-ghost use Rattle.records.specs.Frames.{allItems, nameAgrees, frameGood, noneFrom, wholeOf};
+ghost use Rattle.records.specs.Frames.{allItems, nameAgrees, frameGood, wholeOf};
 
 // How many items are in each state, 0 to 10.
 pub struct Tally {

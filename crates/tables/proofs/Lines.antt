@@ -1,18 +1,18 @@
 -- The rules' symbols in lines of sixteen, and their sizes. Assumes nothing.
 use Prim.Native.Nat.{ℕ, zero, suc, _+_, _*_, _-_, _≤_, _<_}
-use mathlib.Core.Path.{_≡_, refl, sym as flip, _∙_, ap, ap₂, subst}
-use mathlib.Core.List.{List, [], _∷_, _++_}
+use mathlib.Core.Path.{_≡_, refl, _∙_, ap}
+use mathlib.Core.List.{List, [], _∷_}
 use mathlib.Core.Bool.{Bool, true, false, _&&_}
 use native.Mathlib.Omega.{arith}
-use lib.Dec.{T, ltb, leb, eqb, leb→le, eqb→eq}
+use lib.Dec.{T, ltb, leb, leb→le}
 use lib.ListN.{length, getD}
 use borrow.Author.Tests.{lt-ltb, le-ltb, ltb-true, ltb-false}
 use Rattle.ll.specs.Grammar.{Sym, tok, nt, act}
 use Rattle.ll.proofs.Theory.{and-left, and-right}
-use Rattle.ll.proofs.Check.{below, below-at}
+use Rattle.ll.proofs.Check.{below-at}
 use Rattle.forms.specs.Rules.{body, rules}
 use Rattle.tables.specs.Symbols.{symOf}
-use Rattle.tables.specs.Bytes.{Rule, flatten, sized, encode, padded, lined, sizeBytes, bodyBytes, formBytes}
+use Rattle.tables.specs.Bytes.{Rule, sized, encode, padded, lined, sizeBytes, bodyBytes, formBytes}
 use Rattle.tables.proofs.Tables.{in-front, behind, past-picks, flat-at}
 
 abbrev none : Rule

@@ -1,14 +1,14 @@
 -- The table's bytes against the definitions, each by one test that antt computes. Assumes nothing.
-use Prim.Native.Nat.{ℕ, zero, suc, _+_, _*_, _-_, _≤_, _<_}
+use Prim.Native.Nat.{ℕ, zero, suc, _+_, _*_, _≤_, _<_}
 use mathlib.Core.Path.{_≡_, refl, sym as flip, _∙_, ap, ap₂}
 use mathlib.Core.List.{List, [], _∷_, _++_}
-use mathlib.Core.Bool.{Bool, true, false, _&&_}
+use mathlib.Core.Bool.{Bool, true, _&&_}
 use native.Mathlib.Omega.{arith}
 use native.Mathlib.Nat.{suc-mul, zero-mul}
-use lib.Dec.{T, ltb, leb, eqb, leb→le, eqb→eq}
+use lib.Dec.{T, ltb, eqb, leb→le, eqb→eq}
 use lib.ListN.{length, getD, List·getD-append}
 use lib.Seq.{getD-append-add}
-use Rattle.ll.specs.Grammar.{Sym, tok, nt, act}
+use Rattle.ll.specs.Grammar.{Sym}
 use Rattle.ll.proofs.Theory.{and-left, and-right}
 use Rattle.forms.specs.Kinds.{kinds, numberOf, terminalOf, other}
 use Rattle.forms.specs.Picks.{picks, predict}

@@ -1,14 +1,14 @@
 -- What each action of the code makes of what the arrays hold is what the action makes of the state. Assumes nothing.
 use Prim.Native.Nat.{ℕ, zero, suc, _+_, _*_, _-_, _≤_, _<_}
 use mathlib.Core.Path.{_≡_, refl, sym, _∙_, ap, ap₂, subst}
-use mathlib.Core.Bool.{Bool, true, false}
+use mathlib.Core.Bool.{Bool, true, false, cond}
 use mathlib.Core.List.{List, [], _∷_}
 use native.Mathlib.Omega.{arith}
 use lib.ListN.{length, getD, drop, set, length-set, length-drop}
 use lib.Seq.{drop-drop, drop-set-add, getD-drop, getD-set-same, getD-set-other, sets}
 use borrow.Author.Tests.{lt-ltb, le-ltb, le-leb}
 use Rattle.ll.specs.Actions.{Step, go, stop}
-use Rattle.forms.specs.Tree.{State, Refusal, name-differs, fresh, top, onTop, joined, marked, named, rowed, isNamed, pickStep, does}
+use Rattle.forms.specs.Tree.{State, Refusal, name-differs, fresh, top, onTop, joined, marked, named, rowed, isNamed, does}
 use Rattle.forms.proofs.Nesting.{top-size, joined-less, joined-few}
 use Rattle.tree.specs.declared.Did.{Did}
 use Rattle.tree.specs.declared.Did.the-variants.{Went, Differs, Deep}
@@ -153,11 +153,11 @@ module _ (frames cells next heads : List ℕ) (fp used depth k : ℕ) (alike : �
       )
 
   -- by the name of the innermost frame
-  judged : (b : Bool) → b ≡ isNamed alike (getD frames (fp + 3) 0) (k - 1) → does alike 4 k s ≡ pickStep b (go s) (stop name-differs)
+  judged : (b : Bool) → b ≡ isNamed alike (getD frames (fp + 3) 0) (k - 1) → does alike 4 k s ≡ cond b (go s) (stop name-differs)
   unfolding does
   judged b q =
       let e : top (s .frames) .name ≡ getD frames (fp + 3) 0 = sym (holding.top-name (held .framed)) ∙ getD-drop fp frames 3 0 in
-      ap (λ (x : Bool). pickStep x (go s) (stop name-differs)) (ap (λ (x : ℕ). isNamed alike x (k - 1)) e ∙ sym q)
+      ap (λ (x : Bool). cond x (go s) (stop name-differs)) (ap (λ (x : ℕ). isNamed alike x (k - 1)) e ∙ sym q)
 
   pub act-same : (a : ℕ) (b : Bool) → a ≡ 4 → b ≡ isNamed alike (getD frames (fp + 3) 0) (k - 1) → b ≡ true
       → After (Went (record { fp = fp; depth = depth; used = used })) frames cells next heads a

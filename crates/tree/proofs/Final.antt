@@ -2,7 +2,7 @@
 use Prim.Native.Nat.{ℕ, _+_, _-_, _*_, _/_, _≤_, _<_}
 use mathlib.Core.Path.{_≡_, refl, sym, _∙_, ap, subst}
 use mathlib.Core.Logic.{⊎-elim}
-use mathlib.Core.Bool.{Bool}
+use mathlib.Core.Bool.{Bool, cond}
 use mathlib.Core.List.{List, [], _∷_, _++_}
 use native.Mathlib.Omega.{arith}
 use lib.ListN.{length, drop, getD, length-replicate}
@@ -16,7 +16,7 @@ use Rattle.tree.specs.declared.Answer.{Answer}
 use Rattle.tree.specs.declared.Answer.the-variants.{Tree, NoFile, NameDiffers, TooDeep, TableShort}
 use Rattle.tree.specs.declared.Found.{Found}
 use Rattle.tree.specs.declared.Found.the-variants.{Whole, Wrong, Other, Over}
-use Rattle.tree.specs.Answers.{wordsOf, answerOf, tableOf, pickAnswer, pickWords, elementsIn, readingIn}
+use Rattle.tree.specs.Answers.{wordsOf, answerOf, tableOf, elementsIn, readingIn}
 use Rattle.tree.specs.Held.{Spans, Tells, answerBy}
 use Rattle.tree.specs.Items.{rowsRead}
 use Rattle.tree.proofs.Found as declared
@@ -79,11 +79,11 @@ module _ (cells next heads : List ℕ) (r : Found) (o : End State Refusal) (tell
           let n : length (rowsOf s) ≡ used = t .1 in
           let m : 5 * length (rowsOf s) ≤ room = omega arith in
           let b = le-leb (5 * length (rowsOf s)) room m in (
-            ap Tree (sym n) ∙ sym (ap (λ (x : Bool). pickAnswer x (Tree (length (rowsOf s))) (TableShort (room / 5))) b),
+            ap Tree (sym n) ∙ sym (ap (λ (x : Bool). cond x (Tree (length (rowsOf s))) (TableShort (room / 5))) b),
             w (rowsOf s) (t .0)
                 ∙ ap (λ (l : List ℕ). sets l 0 (wordsOf (rowsOf s))) z
                 ∙ filled room (rowsOf s) m
-                ∙ sym (ap (λ (x : Bool). pickWords x (wordsOf (rowsOf s) ++ zeros (room - 5 * length (rowsOf s))) (zeros room)) b),
+                ∙ sym (ap (λ (x : Bool). cond x (wordsOf (rowsOf s) ++ zeros (room - 5 * length (rowsOf s))) (zeros room)) b),
           )
       go (bad j) t = absurd t
       go (stopped j x) t = absurd t
@@ -96,8 +96,8 @@ module _ (cells next heads : List ℕ) (r : Found) (o : End State Refusal) (tell
       go (read s) t =
           let n : length (rowsOf s) ≡ used = t .1 in
           let b = lt-leb (5 * length (rowsOf s)) room (omega arith) in (
-            sym (ap (λ (x : Bool). pickAnswer x (Tree (length (rowsOf s))) (TableShort (room / 5))) b),
-            z ∙ sym (ap (λ (x : Bool). pickWords x (wordsOf (rowsOf s) ++ zeros (room - 5 * length (rowsOf s))) (zeros room)) b),
+            sym (ap (λ (x : Bool). cond x (Tree (length (rowsOf s))) (TableShort (room / 5))) b),
+            z ∙ sym (ap (λ (x : Bool). cond x (wordsOf (rowsOf s) ++ zeros (room - 5 * length (rowsOf s))) (zeros room)) b),
           )
       go (bad j) t = absurd t
       go (stopped j x) t = absurd t

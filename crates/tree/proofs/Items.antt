@@ -1,6 +1,6 @@
 -- What a caller of `read_items` wants to know: how long the row table is, where the rows of a piece stand, and what they are by the forms.
 -- Assumes nothing.
-use Prim.Native.Nat.{ℕ, suc, _-_, _*_, _/_, _≤_, min}
+use Prim.Native.Nat.{ℕ, suc, _-_, _*_, _/_, _≤_, min, _+_}
 use mathlib.Core.Path.{_≡_, refl, sym, _∙_, ap, subst}
 use mathlib.Core.Logic.{_⊎_, inl, inr, ⊎-elim}
 use mathlib.Core.Bool.{Bool, true, false, _||_}
@@ -25,7 +25,7 @@ use Rattle.pieces.specs.Kinds.{piecesOf, closesPiece, opensPiece}
 use Rattle.places.specs.Places.{kindsOf}
 use Rattle.places.proofs.Laws.{kinds-length}
 use Rattle.tree.specs.Answers.{terminalsIn, wordsOf}
-use Rattle.tree.specs.Items.{unlike, readingOfPiece, rowsRead, rowsOfPiece, pieceWords, itemWords, total, itemsIn, itemRows}
+use Rattle.tree.specs.Items.{unlike, readingOfPiece, rowsRead, rowsOfPiece, pieceWords, itemWords, itemsIn, itemRows}
 use Rattle.tree.proofs.Zeros.{zeros, zeros-size}
 use Rattle.tree.proofs.Final.{words-size}
 use Rattle.tree.proofs.Lists.{terminals-length}
@@ -40,6 +40,11 @@ unfolding pieceWords
 piece-size p =
     let n = 5 * length p - 5 * length (rowsOfPiece p) in
     omega (arith, rows-few p, length-append (wordsOf (rowsOfPiece p)) (zeros n), words-size (rowsOfPiece p), zeros-size n)
+
+-- how many elements pieces have
+abbrev pub total : List (List ℕ) → ℕ
+total [] = 0
+total (p ∷ ps) = length p + total ps
 
 pub items-size : (ps : List (List ℕ)) → length (itemWords ps) ≡ 5 * total ps
 unfolding itemWords

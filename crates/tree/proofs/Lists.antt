@@ -4,7 +4,7 @@ use mathlib.Core.Path.{_≡_, refl, sym as flip, _∙_, ap, ap₂, subst}
 use mathlib.Core.List.{List, [], _∷_, _++_, append-assoc}
 use native.Mathlib.Omega.{arith}
 use lib.ListN.{length, getD, take, drop, set, length-set, drop-of-length-le}
-use lib.Seq.{drop-cons, drop-length, getD-drop, getD-set-same, drop-set-lt, sets, sets-eq, drop-at, length-take-le}
+use lib.Seq.{drop-cons, drop-length, getD-set-same, drop-set-lt, sets, sets-eq, drop-at, length-take-le}
 use Rattle.ll.specs.Grammar.{Sym, tok, look}
 use Rattle.forms.specs.Kinds.{terminalOf}
 use Rattle.tables.specs.Symbols.{symOf, syms}

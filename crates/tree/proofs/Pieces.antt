@@ -7,13 +7,12 @@ use mathlib.Core.List.{List, [], _∷_}
 use native.Mathlib.Omega.{arith}
 use borrow.Author.Tests.{eq-eqb, ne-eqb}
 use lib.Dec.{eqb}
-use lib.ListN.{length, getD, drop}
+use lib.ListN.{length, getD}
 use lib.Seq.{sets}
 use types.Run.{OneOf}
 use denote.Enum.Declared.{tagOf}
 use Rattle.ll.specs.Actions.{End, read, bad, stopped, spent}
 use Rattle.alike.specs.Alike.{sameName}
-use Rattle.forms.specs.Kinds.{terminalOf}
 use Rattle.forms.specs.Names.{constant, subtype}
 use Rattle.forms.specs.Tree.{Row, State, Refusal, rowsOf}
 use Rattle.forms.specs.Reading.{readingFrom}

@@ -1,7 +1,7 @@
 -- What reading an element table's elements as a file answers, and what the lent tree table then holds (01, "Refusals and their order").
 -- Assumes nothing: these are definitions.
-use Prim.Native.Nat.{ℕ, zero, suc, _-_, _*_, _/_, min}
-use mathlib.Core.Bool.{Bool, true, false}
+use Prim.Native.Nat.{ℕ, _-_, _*_, _/_, min}
+use mathlib.Core.Bool.{cond}
 use mathlib.Core.List.{List, [], _∷_, _++_}
 use lib.Dec.{leb}
 use lib.ListN.{length, replicate}
@@ -37,41 +37,18 @@ abbrev pub wordsOf : List Row → List ℕ
 wordsOf [] = []
 wordsOf (r ∷ rs) = r .form ∷ r .first ∷ r .count ∷ r .rows ∷ r .operator ∷ wordsOf rs
 
-abbrev pub pickAnswer : Bool → Answer → Answer → Answer
-pickAnswer true a b = a
-pickAnswer false a b = b
-
 -- the answer, if the tree table has room for `room` words
 abbrev pub answerOf : ℕ → End State Refusal → Answer
-answerOf room (read s) = pickAnswer (leb (5 * length (rowsOf s)) room) (Tree (length (rowsOf s))) (TableShort (room / 5))
+answerOf room (read s) = cond (leb (5 * length (rowsOf s)) room) (Tree (length (rowsOf s))) (TableShort (room / 5))
 answerOf room (bad k) = NoFile k
 answerOf room (stopped k name-differs) = NameDiffers (k - 1)
 answerOf room (stopped k too-deep) = TooDeep (k - 1)
 answerOf room spent = NoFile 0
 
-abbrev pub pickWords : Bool → List ℕ → List ℕ → List ℕ
-pickWords true a b = a
-pickWords false a b = b
-
 -- the tree table afterwards: the rows and then zeros; on a refusal zeros
 abbrev pub tableOf : ℕ → End State Refusal → List ℕ
 tableOf room (read s) =
-    pickWords (leb (5 * length (rowsOf s)) room) (wordsOf (rowsOf s) ++ replicate (room - 5 * length (rowsOf s)) 0) (replicate room 0)
+    cond (leb (5 * length (rowsOf s)) room) (wordsOf (rowsOf s) ++ replicate (room - 5 * length (rowsOf s)) 0) (replicate room 0)
 tableOf room (bad k) = replicate room 0
 tableOf room (stopped k r) = replicate room 0
 tableOf room spent = replicate room 0
-
--- 01's number of an answer, 0 for a tree, and its place
-abbrev pub numberOf : Answer → ℕ
-numberOf (Tree n) = 0
-numberOf (NoFile k) = 5
-numberOf (NameDiffers k) = 6
-numberOf (TooDeep k) = 7
-numberOf (TableShort k) = 8
-
-abbrev pub placeOf : Answer → ℕ
-placeOf (Tree n) = n
-placeOf (NoFile k) = k
-placeOf (NameDiffers k) = k
-placeOf (TooDeep k) = k
-placeOf (TableShort k) = k

@@ -46,11 +46,6 @@ unfoldable pub itemWords : List (List ℕ) → List ℕ
 itemWords [] = []
 itemWords (p ∷ ps) = pieceWords p ++ itemWords ps
 
--- how many elements pieces have
-abbrev pub total : List (List ℕ) → ℕ
-total [] = 0
-total (p ∷ ps) = length p + total ps
-
 -- how many elements count: no more than either table has, and no more than 8,192
 abbrev pub itemsIn : List ℕ → ℕ → ℕ → ℕ
 itemsIn table count words = min count (min (rowsIn table) (min (words / 5) mostElements))

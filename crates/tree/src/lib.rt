@@ -23,7 +23,7 @@ ghost use Rattle.tree.specs.declared.Did.the-variants.{Went};
 ghost use Rattle.tree.specs.Answers.{elementsIn, terminalsOf, readingIn, wordsOf, answerOf, tableOf};
 ghost use Rattle.pieces.specs.Kinds.{piecesOf};
 ghost use Rattle.places.specs.Places.{rowWords, kindsOf};
-ghost use Rattle.tree.specs.Items.{startOf, rowsOfPiece, itemWords, itemsIn, itemRows};
+ghost use Rattle.tree.specs.Items.{startOf, rowsOfPiece, itemWords, itemRows};
 ghost use Rattle.tree.specs.Held.{Held, Spans, Done, Tells, Starts, usedAfter, answerBy};
 
 // The stack's words, and the last of them; those of the frames, four to each, and where the outermost stands; and how many rows there may be,

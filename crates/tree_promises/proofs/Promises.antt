@@ -1,8 +1,8 @@
 -- The promises of the strict reading, each by what is proved of the machine and of any LL(1) grammar. Assumes nothing.
 use Prim.Native.Nat.{ℕ, zero, suc, _*_, _-_, _/_, _≤_, _<_}
 use mathlib.Core.Path.{_≡_, refl, sym, _∙_, ap, subst}
-use mathlib.Core.Logic.{_⊎_, inl, inr}
-use mathlib.Core.Bool.{Bool, true, false}
+use mathlib.Core.Logic.{inl, inr}
+use mathlib.Core.Bool.{Bool, true, false, cond}
 use mathlib.Core.List.{List, _++_}
 use native.Mathlib.Omega.{arith}
 use lib.Dec.{leb}
@@ -20,7 +20,7 @@ use Rattle.forms.specs.Open.{openAfter, openFrom}
 use Rattle.forms.proofs.Closing as closing
 use Rattle.forms.proofs.Tiling.{rows-tiled}
 use Rattle.forms.proofs.Leaves as order
-use Rattle.tree.specs.Answers.{readingIn, wordsOf, answerOf, tableOf, pickAnswer, pickWords}
+use Rattle.tree.specs.Answers.{readingIn, wordsOf, answerOf, tableOf}
 use Rattle.tree.specs.declared.Answer.the-variants.{Tree, NoFile, NameDiffers, TooDeep, TableShort}
 use Rattle.tree.proofs.Lists.{terminals-size}
 use Rattle.tree_promises.specs.Promises.{Elements, Answered, Accepts, HasRows, OneTree, NoFileExactly, NameDiffersExactly, TooDeepExactly, FileExactly, FirstWrong, StillBegins, TooManyOpen, NeverTooMany, WrongName, NeverWrongName, FirstDecides, IsShort, ZerosElse, RowsNest, LeavesInOrder, OperatorColumn, NoChoice}
@@ -33,7 +33,7 @@ clash z = absurd (omega arith)
 tree-end : (room rows : ℕ) (o : End State Refusal) → answerOf room o ≡ Tree rows → (s : State) × ((o ≡ read s) × (length (rowsOf s) ≡ rows) × (5 * rows ≤ room))
 tree-end room rows (read s) e = go (leb (5 * length (rowsOf s)) room) refl e
   where
-    go : (b : Bool) → leb (5 * length (rowsOf s)) room ≡ b → pickAnswer b (Tree (length (rowsOf s))) (TableShort (room / 5)) ≡ Tree rows
+    go : (b : Bool) → leb (5 * length (rowsOf s)) room ≡ b → cond b (Tree (length (rowsOf s))) (TableShort (room / 5)) ≡ Tree rows
         → (t : State) × ((_≡_ {A = End State Refusal} (read s) (read t)) × (length (rowsOf t) ≡ rows) × (5 * rows ≤ room))
     go true q e = let z : length (rowsOf s) ≡ rows = cc in (s, (refl, z, omega (arith, leb-true (5 * length (rowsOf s)) room q)))
     go false q e = let z : _≡_ {A = ℕ} 0 1 = cc in clash z
@@ -43,7 +43,7 @@ tree-end room rows (stopped k too-deep) e = let z : _≡_ {A = ℕ} 0 1 = cc in 
 tree-end room rows spent e = let z : _≡_ {A = ℕ} 0 1 = cc in clash z
 
 answer-read : (room : ℕ) (s : State) → 5 * length (rowsOf s) ≤ room → answerOf room (read s) ≡ Tree (length (rowsOf s))
-answer-read room s l = ap (λ (b : Bool). pickAnswer b (Tree (length (rowsOf s))) (TableShort (room / 5))) (le-leb (5 * length (rowsOf s)) room l)
+answer-read room s l = ap (λ (b : Bool). cond b (Tree (length (rowsOf s))) (TableShort (room / 5))) (le-leb (5 * length (rowsOf s)) room l)
 
 pub accepts : Accepts
 accepts text table n room rows = (
@@ -60,7 +60,7 @@ accepts text table n room rows = (
 pub has-rows : HasRows
 has-rows text table n room s f l =
     ap (tableOf room) (meaning.reads-files (sameName text table) (Elements table n) s .1 f)
-    ∙ ap (λ (b : Bool). pickWords b (wordsOf (rowsOf s) ++ replicate (room - 5 * length (rowsOf s)) 0) (replicate room 0)) (le-leb (5 * length (rowsOf s)) room l)
+    ∙ ap (λ (b : Bool). cond b (wordsOf (rowsOf s) ++ replicate (room - 5 * length (rowsOf s)) 0) (replicate room 0)) (le-leb (5 * length (rowsOf s)) room l)
 
 pub one-tree : OneTree
 one-tree text table n s t p q = meaning.one-reading (sameName text table) (Elements table n) s t p q
@@ -68,7 +68,7 @@ one-tree text table n s t p q = meaning.one-reading (sameName text table) (Eleme
 wrong-end : (room k : ℕ) (o : End State Refusal) → (o ≡ spent → ⊥) → answerOf room o ≡ NoFile k → o ≡ bad k
 wrong-end room k (read s) d e = go (leb (5 * length (rowsOf s)) room) e
   where
-    go : (b : Bool) → pickAnswer b (Tree (length (rowsOf s))) (TableShort (room / 5)) ≡ NoFile k → _≡_ {A = End State Refusal} (read s) (bad k)
+    go : (b : Bool) → cond b (Tree (length (rowsOf s))) (TableShort (room / 5)) ≡ NoFile k → _≡_ {A = End State Refusal} (read s) (bad k)
     go true e = let z : _≡_ {A = ℕ} 0 1 = cc in clash z
     go false e = let z : _≡_ {A = ℕ} 0 1 = cc in clash z
 wrong-end room k (bad j) d e = let z : j ≡ k = cc in ap bad z
@@ -88,35 +88,10 @@ first-wrong text table n room k e =
       meaning.no-file alike w k (wrong-end room k (readingIn text table n) (meaning.always-answers alike w) e),
     )
 
-stop-end : (room k : ℕ) (o : End State Refusal) → (answerOf room o ≡ NameDiffers k) ⊎ (answerOf room o ≡ TooDeep k) → (j : ℕ) × ((r : Refusal) × ((o ≡ stopped j r) × (k ≡ j - 1)))
-stop-end room k (read s) (inl e) = go (leb (5 * length (rowsOf s)) room) e
-  where
-    go : (b : Bool) → pickAnswer b (Tree (length (rowsOf s))) (TableShort (room / 5)) ≡ NameDiffers k → (j : ℕ) × ((r : Refusal) × ((_≡_ {A = End State Refusal} (read s) (stopped j r)) × (k ≡ j - 1)))
-    go true e = let z : _≡_ {A = ℕ} 0 1 = cc in clash z
-    go false e = let z : _≡_ {A = ℕ} 0 1 = cc in clash z
-stop-end room k (read s) (inr e) = go (leb (5 * length (rowsOf s)) room) e
-  where
-    go : (b : Bool) → pickAnswer b (Tree (length (rowsOf s))) (TableShort (room / 5)) ≡ TooDeep k → (j : ℕ) × ((r : Refusal) × ((_≡_ {A = End State Refusal} (read s) (stopped j r)) × (k ≡ j - 1)))
-    go true e = let z : _≡_ {A = ℕ} 0 1 = cc in clash z
-    go false e = let z : _≡_ {A = ℕ} 0 1 = cc in clash z
-stop-end room k (bad j) (inl e) = let z : _≡_ {A = ℕ} 0 1 = cc in clash z
-stop-end room k (bad j) (inr e) = let z : _≡_ {A = ℕ} 0 1 = cc in clash z
-stop-end room k (stopped j name-differs) (inl e) = let z : k ≡ j - 1 = cc in (j, (name-differs, (refl, z)))
-stop-end room k (stopped j name-differs) (inr e) = let z : _≡_ {A = ℕ} 0 1 = cc in clash z
-stop-end room k (stopped j too-deep) (inl e) = let z : _≡_ {A = ℕ} 0 1 = cc in clash z
-stop-end room k (stopped j too-deep) (inr e) = let z : k ≡ j - 1 = cc in (j, (too-deep, (refl, z)))
-stop-end room k spent (inl e) = let z : _≡_ {A = ℕ} 0 1 = cc in clash z
-stop-end room k spent (inr e) = let z : _≡_ {A = ℕ} 0 1 = cc in clash z
-
-pub still-begins : StillBegins
-still-begins text table n room k e =
-    let t = stop-end room k (readingIn text table n) e in
-    (t .0, (t .1 .1 .1, meaning.still-begins (sameName text table) (Elements table n) (t .0) (t .1 .0) (t .1 .1 .0)))
-
 deep-end : (room k : ℕ) (o : End State Refusal) → answerOf room o ≡ TooDeep k → (j : ℕ) × ((o ≡ stopped j too-deep) × (k ≡ j - 1))
 deep-end room k (read s) e = go (leb (5 * length (rowsOf s)) room) e
   where
-    go : (b : Bool) → pickAnswer b (Tree (length (rowsOf s))) (TableShort (room / 5)) ≡ TooDeep k → (j : ℕ) × ((_≡_ {A = End State Refusal} (read s) (stopped j too-deep)) × (k ≡ j - 1))
+    go : (b : Bool) → cond b (Tree (length (rowsOf s))) (TableShort (room / 5)) ≡ TooDeep k → (j : ℕ) × ((_≡_ {A = End State Refusal} (read s) (stopped j too-deep)) × (k ≡ j - 1))
     go true e = let z : _≡_ {A = ℕ} 0 1 = cc in clash z
     go false e = let z : _≡_ {A = ℕ} 0 1 = cc in clash z
 deep-end room k (bad j) e = let z : _≡_ {A = ℕ} 0 1 = cc in clash z
@@ -143,7 +118,7 @@ never-too-many text table n s f i = opening.never-deep (sameName text table) (El
 name-end : (room k : ℕ) (o : End State Refusal) → answerOf room o ≡ NameDiffers k → (j : ℕ) × ((o ≡ stopped j name-differs) × (k ≡ j - 1))
 name-end room k (read s) e = go (leb (5 * length (rowsOf s)) room) e
   where
-    go : (b : Bool) → pickAnswer b (Tree (length (rowsOf s))) (TableShort (room / 5)) ≡ NameDiffers k → (j : ℕ) × ((_≡_ {A = End State Refusal} (read s) (stopped j name-differs)) × (k ≡ j - 1))
+    go : (b : Bool) → cond b (Tree (length (rowsOf s))) (TableShort (room / 5)) ≡ NameDiffers k → (j : ℕ) × ((_≡_ {A = End State Refusal} (read s) (stopped j name-differs)) × (k ≡ j - 1))
     go true e = let z : _≡_ {A = ℕ} 0 1 = cc in clash z
     go false e = let z : _≡_ {A = ℕ} 0 1 = cc in clash z
 name-end room k (bad j) e = let z : _≡_ {A = ℕ} 0 1 = cc in clash z
@@ -225,10 +200,14 @@ first-decides text table n room k = (
     w : List ℕ
     w = Elements table n
 
+pub still-begins : StillBegins
+still-begins text table n room k (inl e) = first-decides text table n room k .1 e .0
+still-begins text table n room k (inr e) = first-decides text table n room k .2 e .0
+
 short-end : (room k : ℕ) (o : End State Refusal) → answerOf room o ≡ TableShort k → (k ≡ room / 5) × ((s : State) × ((o ≡ read s) × (room < 5 * length (rowsOf s))))
 short-end room k (read s) e = go (leb (5 * length (rowsOf s)) room) refl e
   where
-    go : (b : Bool) → leb (5 * length (rowsOf s)) room ≡ b → pickAnswer b (Tree (length (rowsOf s))) (TableShort (room / 5)) ≡ TableShort k
+    go : (b : Bool) → leb (5 * length (rowsOf s)) room ≡ b → cond b (Tree (length (rowsOf s))) (TableShort (room / 5)) ≡ TableShort k
         → (k ≡ room / 5) × ((t : State) × ((_≡_ {A = End State Refusal} (read s) (read t)) × (room < 5 * length (rowsOf t))))
     go true q e = let z : _≡_ {A = ℕ} 0 1 = cc in clash z
     go false q e = let z : k ≡ room / 5 = cc in (z, (s, (refl, leb-false (5 * length (rowsOf s)) room q)))
@@ -238,7 +217,7 @@ short-end room k (stopped j too-deep) e = let z : _≡_ {A = ℕ} 0 1 = cc in cl
 short-end room k spent e = let z : _≡_ {A = ℕ} 0 1 = cc in clash z
 
 answer-short : (room : ℕ) (s : State) → room < 5 * length (rowsOf s) → answerOf room (read s) ≡ TableShort (room / 5)
-answer-short room s l = ap (λ (b : Bool). pickAnswer b (Tree (length (rowsOf s))) (TableShort (room / 5))) (lt-leb (5 * length (rowsOf s)) room l)
+answer-short room s l = ap (λ (b : Bool). cond b (Tree (length (rowsOf s))) (TableShort (room / 5))) (lt-leb (5 * length (rowsOf s)) room l)
 
 pub is-short : IsShort
 is-short text table n room k = (
@@ -256,8 +235,8 @@ is-short text table n room k = (
 zeros-end : (room : ℕ) (o : End State Refusal) → ((rows : ℕ) → answerOf room o ≡ Tree rows → ⊥) → tableOf room o ≡ replicate room 0
 zeros-end room (read s) d = go (leb (5 * length (rowsOf s)) room) d
   where
-    go : (b : Bool) → ((rows : ℕ) → pickAnswer b (Tree (length (rowsOf s))) (TableShort (room / 5)) ≡ Tree rows → ⊥)
-        → pickWords b (wordsOf (rowsOf s) ++ replicate (room - 5 * length (rowsOf s)) 0) (replicate room 0) ≡ replicate room 0
+    go : (b : Bool) → ((rows : ℕ) → cond b (Tree (length (rowsOf s))) (TableShort (room / 5)) ≡ Tree rows → ⊥)
+        → cond b (wordsOf (rowsOf s) ++ replicate (room - 5 * length (rowsOf s)) 0) (replicate room 0) ≡ replicate room 0
     go true d = absurd (d (length (rowsOf s)) refl)
     go false d = refl
 zeros-end room (bad k) d = refl

@@ -3,7 +3,7 @@
 use Prim.Native.Nat.{ℕ, suc, _*_, _-_, _/_, _≤_, _<_}
 use mathlib.Core.Path.{_≡_}
 use mathlib.Core.Logic.{_↔_, _⊎_}
-use mathlib.Core.Bool.{true, false}
+use mathlib.Core.Bool.{true}
 use mathlib.Core.List.{List, _++_}
 use lib.ListN.{length, replicate}
 use Rattle.alike.specs.Alike.{sameName}
@@ -16,7 +16,7 @@ use Rattle.forms.specs.Operators.{OperatorRight, EachRow}
 use Rattle.tree.specs.Answers.{terminalsOf, readingIn, wordsOf, answerOf, tableOf}
 use Rattle.tree.specs.declared.Answer.{Answer}
 use Rattle.tree.specs.declared.Answer.the-variants.{Tree, NoFile, NameDiffers, TooDeep, TableShort}
-use Rattle.tree_promises.specs.Due.{SomeDue, NoFileFirst, NameFirst, DepthFirst}
+use Rattle.tree_promises.specs.Due.{NameDue, SomeDue, NoFileFirst, NameFirst, DepthFirst}
 
 -- what the first n elements are to the forms
 abbrev pub Elements : List ℕ → ℕ → List ℕ
@@ -66,8 +66,8 @@ FileExactly =
     (text table : List ℕ) (n : ℕ)
     → ((k : ℕ) → SomeDue (sameName text table) (Elements table n) k → ⊥) ↔ ((s : State) × File text table n s)
 
--- Where refusal 5 is answered, its place is exact: the elements before it begin some file, and with the element at it, or at the text's end
--- as they are, they begin none and are none.
+-- Where refusal 5 is answered, its place is exact: the elements before it begin some file, and with the element at it they begin none; at the
+-- text's end they begin one and are none.
 abbrev pub FirstWrong : Type 0
 FirstWrong =
     (text table : List ℕ) (n room k : ℕ) → Answered text table n room ≡ NoFile k
@@ -77,7 +77,7 @@ FirstWrong =
 abbrev pub StillBegins : Type 0
 StillBegins =
     (text table : List ℕ) (n room k : ℕ) → (Answered text table n room ≡ NameDiffers k) ⊎ (Answered text table n room ≡ TooDeep k)
-    → (j : ℕ) × ((k ≡ j - 1) × Begins (Elements table n) j)
+    → Begins (Elements table n) (suc k)
 
 -- Refusal 7, said of the elements alone: the elements up to its place, itself included, leave 33 open, and no fewer of them do. A file never
 -- has more than 32 open.
@@ -91,9 +91,7 @@ NeverTooMany = (text table : List ℕ) (n : ℕ) (s : State) → File text table
 
 -- Refusal 6, said of the elements alone: its place is a closing name, and what it closes has no name, or another.
 abbrev pub WrongName : Type 0
-WrongName =
-    (text table : List ℕ) (n room k : ℕ) → Answered text table n room ≡ NameDiffers k
-    → (name : ℕ) × ((closesAt (Elements table n) k ≡ named name) × (isNamed (sameName text table) name k ≡ false))
+WrongName = (text table : List ℕ) (n room k : ℕ) → Answered text table n room ≡ NameDiffers k → NameDue (sameName text table) (Elements table n) k
 
 -- each closing name among the first m elements is the name of what it closes
 abbrev pub NamesRight : List ℕ → List ℕ → ℕ → ℕ → Type 0

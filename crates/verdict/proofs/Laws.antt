@@ -1,14 +1,14 @@
 -- What the loop cites: the verdict on the rows left, with what was passed, is the whole verdict. Assumes nothing.
 use Prim.Native.Nat.{ℕ, zero, suc, _+_, _*_, _/_, _≤_, _<_, min}
 use mathlib.Core.Path.{_≡_, refl, sym, _∙_, ap}
-use mathlib.Core.Bool.{Bool, true, false}
+use mathlib.Core.Bool.{Bool, true, false, cond}
 use mathlib.Core.List.{List, _∷_}
 use native.Mathlib.Omega.{arith}
 use native.Mathlib.Numerals.{add-one}
 use lib.ListN.{length, getD, drop, drop-of-length-le}
 use lib.Seq.{drop-cons, getD-drop}
 use Rattle.verdict.specs.declared.Verdict.the-variants.{Passes, NotSupported}
-use Rattle.verdict.specs.Verdict.{unsupported, pickVerdict, verdictFrom, formsIn, verdictOf}
+use Rattle.verdict.specs.Verdict.{unsupported, verdictFrom, formsIn, verdictOf}
 
 pub forms-size : (n : ℕ) (l : List ℕ) → length (formsIn n l) ≡ n
 unfolding formsIn
@@ -35,7 +35,7 @@ unfolding verdictOf
 all-left l n = refl
 
 module _ (l : List ℕ) (n before i : ℕ) (inv : Whole l n before i) where
-  here : i < n → i < length l / 5 → verdictOf l n ≡ pickVerdict (unsupported before (getD l (5 * i) 0)) (NotSupported i) (verdictFrom (getD l (5 * i) 0) (suc i) (drop (suc i) (formsIn (rowsIn l n) l)))
+  here : i < n → i < length l / 5 → verdictOf l n ≡ cond (unsupported before (getD l (5 * i) 0)) (NotSupported i) (verdictFrom (getD l (5 * i) 0) (suc i) (drop (suc i) (formsIn (rowsIn l n) l)))
   unfolding verdictFrom
   here h m =
       let k : i < rowsIn l n = omega arith in
@@ -52,9 +52,9 @@ module _ (l : List ℕ) (n before i : ℕ) (inv : Whole l n before i) where
 
   pub first-fails : (r : Bool) → i < n → i < length l / 5 → r ≡ unsupported before (getD l (5 * i) 0) → r ≡ true → NotSupported i ≡ verdictOf l n
   first-fails r h m e t =
-      sym (here h m ∙ ap (λ (b : Bool). pickVerdict b (NotSupported i) (verdictFrom (getD l (5 * i) 0) (suc i) (drop (suc i) (formsIn (rowsIn l n) l)))) (sym e ∙ t))
+      sym (here h m ∙ ap (λ (b : Bool). cond b (NotSupported i) (verdictFrom (getD l (5 * i) 0) (suc i) (drop (suc i) (formsIn (rowsIn l n) l)))) (sym e ∙ t))
 
   pub goes-on : (r : Bool) → i < n → i < length l / 5 → r ≡ unsupported before (getD l (5 * i) 0) → r ≡ false → Whole l n (getD l (5 * i) 0) (i + 1)
   goes-on r h m e t =
       ap (λ (j : ℕ). verdictFrom (getD l (5 * i) 0) j (drop j (formsIn (rowsIn l n) l))) (add-one i)
-      ∙ sym (here h m ∙ ap (λ (b : Bool). pickVerdict b (NotSupported i) (verdictFrom (getD l (5 * i) 0) (suc i) (drop (suc i) (formsIn (rowsIn l n) l)))) (sym e ∙ t))
+      ∙ sym (here h m ∙ ap (λ (b : Bool). cond b (NotSupported i) (verdictFrom (getD l (5 * i) 0) (suc i) (drop (suc i) (formsIn (rowsIn l n) l)))) (sym e ∙ t))

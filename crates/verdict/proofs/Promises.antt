@@ -1,12 +1,12 @@
 -- The verdict's promises, by induction over the forms. Assumes nothing.
 use Prim.Native.Nat.{ℕ, zero, suc, _+_, _/_, _<_, min}
 use mathlib.Core.Path.{_≡_, refl, sym, _∙_, ap, ap₂, subst}
-use mathlib.Core.Bool.{Bool, true, false}
+use mathlib.Core.Bool.{Bool, true, false, cond}
 use mathlib.Core.List.{List, [], _∷_}
 use native.Mathlib.Omega.{arith}
 use lib.ListN.{length, getD}
 use Rattle.verdict.specs.declared.Verdict.the-variants.{Passes, NotSupported}
-use Rattle.verdict.specs.Verdict.{unsupported, pickVerdict, verdictFrom, formsIn, verdictOf}
+use Rattle.verdict.specs.Verdict.{unsupported, verdictFrom, formsIn, verdictOf}
 use Rattle.verdict.specs.Promises.{formAt, formBefore, PassesExactly, NamesFirst}
 use Rattle.verdict.proofs.Laws.{forms-size, forms-get}
 
@@ -36,7 +36,7 @@ unfolding verdictFrom
 passes-all b i [] e j l = absurd (omega arith)
 passes-all b i (f ∷ fs) e j l = go (unsupported b f) refl e (passes-all f (suc i) fs) j l
   where
-    go : (t : Bool) → unsupported b f ≡ t → pickVerdict t (NotSupported i) (verdictFrom f (suc i) fs) ≡ Passes
+    go : (t : Bool) → unsupported b f ≡ t → cond t (NotSupported i) (verdictFrom f (suc i) fs) ≡ Passes
         → (verdictFrom f (suc i) fs ≡ Passes → (j : ℕ) → j < length fs → Good f fs j) → (j : ℕ) → j < suc (length fs) → Good b (f ∷ fs) j
     go true q e ih j l = let z : _≡_ {A = ℕ} 0 1 = cc in clash z
     go false q e ih zero l = q
@@ -46,7 +46,7 @@ all-pass : (b i : ℕ) (fs : List ℕ) → ((j : ℕ) → j < length fs → Good
 unfolding verdictFrom
 all-pass b i [] h = refl
 all-pass b i (f ∷ fs) h =
-    ap (λ (t : Bool). pickVerdict t (NotSupported i) (verdictFrom f (suc i) fs)) (h 0 (omega arith))
+    ap (λ (t : Bool). cond t (NotSupported i) (verdictFrom f (suc i) fs)) (h 0 (omega arith))
     ∙ all-pass f (suc i) fs (λ j l. earlier b f fs j (h (suc j) (omega arith)))
 
 record First (b i : ℕ) (fs : List ℕ) (k : ℕ) : Type 0 where
@@ -61,7 +61,7 @@ unfolding verdictFrom
 first b i [] k e = let z : _≡_ {A = ℕ} 0 1 = cc in clash z
 first b i (f ∷ fs) k e = go (unsupported b f) refl e (first f (suc i) fs k)
   where
-    go : (t : Bool) → unsupported b f ≡ t → pickVerdict t (NotSupported i) (verdictFrom f (suc i) fs) ≡ NotSupported k
+    go : (t : Bool) → unsupported b f ≡ t → cond t (NotSupported i) (verdictFrom f (suc i) fs) ≡ NotSupported k
         → (verdictFrom f (suc i) fs ≡ NotSupported k → First f (suc i) fs k) → First b i (f ∷ fs) k
     go true q e ih =
         let z : i ≡ k = cc in

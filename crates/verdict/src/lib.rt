@@ -1,8 +1,6 @@
 // The synthesis verdict on a tree: passes, or the first row that is not supported.
 ghost use mathlib.Core.Path.{_≡_};
-ghost use mathlib.Core.Bool.{_&&_, _||_};
-ghost use Prim.Native.Nat.{_+_, _/_, _≤_, _<_, _*_};
-ghost use lib.ListN.{length, drop};
+ghost use Prim.Native.Nat.{_+_, _/_, _<_, _*_};
 ghost use Rattle.verdict.specs.Verdict.{unsupported, verdictOf};
 
 pub enum Verdict {

@@ -16,9 +16,9 @@ use Rattle.reading.specs.Rows.{rowsOf}
 use Rattle.reading.specs.Table.{cells}
 use Rattle.operands.specs.Operands.{bytesAt}
 use Rattle.reading.proofs.Promises.{stand-in-order}
-use Rattle.worded.specs.Elements.{elementsOf, elementAt, at}
+use Rattle.worded.specs.Elements.{elementsOf, at}
 use Rattle.worded.specs.Names.{sameAs}
-use Rattle.worded.proofs.Tables.{cell-word, element-at, row-within}
+use Rattle.worded.proofs.Tables.{elementAt, cell-word, element-at, row-within}
 
 agree-bytes : (basic : Bool) (s : List ℕ) (x y n : ℕ) → x + n ≤ length s → y + n ≤ length s → agree basic s x y n ≡ spelt basic (take n (drop x s)) (take n (drop y s))
 unfolding agree spelt

@@ -15,7 +15,11 @@ use Rattle.reading.specs.Promises.{InOrder}
 use Rattle.reading.proofs.TableLaws.{length-cells}
 use Rattle.places.specs.Places.{kindsOf}
 use Rattle.operands.specs.Operands.{bytesAt}
-use Rattle.worded.specs.Elements.{nothing, elementsOf, elementAt, at, kinds}
+use Rattle.worded.specs.Elements.{Element, elementsOf, at, kinds}
+
+-- element e of a text and its element table
+unfoldable pub elementAt : List ℕ → List ℕ → ℕ → Element
+elementAt text table e = record { kind = cellAt table e 0; bytes = bytesAt text table e }
 
 -- word j of row e, 0 past the last
 unfoldable pub rowWord : List Row → ℕ → ℕ → ℕ

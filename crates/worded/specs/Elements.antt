@@ -5,8 +5,6 @@ use mathlib.Core.List.{List, [], _∷_}
 use lib.ListN.{getD, take, drop}
 use Rattle.elements.specs.Kinds.{kindNumber}
 use Rattle.reading.specs.Rows.{Row, rowsOf}
-use Rattle.places.specs.Places.{cellAt}
-use Rattle.operands.specs.Operands.{bytesAt}
 use Rattle.pieces.specs.Cutting.{cut}
 use Rattle.pieces.specs.Kinds.{closesPiece, opensPiece}
 
@@ -43,7 +41,3 @@ opens x = opensPiece (x .kind)
 -- the pieces of a text
 unfoldable pub piecesOf : List ℕ → List Piece
 piecesOf text = cut closes opens (elementsOf text (rowsOf text))
-
--- element e of a text and its element table
-unfoldable pub elementAt : List ℕ → List ℕ → ℕ → Element
-elementAt text table e = record { kind = cellAt table e 0; bytes = bytesAt text table e }

@@ -15,7 +15,7 @@ use lib.Seq.{drop-cons, drop-drop, drop-append-seam}
 use Rattle.classes.specs.Bytes.{within, isLetter, lower}
 use Rattle.classes.proofs.Laws.{part-rest, by-test, within-low, within-high, and-left, and-right, not-upper, not-lower}
 use Rattle.words.specs.Words.{delimiters, bytesOf, begins, spells, placeFrom}
-use Rattle.words.specs.Packed.{packed, searched, byteFrom}
+use Rattle.words.specs.Packed.{searched, byteFrom}
 use Rattle.words.specs.declared.Place.{Place}
 use Rattle.words.specs.declared.Place.the-variants.{At, Nowhere}
 
@@ -82,6 +82,11 @@ entry-spells w x r = go (eqb (length (bytesOf x)) (length w)) refl
     go : (y : Bool) → eqb (length (bytesOf x)) (length w) ≡ y → (y && begins w (bytesOf x ++ r)) ≡ (y && begins w (bytesOf x))
     go true e = begins-front w (bytesOf x) r (eqb-true _ _ e)
     go false e = refl
+
+-- words in one string of bytes, each behind its length
+unfoldable pub packed : List String → List ℕ
+packed [] = []
+packed (x ∷ xs) = length (bytesOf x) ∷ (bytesOf x ++ packed xs)
 
 pub packed-place : (k : ℕ) (w : List ℕ) (xs : List String) → searched 0 k w (packed xs) ≡ placeFrom k w xs
 unfolding searched packed placeFrom

@@ -1,17 +1,12 @@
 -- The lists of words as the code holds them: one string of bytes, each word behind its length. Assumes nothing.
 use Prim.Native.Nat.{ℕ, zero, suc}
-use Prim.Native.String.{String}
 use mathlib.Core.Bool.{true, false, _&&_}
-use mathlib.Core.List.{List, [], _∷_, _++_}
+use mathlib.Core.List.{List, [], _∷_}
 use lib.Dec.{eqb}
 use lib.ListN.{length}
-use Rattle.words.specs.Words.{bytesOf, begins}
+use Rattle.words.specs.Words.{begins}
 use Rattle.words.specs.declared.Place.{Place}
 use Rattle.words.specs.declared.Place.the-variants.{At, Nowhere}
-
-unfoldable pub packed : List String → List ℕ
-packed [] = []
-packed (x ∷ xs) = length (bytesOf x) ∷ (bytesOf x ++ packed xs)
 
 -- the search in such a string: the next word is number k, once so many bytes are passed over
 unfoldable pub searched : ℕ → ℕ → List ℕ → List ℕ → Place

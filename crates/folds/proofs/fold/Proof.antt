@@ -7,7 +7,6 @@ use Rattle.folds.proofs.fold_rows.Reads as fold-rows-reads
 use Rattle.lent.proofs.least.Reads as least-reads
 use Rattle.folds.proofs.Turns.{folded-whole}
 use borrow.Author.Needs.{needs}
-use native.Mathlib.Omega.{arith}
 
 least-requires : tie.Need-least-requires
 least-requires c κs = search needs

@@ -10,7 +10,7 @@ use Rattle.folds.proofs.row_outcome.Reads as row-outcome-reads
 use borrow.Author.Needs.{needs}
 use native.Mathlib.Omega.{arith}
 use mathlib.Core.Path.{_≡_, refl}
-use Prim.Native.Nat.{_*_, _≤_}
+use Prim.Native.Nat.{_≤_}
 use lib.ListN.{length}
 use Rattle.folds.proofs.Turns.{Stored, stored-start, stored-turn, stored-end}
 use Prim.Native.Nat.{_-_}

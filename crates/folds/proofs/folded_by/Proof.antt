@@ -5,10 +5,9 @@ use Rattle.folds.proofs.folded_by.Tie as tie
 use Rattle.folds.proofs.folded_by.Reads as reads
 use Rattle.folds.proofs.folded_by.Lts as lts
 use Rattle.values.proofs.number.Reads as number-reads
-use Rattle.folds.proofs.Stored.{whole-by, truth-by, stopped-by}
+use Rattle.folds.proofs.Stored.{truth-by, stopped-by}
 use mir.Syntax.{w32}
 use mir.ValLaws.{toZ-ofZ}
-use Rattle.values.proofs.Laws.{number-fits}
 use mathlib.Core.Path.{ap}
 use Rattle.integers.specs.declared.Folded.the-variants.{Whole}
 use Rattle.folds.specs.Stored.{foldedBy}

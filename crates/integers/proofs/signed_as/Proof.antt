@@ -1,6 +1,6 @@
 -- `integers::signed_as` meets its contract: the four ways that two signs meet, and a remainder of 0. Assumes nothing.
 use mathlib.Core.Path.{_≡_, sym}
-use lib.IntN.{ℤ, _+ℤ_}
+use lib.IntN.{_+ℤ_}
 use mir.Syntax.{w64}
 use mir.Val.{SFits, toZ, ofZ}
 use mir.ValLaws.{toZ-ofZ}

@@ -7,11 +7,11 @@ use Rattle.items.proofs.complete.Reads as complete-reads
 use Rattle.lent.proofs.least.Reads as least-reads
 use borrow.Author.Needs.{needs}
 use native.Mathlib.Omega.{arith}
-use mathlib.Core.Path.{_≡_, refl, _∙_}
-use Prim.Native.Nat.{_-_, _*_, _/_, _≤_}
+use mathlib.Core.Path.{_≡_, refl}
+use Prim.Native.Nat.{_-_, _*_, _≤_}
 use lib.ListN.{length}
 use Rattle.items.specs.Items.{completedFrom, completed}
-use Rattle.items.proofs.Laws.{completed-start, completed-turn, completed-end, completed-length}
+use Rattle.items.proofs.Laws.{completed-start, completed-turn, completed-end}
 
 abbrev Inv-loop : tie.InvT-loop
 Inv-loop text elements links twins rows items₀ n most i₀ items i = (i ≤ most) × (length items ≡ length items₀) × (8 * most ≤ length items₀) × (completedFrom text elements links twins rows items i (most - i) ≡ completed text elements links twins rows items₀ n)

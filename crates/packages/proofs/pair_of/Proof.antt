@@ -5,7 +5,7 @@ use Rattle.packages.proofs.pair_of.Tie as tie
 use Rattle.packages.proofs.pair_of.Reads as reads
 use Rattle.packages.proofs.pair_of.Lts as lts
 use Rattle.pairs.proofs.first_pair.Reads as first-pair-reads
-use Rattle.packages.proofs.Laws.{pair-there, pair-none}
+use Rattle.packages.proofs.Laws.{pair-there}
 
 first-pair-requires : tie.Need-first-pair-requires
 first-pair-requires c κs = search needs

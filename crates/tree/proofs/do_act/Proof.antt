@@ -2,7 +2,7 @@
 use Prim.Native.Nat.{_+_}
 use mathlib.Core.Path.{sym, subst}
 use native.Mathlib.Omega.{arith}
-use lib.ListN.{set, length-set}
+use lib.ListN.{set}
 use Rattle.alike.specs.Alike.{sameName}
 use Rattle.tree.specs.declared.Did.{Did}
 use Rattle.tree.proofs.Acts as acts

@@ -1,5 +1,4 @@
 -- `tree::is_named` meets its contract. A frame with no name has none like it. Assumes nothing.
-use mathlib.Core.Path.{refl}
 use Rattle.alike.specs.Alike.{sameName}
 use Rattle.tree.proofs.Acts.{nameless, named-by}
 use borrow.Author.Needs.{needs}

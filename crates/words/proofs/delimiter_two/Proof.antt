@@ -1,6 +1,5 @@
 -- The bytes of the code are the delimiters of two bytes: antt computes it. Assumes nothing.
-use Rattle.words.proofs.Laws.{pairs, packed-place, pair-place, pair-none}
-use Rattle.words.specs.Packed.{packed}
+use Rattle.words.proofs.Laws.{packed, pairs, packed-place, pair-place, pair-none}
 use Rattle.words.specs.Words.{bytesOf}
 use mathlib.Core.Path.{_∙_}
 use borrow.Author.Needs.{needs}

@@ -1,6 +1,5 @@
 -- The bytes of the code are the reserved words, each behind its length: antt computes it. Assumes nothing.
-use Rattle.words.proofs.Laws.{packed-place}
-use Rattle.words.specs.Packed.{packed}
+use Rattle.words.proofs.Laws.{packed, packed-place}
 use Rattle.words.specs.Words.{reservedWords, bytesOf}
 use mathlib.Core.Path.{_∙_}
 use borrow.Author.Needs.{needs}
