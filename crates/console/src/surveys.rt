@@ -230,7 +230,10 @@ pub fn survey(
         lent::least(rows, places::MOST_ELEMENTS) * places::ROW_WORDS,
         table.len(),
     );
-    let room = lent::least(lent::least(item_rows, places::MOST_PIECES) * 8, items.len());
+    let room = lent::least(
+        lent::least(item_rows, places::MOST_PIECES) * pieces::RECORD_WORDS,
+        items.len(),
+    );
     let s = packages::read_survey(text, &mut table[..size], &mut items[..room]);
     let outcome = s.outcome;
     let tally = s.tally;

@@ -1,12 +1,12 @@
 -- The rows that a table holds, five words to a row. Assumes nothing.
 use Prim.Native.Nat.{ℕ, zero, suc}
 use mathlib.Core.List.{List, [], _∷_}
-use lib.ListN.{getD, drop}
+use lib.ListN.{drop}
 use Rattle.forms.specs.Tree.{Row}
+use Rattle.forms.specs.Words.{rowAt}
 
 abbrev pub rowIn : List ℕ → Row
-rowIn words =
-    record { form = getD words 0 0; first = getD words 1 0; count = getD words 2 0; rows = getD words 3 0; operator = getD words 4 0 }
+rowIn words = rowAt words 0
 
 -- the first n rows
 unfoldable pub rowsIn : ℕ → List ℕ → List Row

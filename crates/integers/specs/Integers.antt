@@ -1,6 +1,6 @@
 -- Arithmetic on integers, in ℤ, as 01's section "Pieces, items, states" has it: a whole number, or the state that stops it.
 -- Assumes nothing.
-use Prim.Native.Nat.{zero, suc}
+use Prim.Native.Nat.{ℕ, zero, suc}
 use mathlib.Core.Bool.{cond}
 use lib.Dec.{leb, eqb}
 use lib.IntN.{ℤ, pos, negsuc, natAbs, _+ℤ_, _-ℤ_, _*ℤ_, pow}
@@ -10,9 +10,13 @@ use Rattle.integers.specs.declared.Folded.the-variants.{Whole, Stopped}
 use Rattle.integers.specs.declared.Arithmetic.{Arithmetic}
 use Rattle.integers.specs.declared.Arithmetic.the-variants.{Add, Subtract, Multiply, Divide, Remainder, Modulo, Power}
 
+-- the largest integer
+abbrev pub largest : ℕ
+largest = 2147483647
+
 -- state 9, "a literal or result beyond 2147483647 in size"
 unfoldable pub sizedOf : ℤ → Folded
-sizedOf z = cond (leb (natAbs z) 2147483647) (Whole z) (Stopped 9)
+sizedOf z = cond (leb (natAbs z) largest) (Whole z) (Stopped 9)
 
 -- state 7, "divisor zero"; else the result z
 unfoldable pub dividedOf : ℤ → ℤ → Folded

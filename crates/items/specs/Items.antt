@@ -8,6 +8,7 @@ use lib.ListN.{length, getD, drop, take}
 use lib.Seq.{sets}
 use Rattle.places.specs.Places.{rowsIn, kindsOf}
 use Rattle.pieces.specs.Kinds.{anyDown}
+use Rattle.pieces.specs.Records.{recordWords}
 use Rattle.records.specs.Records.{wordAt, isItem, isClaim}
 use Rattle.names.specs.Language.{languageOf}
 use Rattle.folding.specs.declared.Outcome.{Outcome}
@@ -73,7 +74,7 @@ valueWords v = stateOf v ∷ kindOf v ∷ lowOf v ∷ highOf v ∷ []
 -- the table with record i completed, if it is an item
 unfoldable pub completedAt : List ℕ → List ℕ → List ℕ → List ℕ → List ℕ → List ℕ → ℕ → List ℕ
 completedAt text table links twins rows items i =
-    cond (isItem (wordAt items i 0)) (sets items (8 * i + 4) (valueWords (valueAt text table links twins rows items i))) items
+    cond (isItem (wordAt items i 0)) (sets items (recordWords * i + 4) (valueWords (valueAt text table links twins rows items i))) items
 
 -- m records from the i-th on, one after the other
 unfoldable pub completedFrom : List ℕ → List ℕ → List ℕ → List ℕ → List ℕ → List ℕ → ℕ → ℕ → List ℕ
@@ -82,4 +83,4 @@ completedFrom text table links twins rows items i (suc m) = completedFrom text t
 
 -- the first n records
 unfoldable pub completed : List ℕ → List ℕ → List ℕ → List ℕ → List ℕ → List ℕ → ℕ → List ℕ
-completed text table links twins rows items n = completedFrom text table links twins rows items 0 (min n (length items / 8))
+completed text table links twins rows items n = completedFrom text table links twins rows items 0 (min n (length items / recordWords))

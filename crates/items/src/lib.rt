@@ -1,10 +1,12 @@
 // The items of a package, folded from the first to the last: each finds those above it done. Every public function takes any tables.
 use folding::Outcome;
+use pieces::RECORD_WORDS;
 use values::Value;
 ghost use mathlib.Core.Path.{_≡_};
 ghost use Prim.Native.Nat.{_+_, _-_, _*_, _/_, _≤_, _<_};
 ghost use lib.ListN.{length};
 ghost use lib.Seq.{sets};
+ghost use Rattle.pieces.specs.Records.{recordWords};
 ghost use Rattle.items.specs.Items.{rowsHeld, goesDownIn, doubledIn, expressionAt, rangeAt, markAt, boundedAt, formedAt, valueAt, valueWords, completedAt, completed};
 
 fn minus(a: usize, b: usize) -> usize
@@ -186,10 +188,10 @@ fn item_value(
 
 // The last four words of record i.
 fn put_value(items: &mut [u64], i: usize, v: Value)
-    requires { ⌜ 8 * i + 8 ≤ length (now items) ⌝ }
-    ensures { λ _. ⌜ now (items .exit) ≡ sets (now (items .entry)) (8 * i + 4) (valueWords v) ⌝ }
+    requires { ⌜ recordWords * i + recordWords ≤ length (now items) ⌝ }
+    ensures { λ _. ⌜ now (items .exit) ≡ sets (now (items .entry)) (recordWords * i + 4) (valueWords v) ⌝ }
 {
-    let at = 8 * i;
+    let at = RECORD_WORDS * i;
     items[at + 4] = values::state_word(v);
     items[at + 5] = values::kind_word(v);
     items[at + 6] = values::low_word(v);
@@ -206,7 +208,7 @@ fn complete(
     items: &mut [u64],
     i: usize,
 )
-    requires { ⌜ 8 * i + 8 ≤ length (now items) ⌝ }
+    requires { ⌜ recordWords * i + recordWords ≤ length (now items) ⌝ }
     ensures { λ _. ⌜ now (items .exit) ≡ completedAt (now (text .entry)) (now (elements .entry)) (now (links .entry)) (now (twins .entry)) (now (rows .entry)) (now (items .entry)) i ⌝ }
 {
     if records::is_item(records::word(items, i, 0)) {
@@ -227,7 +229,7 @@ pub fn complete_items(
 )
     ensures { λ _. ⌜ now (items .exit) ≡ completed (now (text .entry)) (now (elements .entry)) (now (links .entry)) (now (twins .entry)) (now (rows .entry)) (now (items .entry)) n ⌝ }
 {
-    let most = lent::least(n, items.len() / 8);
+    let most = lent::least(n, items.len() / RECORD_WORDS);
     let mut i: usize = 0;
     while i < most {
         complete(text, elements, links, twins, rows, items, i);

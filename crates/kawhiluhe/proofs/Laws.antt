@@ -17,7 +17,8 @@ use Rattle.refusals.specs.declared.SurveyRefusal.{SurveyRefusal}
 use Rattle.packages.specs.declared.Summary.{Summary}
 use Rattle.packages.specs.declared.Outcome.the-variants as O
 use Rattle.packages.specs.declared.Survey.{Survey}
-use Rattle.kawhiluhe.specs.Numbers.{elementNumbers, strictNumbers, truthNumber, pairNumber, earlierNumber, laterNumber, surveyNumbers}
+use Rattle.records.specs.Tallies.{oneIf}
+use Rattle.kawhiluhe.specs.Numbers.{elementNumbers, strictNumbers, pairNumber, earlierNumber, laterNumber, surveyNumbers}
 use Rattle.kawhiluhe.specs.declared.Judged.{Judged}
 
 pub elements-read : (r : Reading) (e : ElementNumber) → r ≡ R.Read e → record { refusal = 0; place = 0; elements = e .0 } ≡ elementNumbers r
@@ -39,7 +40,7 @@ pub strict-refused : (x : Strict) (r : StrictRefusal) (n p : ℕ) → x ≡ S.Re
     → record { refusal = n; place = p; rows = 0; passes = 0; row = 0 } ≡ strictNumbers x
 strict-refused x r n p h e f = rw (h, e, f)
 
-pub survey-done : (x : Survey) (s : Summary) (f w a b d : ℕ) → x .outcome ≡ O.Done s → f ≡ truthNumber (s .frame) → w ≡ truthNumber (s .whole)
+pub survey-done : (x : Survey) (s : Summary) (f w a b d : ℕ) → x .outcome ≡ O.Done s → f ≡ oneIf (s .frame) → w ≡ oneIf (s .whole)
     → a ≡ pairNumber (s .pair) → b ≡ earlierNumber (s .pair) → d ≡ laterNumber (s .pair)
     → record { refusal = 0; place = 0; pieces = s .pieces; frame = f; whole = w; pair = a; earlier = b; later = d; tally = x .tally .counts } ≡ surveyNumbers x
 survey-done x s f w a b d h e₁ e₂ e₃ e₄ e₅ = rw (h, e₁, e₂, e₃, e₄, e₅)

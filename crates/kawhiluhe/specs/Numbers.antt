@@ -9,6 +9,7 @@ use Rattle.refusals.specs.Refusals.{strictNumber, strictPlace}
 use Rattle.files.specs.declared.Strict.{Strict}
 use Rattle.files.specs.declared.Strict.the-variants as S
 use Rattle.verdict.specs.declared.Verdict.the-variants.{Passes, NotSupported}
+use Rattle.records.specs.Tallies.{oneIf}
 use Rattle.pairs.specs.declared.Pair.{Pair}
 use Rattle.pairs.specs.declared.Pair.the-variants.{Both, Neither}
 use Rattle.refusals.specs.Refusals.{surveyNumber, surveyPlace}
@@ -32,11 +33,6 @@ strictNumbers (S.Read rows Passes) = record { refusal = 0; place = 0; rows = row
 strictNumbers (S.Read rows (NotSupported i)) = record { refusal = 0; place = 0; rows = rows; passes = 0; row = i }
 strictNumbers (S.Refused r) = record { refusal = strictNumber r; place = strictPlace r; rows = 0; passes = 0; row = 0 }
 
--- a truth
-abbrev pub truthNumber : Bool → ℕ
-truthNumber false = 0
-truthNumber true = 1
-
 -- whether there is a pair, its earlier piece and its later one
 abbrev pub pairNumber : Pair → ℕ
 pairNumber (Both i j) = 1
@@ -56,8 +52,8 @@ outcomeNumbers (Done s) counts = record {
   refusal = 0;
   place = 0;
   pieces = s .pieces;
-  frame = truthNumber (s .frame);
-  whole = truthNumber (s .whole);
+  frame = oneIf (s .frame);
+  whole = oneIf (s .whole);
   pair = pairNumber (s .pair);
   earlier = earlierNumber (s .pair);
   later = laterNumber (s .pair);

@@ -6,6 +6,7 @@ use lookup::Item;
 use packages::Outcome;
 use packages::Survey;
 use pairs::Pair;
+use pieces::RECORD_WORDS;
 use reading::Reading;
 use verdict::Verdict;
 ghost use mathlib.Core.Path.{_≡_};
@@ -16,7 +17,9 @@ ghost use Rattle.files.specs.Strict.{strictOf, elementsAfter, treeAfter};
 ghost use Rattle.packages.specs.Survey.{surveyOf, elementsAfter as surveyElements, itemsAfter};
 ghost use Rattle.lookup.specs.Lookup.{foundOf};
 ghost use Rattle.lookup.specs.Structs.{wordsOf};
-ghost use Rattle.kawhiluhe.specs.Numbers.{elementNumbers, strictNumbers, truthNumber, pairNumber, earlierNumber, laterNumber, surveyNumbers, foundNumber};
+ghost use Rattle.pieces.specs.Records.{recordWords};
+ghost use Rattle.records.specs.Tallies.{oneIf};
+ghost use Rattle.kawhiluhe.specs.Numbers.{elementNumbers, strictNumbers, pairNumber, earlierNumber, laterNumber, surveyNumbers, foundNumber};
 
 // The element reader's answer.
 #[repr(C)]
@@ -99,7 +102,7 @@ fn strict_numbers(x: Strict) -> Judged
 }
 
 fn truth_number(t: bool) -> u64
-    ensures { λ n. ⌜ n ≡ truthNumber t ⌝ }
+    ensures { λ n. ⌜ n ≡ oneIf t ⌝ }
 {
     if t { 1 } else { 0 }
 }
@@ -206,9 +209,9 @@ pub extern "C" fn kawhiluhe_survey(text: &[u8], elements: &mut [u64], items: &mu
 // The first record of a table, eight words to a record, that claims a name; how many records the table has, where none does.
 #[no_mangle]
 pub extern "C" fn kawhiluhe_lookup(text: &[u8], elements: &[u64], name: &[u8], items: &[u64]) -> u64
-    ensures { λ r. ⌜ r ≡ foundNumber (foundOf (now (text .entry)) (now (elements .entry)) (now (name .entry)) (now (items .entry))) (length (now (items .entry)) / 8) ⌝ }
+    ensures { λ r. ⌜ r ≡ foundNumber (foundOf (now (text .entry)) (now (elements .entry)) (now (name .entry)) (now (items .entry))) (length (now (items .entry)) / recordWords) ⌝ }
 {
-    let none = (items.len() / 8) as u64;
+    let none = (items.len() / RECORD_WORDS) as u64;
     found_number(lookup::lookup(text, elements, name, items), none)
 }
 

@@ -6,6 +6,7 @@ use lib.ListN.{length}
 use Rattle.alike.specs.Alike.{byKind}
 use Rattle.places.specs.Places.{cellAt}
 use Rattle.alike.specs.Spelling.{spelledAs}
+use Rattle.pieces.specs.Records.{recordWords}
 use Rattle.records.specs.Records.{wordAt, isClaim}
 use Rattle.lookup.specs.declared.Found.{Found}
 use Rattle.lookup.specs.declared.Found.the-variants.{At, Nothing}
@@ -24,4 +25,4 @@ firstFrom p i zero = Nothing
 firstFrom p i (suc m) = elim (p i) [ true ↦ At i | false ↦ firstFrom p (suc i) m ]
 
 unfoldable pub foundOf : List ℕ → List ℕ → List ℕ → List ℕ → Found
-foundOf text elements name items = firstFrom (claimsName text elements name items) 0 (length items / 8)
+foundOf text elements name items = firstFrom (claimsName text elements name items) 0 (length items / recordWords)

@@ -1,4 +1,5 @@
 // Lookup by name over the text, the element table and the item rows, all of any content; and the same over a lent slice of item structs.
+use pieces::RECORD_WORDS;
 ghost use mathlib.Core.Path.{_≡_};
 ghost use Prim.Native.Nat.{_<_};
 ghost use lib.ListN.{length, getD};
@@ -49,7 +50,7 @@ fn claims(text: &[u8], elements: &[u64], name: &[u8], items: &[u64], i: usize) -
 pub fn lookup(text: &[u8], elements: &[u64], name: &[u8], items: &[u64]) -> Found
     ensures { λ r. ⌜ r ≡ foundOf (now (text .entry)) (now (elements .entry)) (now (name .entry)) (now (items .entry)) ⌝ }
 {
-    let n = items.len() / 8;
+    let n = items.len() / RECORD_WORDS;
     let mut i: usize = 0;
     while i < n {
         if claims(text, elements, name, items, i) {

@@ -100,7 +100,7 @@ unfolding wordAt
 word-at-record ds es d rest j h =
     let a : 8 * length ds + 8 ≤ length (recordsFrom 0 (ds ++ d ∷ es) ++ rest) = omega (arith, ap length (split ds es d rest), length-append (recordsFrom 0 ds) (recordOf (0 + total (piecesDone ds)) d ++ (recordsFrom (0 + total (piecesDone ds) + length (d .piece)) es ++ rest)), length-append (recordOf (0 + total (piecesDone ds)) d) (recordsFrom (0 + total (piecesDone ds) + length (d .piece)) es ++ rest), records-length 0 ds, record-length (0 + total (piecesDone ds)) d) in
     let z : 0 + total (piecesDone ds) ≡ total (piecesDone ds) = omega arith in
-    rw (le-leb j 7 h, lt-ltb (length ds) (length (recordsFrom 0 (ds ++ d ∷ es) ++ rest) / 8) (omega arith))
+    rw (lt-ltb j 8 (omega arith), lt-ltb (length ds) (length (recordsFrom 0 (ds ++ d ∷ es) ++ rest) / 8) (omega arith))
     (ap (λ (l : List ℕ). getD l (8 * length ds + j) 0) (split ds es d rest)
     ∙ getD-behind (recordsFrom 0 ds) (recordOf (0 + total (piecesDone ds)) d ++ (recordsFrom (0 + total (piecesDone ds) + length (d .piece)) es ++ rest)) j (8 * length ds + j) (omega (arith, records-length 0 ds))
     ∙ getD-front (recordOf (0 + total (piecesDone ds)) d) (recordsFrom (0 + total (piecesDone ds) + length (d .piece)) es ++ rest) j (omega (arith, record-length (0 + total (piecesDone ds)) d))
@@ -109,7 +109,7 @@ word-at-record ds es d rest j h =
 -- past the last record there are zeros
 pub word-past : (ds : List Done) (y i j : ℕ) → length ds ≤ i → wordAt (recordsFrom 0 ds ++ replicate y 0) i j ≡ 0
 unfolding wordAt
-word-past ds y i j h = go (leb j 7 && ltb i (length (recordsFrom 0 ds ++ replicate y 0) / 8))
+word-past ds y i j h = go (ltb j 8 && ltb i (length (recordsFrom 0 ds ++ replicate y 0) / 8))
   where
     go : (b : Bool) → cond b (getD (recordsFrom 0 ds ++ replicate y 0) (8 * i + j) 0) 0 ≡ 0
     go true =

@@ -9,6 +9,7 @@ use Rattle.ll.specs.Grammar.{Sym}
 use Rattle.forms.specs.Names.{constant, subtype}
 use Rattle.forms.specs.Tree.{State}
 use Rattle.forms.specs.Items.{ItemReading}
+use Rattle.pieces.specs.Kinds.{word-constant, word-subtype}
 use Rattle.records.specs.Records.{isItem}
 use Rattle.records.specs.Tallies.{oneIf, tallyOf}
 use Rattle.tree.specs.Answers.{terminalsIn}
@@ -22,9 +23,9 @@ use Rattle.meaning.specs.Items.{valueOf, recordsOf}
 abbrev pub IsForm : Sym → Piece → Type 0
 IsForm from p = (s : State) × ItemReading from unlike (terminalsIn (kinds p)) s
 
--- "a constant or a subtype by the forms above": the word constant is of kind 53, the word subtype of kind 129
+-- "a constant or a subtype by the forms above"
 abbrev pub Fits : Piece → Type 0
-Fits p = ((at p 0 .kind ≡ 53) × IsForm constant p) ⊎ ((at p 0 .kind ≡ 129) × IsForm subtype p)
+Fits p = ((at p 0 .kind ≡ word-constant) × IsForm constant p) ⊎ ((at p 0 .kind ≡ word-subtype) × IsForm subtype p)
 
 -- State 1: a piece is broken exactly when "no form fits", whatever stands around it.
 abbrev pub BrokenExactly : Type 0

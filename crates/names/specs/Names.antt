@@ -8,6 +8,7 @@ use lib.ListN.{length}
 use Rattle.places.specs.Sizes.{mostPieces}
 use Rattle.places.specs.Places.{rowsIn}
 use Rattle.alike.specs.Alike.{sameName}
+use Rattle.pieces.specs.Records.{recordWords}
 use Rattle.records.specs.Records.{wordAt, isClaim}
 use Rattle.records.specs.Tallies.{oneIf}
 use Rattle.pairs.specs.Pairs.{pairFrom}
@@ -15,7 +16,7 @@ use Rattle.pairs.specs.declared.Pair.{Pair}
 
 -- how many records there are, "a survey at most 1,024 pieces"
 unfoldable pub recordsIn : List ℕ → ℕ
-recordsIn items = min (length items / 8) mostPieces
+recordsIn items = min (length items / recordWords) mostPieces
 
 -- the first of m numbers from j on that passes, and one more; 0 where none does
 unfoldable pub firstFrom : (ℕ → Bool) → ℕ → ℕ → ℕ

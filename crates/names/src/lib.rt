@@ -1,5 +1,6 @@
 // Names resolved: each name used, to the first record that claims it. Names are hashed and chained once, so that a search compares few.
 // Every public function takes any text and tables.
+use pieces::RECORD_WORDS;
 use places::MOST_PIECES;
 ghost use mathlib.Core.Path.{_≡_};
 ghost use mathlib.Core.Bool.{true, cond};
@@ -234,7 +235,7 @@ pub fn link_names(
     ensures { λ _. ⌜ now (owns .exit) ≡ ownsTable (now (text .entry)) (now (elements .entry)) (now (items .entry)) (length (now (owns .entry))) ⌝ }
     ensures { λ _. ⌜ now (twins .exit) ≡ twinsTable (now (text .entry)) (now (elements .entry)) (now (items .entry)) (length (now (twins .entry))) ⌝ }
 {
-    let n = lent::least(items.len() / 8, MOST_PIECES);
+    let n = lent::least(items.len() / RECORD_WORDS, MOST_PIECES);
     let mut heads = [0u64; BUCKETS];
     let mut next = [0u64; MOST_PIECES];
     chain_names(text, elements, items, n, &mut heads, &mut next);

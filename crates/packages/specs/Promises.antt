@@ -6,6 +6,7 @@ use mathlib.Core.Bool.{true}
 use mathlib.Core.List.{List}
 use lib.ListN.{length, getD, replicate}
 use Rattle.places.specs.Sizes.{mostPieces}
+use Rattle.pieces.specs.Records.{recordWords}
 use Rattle.records.specs.Tallies.{inState}
 use Rattle.records.specs.Frames.{frameGood}
 use Rattle.names.specs.Names.{sharedPair}
@@ -37,7 +38,7 @@ ZerosOnRefusal =
 abbrev pub Surveyed : Type 0
 Surveyed =
     (s : List ℕ) (e i : ℕ)
-    → ((y : Summary) × (surveyOf s e i .outcome ≡ Done y)) ↔ (Taken s e × (length (piecesOf s) ≤ mostPieces) × (8 * length (piecesOf s) ≤ i))
+    → ((y : Summary) × (surveyOf s e i .outcome ≡ Done y)) ↔ (Taken s e × (length (piecesOf s) ≤ mostPieces) × (recordWords * length (piecesOf s) ≤ i))
 
 -- Refusals 1, 3, 4 are given exactly when 01 says, at its place.
 abbrev pub ElementsExactly : Type 0
@@ -52,7 +53,7 @@ TooManyExactly = (s : List ℕ) (e i : ℕ) → (surveyOf s e i .outcome ≡ Ref
 abbrev pub ItemsShortExactly : Type 0
 ItemsShortExactly =
     (s : List ℕ) (e i k : ℕ)
-    → (surveyOf s e i .outcome ≡ Refused (ItemsShort k)) ↔ (Taken s e × (length (piecesOf s) ≤ mostPieces) × (i / 8 < length (piecesOf s)) × (k ≡ i / 8))
+    → (surveyOf s e i .outcome ≡ Refused (ItemsShort k)) ↔ (Taken s e × (length (piecesOf s) ≤ mostPieces) × (i / recordWords < length (piecesOf s)) × (k ≡ i / recordWords))
 
 -- What a survey that is done says: the frame and the first pair are those of its records, each count of the tally is the number of items in
 -- that state, and it is whole when the frame is good and every item is in state 0.

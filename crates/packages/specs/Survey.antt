@@ -7,7 +7,7 @@ use Rattle.reading.specs.Reading.{readingOf}
 use Rattle.reading.specs.Reading as elements
 use Rattle.reading.specs.declared.Reading.{Reading}
 use Rattle.reading.specs.declared.Reading.the-variants as R
-use Rattle.pieces.specs.Records.{marking}
+use Rattle.pieces.specs.Records.{recordWords, marking}
 use Rattle.pieces.specs.declared.Marking.{Marking}
 use Rattle.pieces.specs.declared.Marking.the-variants as M
 use Rattle.names.specs.Names.{sharedPair}
@@ -28,7 +28,7 @@ refusedBy r = record { outcome = Refused r; tally = record { counts = replicate 
 
 -- the item table of a text: "one record to a piece", and zeros behind
 unfoldable pub itemTable : List ℕ → ℕ → List ℕ
-itemTable text words = recordsOf text ++ replicate (words - 8 * length (piecesOf text)) 0
+itemTable text words = recordsOf text ++ replicate (words - recordWords * length (piecesOf text)) 0
 
 -- what n records say together: frame, whole and tally, and the pair
 unfoldable pub summedOf : List ℕ → List ℕ → List ℕ → ℕ → Pair → Survey

@@ -8,6 +8,28 @@ use Rattle.places.specs.Places.{kindsOf}
 use Rattle.pieces.specs.Cutting.{cut}
 use Rattle.pieces.specs.declared.Mark.{Mark}
 
+-- the numbers of the kinds by which pieces are told: `;` and six words
+abbrev pub semicolon : ℕ
+semicolon = 26
+
+abbrev pub word-constant : ℕ
+word-constant = 53
+
+abbrev pub word-downto : ℕ
+word-downto = 58
+
+abbrev pub word-end : ℕ
+word-end = 61
+
+abbrev pub word-is : ℕ
+word-is = 78
+
+abbrev pub word-package : ℕ
+word-package = 98
+
+abbrev pub word-subtype : ℕ
+word-subtype = 129
+
 -- a class and a place
 abbrev pub mark : ℕ → ℕ → Mark
 mark c p = record { class = c; place = p }
@@ -20,39 +42,39 @@ pieceAt n table from count = take count (drop from (kindsOf n table))
 abbrev pub isName : ℕ → Bool
 isName k = eqb k 1 || eqb k 2
 
--- `;` (26)
+-- "after each `;`"
 abbrev pub closesPiece : ℕ → Bool
-closesPiece k = eqb k 26
+closesPiece k = eqb k semicolon
 
--- the words constant (53), subtype (129), end (61)
+-- "before each of the words constant, subtype, end"
 abbrev pub opensPiece : ℕ → Bool
-opensPiece k = eqb k 53 || eqb k 129 || eqb k 61
+opensPiece k = eqb k word-constant || eqb k word-subtype || eqb k word-end
 
 -- the pieces, each as its kinds
 abbrev pub piecesOf : List ℕ → List (List ℕ)
 piecesOf ks = cut closesPiece opensPiece ks
 
--- "a heading (package N is)": the words package (98) and is (78)
+-- "a heading (package N is)"
 unfoldable pub isHeading : List ℕ → Bool
-isHeading p = eqb (length p) 3 && ((eqb (getD p 0 0) 98 && isName (getD p 1 0)) && eqb (getD p 2 0) 78)
+isHeading p = eqb (length p) 3 && ((eqb (getD p 0 0) word-package && isName (getD p 1 0)) && eqb (getD p 2 0) word-is)
 
 -- "a closing (end [package] [N];)": the place behind `end` and perhaps `package`, and whether a name stands there
 unfoldable pub behindWord : List ℕ → ℕ
-behindWord p = cond (eqb (getD p 1 0) 98) 2 1
+behindWord p = cond (eqb (getD p 1 0) word-package) 2 1
 
 unfoldable pub hasName : List ℕ → Bool
 hasName p = isName (getD p (behindWord p) 0)
 
 -- the piece begins with `end`, and its last element is a `;` at a place
 unfoldable pub endsAt : List ℕ → ℕ → Bool
-endsAt p at = (eqb (getD p 0 0) 61 && eqb (getD p at 0) 26) && eqb (length p) (at + 1)
+endsAt p at = (eqb (getD p 0 0) word-end && eqb (getD p at 0) semicolon) && eqb (length p) (at + 1)
 
 unfoldable pub isClosing : List ℕ → Bool
 isClosing p = endsAt p (cond (hasName p) (behindWord p + 1) (behindWord p))
 
 -- "A piece claims a name if it begins with constant or subtype and then a name, broken or not": the class, and the name's place
 abbrev pub claimOf : ℕ → Mark
-claimOf k = cond (eqb k 53) (mark 3 1) (cond (eqb k 129) (mark 4 1) (mark 5 0))
+claimOf k = cond (eqb k word-constant) (mark 3 1) (cond (eqb k word-subtype) (mark 4 1) (mark 5 0))
 
 unfoldable pub claimMark : List ℕ → Mark
 claimMark p = cond (isName (getD p 1 0)) (claimOf (getD p 0 0)) (mark 5 0)
@@ -61,7 +83,7 @@ claimMark p = cond (isName (getD p 1 0)) (claimOf (getD p 0 0)) (mark 5 0)
 unfoldable pub markOf : List ℕ → Mark
 markOf p = cond (isHeading p) (mark 1 1) (cond (isClosing p) (mark 2 (cond (hasName p) (behindWord p) 0)) (claimMark p))
 
--- the word downto (58) stands among these: the direction of a subtype's range
+-- the word downto stands among these: the direction of a subtype's range
 unfoldable pub anyDown : List ℕ → Bool
 anyDown [] = false
-anyDown (k ∷ ks) = eqb k 58 || anyDown ks
+anyDown (k ∷ ks) = eqb k word-downto || anyDown ks

@@ -16,7 +16,11 @@ use Rattle.pieces.specs.declared.Marking.the-variants.{Marked, TooMany, 
 unfoldable pub nameOf : ℕ → ℕ → ℕ
 nameOf at place = cond (eqb place 0) 0 (at + place)
 
--- the eight words of a piece's record
+-- how many words a record has
+abbrev pub recordWords : ℕ
+recordWords = 8
+
+-- the words of a piece's record
 unfoldable pub recordOf : ℕ → ℕ → Mark → List ℕ
 recordOf at count m = m .class ∷ at ∷ count ∷ nameOf at (m .place) ∷ 0 ∷ 0 ∷ 0 ∷ 0 ∷ []
 
@@ -31,7 +35,7 @@ piecesIn table count = piecesOf (kindsOf (min count (rowsIn table)) table)
 
 -- n pieces: 9, "more than 1,024 pieces"; 10, "item table short", "rows it has"
 unfoldable pub marking : ℕ → ℕ → Marking
-marking n words = cond (ltb mostPieces n) TooMany (cond (ltb (words / 8) n) (TableShort (words / 8)) (Marked n))
+marking n words = cond (ltb mostPieces n) TooMany (cond (ltb (words / recordWords) n) (TableShort (words / recordWords)) (Marked n))
 
 -- "On refusal every lent table is all zeros. On success unused rows are zeros."
 abbrev pub holds : ℕ → List ℕ → Marking → List ℕ

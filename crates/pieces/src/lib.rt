@@ -6,7 +6,10 @@ ghost use lib.Seq.{sets};
 ghost use Rattle.pieces.specs.Cutting.{pieceSize};
 ghost use Rattle.pieces.specs.Kinds.{pieceAt, isName, closesPiece, opensPiece, piecesOf, isHeading, behindWord, endsAt, claimMark, markOf};
 ghost use Rattle.places.specs.Places.{rowWords, rowsIn, kindsOf};
-ghost use Rattle.pieces.specs.Records.{nameOf, recordOf, recordsFrom, piecesIn, marking, recordTable};
+ghost use Rattle.pieces.specs.Records.{recordWords, nameOf, recordOf, recordsFrom, piecesIn, marking, recordTable};
+
+// How many words an item record has.
+pub const RECORD_WORDS: usize = 8;
 
 // How many pieces were marked; or refusal 9; or refusal 10 with the rows that the table has.
 pub enum Marking {
@@ -202,7 +205,7 @@ fn write_record(items: &mut [u64], w: usize, from: usize, count: usize, m: Mark)
 
 // Marks every piece: its record stands at its number.
 fn write_records(elements: &[u64], n: usize, items: &mut [u64])
-    requires { ⌜ (rowWords * n ≤ length (now elements)) × (8 * length (piecesOf (kindsOf n (now elements))) ≤ length (now items)) ⌝ }
+    requires { ⌜ (rowWords * n ≤ length (now elements)) × (recordWords * length (piecesOf (kindsOf n (now elements))) ≤ length (now items)) ⌝ }
     ensures { λ _. ⌜ now (items .exit) ≡ sets (now (items .entry)) 0 (recordsFrom 0 (piecesOf (kindsOf n (now (elements .entry))))) ⌝ }
 {
     let mut at: usize = 0;
@@ -221,7 +224,7 @@ pub fn mark_pieces(elements: &[u64], count: usize, items: &mut [u64]) -> Marking
     ensures { λ r. ⌜ r ≡ marking (length (piecesIn (now (elements .entry)) count)) (length (now (items .entry))) ⌝ }
     ensures { λ _. ⌜ now (items .exit) ≡ recordTable (piecesIn (now (elements .entry)) count) (length (now (items .entry))) ⌝ }
 {
-    let rows = items.len() / 8;
+    let rows = items.len() / RECORD_WORDS;
     lent::clear(items);
     let n = lent::least(count, places::rows_in(elements));
     let pieces = count_pieces(elements, n);

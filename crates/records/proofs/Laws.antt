@@ -14,17 +14,17 @@ use Rattle.records.specs.Frames.{allItems, nameAgrees, frameGood, noneFr
 use Rattle.records.specs.declared.Tally.{Tally}
 
 module _ (items : List ℕ) (i j : ℕ) where
-  pub word-none : 7 < j → _≡_ {A = ℕ} 0 (wordAt items i j)
+  pub word-none : 8 ≤ j → _≡_ {A = ℕ} 0 (wordAt items i j)
   unfolding wordAt
-  word-none h = rw (lt-leb j 7 h)
+  word-none h = rw (le-ltb j 8 h)
 
-  pub word-in : j ≤ 7 → i < length items / 8 → getD items (8 * i + j) 0 ≡ wordAt items i j
+  pub word-in : j < 8 → i < length items / 8 → getD items (8 * i + j) 0 ≡ wordAt items i j
   unfolding wordAt
-  word-in h k = rw (le-leb j 7 h, lt-ltb i (length items / 8) k)
+  word-in h k = rw (lt-ltb j 8 h, lt-ltb i (length items / 8) k)
 
-  pub word-out : j ≤ 7 → length items / 8 ≤ i → _≡_ {A = ℕ} 0 (wordAt items i j)
+  pub word-out : j < 8 → length items / 8 ≤ i → _≡_ {A = ℕ} 0 (wordAt items i j)
   unfolding wordAt
-  word-out h k = rw (le-leb j 7 h, le-ltb i (length items / 8) k)
+  word-out h k = rw (lt-ltb j 8 h, le-ltb i (length items / 8) k)
 
 module _ (items : List ℕ) (i class : ℕ) (x : Bool) (p : class ≡ wordAt items i 0) (q : x ≡ isItem class) where
   pub state-item : (s : ℕ) → x ≡ true → s ≡ wordAt items i 4 → s ≡ stateOf items i

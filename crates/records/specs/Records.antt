@@ -3,12 +3,13 @@
 use Prim.Native.Nat.{ℕ, _+_, _*_, _/_}
 use mathlib.Core.Bool.{Bool, cond, _&&_, _||_}
 use mathlib.Core.List.{List}
-use lib.Dec.{eqb, leb, ltb}
+use lib.Dec.{eqb, ltb}
 use lib.ListN.{length, getD}
+use Rattle.pieces.specs.Records.{recordWords}
 
 -- word j of record i, 0 where there is none
 unfoldable pub wordAt : List ℕ → ℕ → ℕ → ℕ
-wordAt items i j = cond (leb j 7 && ltb i (length items / 8)) (getD items (8 * i + j) 0) 0
+wordAt items i j = cond (ltb j recordWords && ltb i (length items / recordWords)) (getD items (recordWords * i + j) 0) 0
 
 -- "Items are all pieces but headings and closings": constants (3), subtypes (4), unclaimed (5)
 abbrev pub isItem : ℕ → Bool

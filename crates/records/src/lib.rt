@@ -1,4 +1,5 @@
 // What the item records say together: the tally, and whether the frame is good. Every public function takes any tables.
+use pieces::RECORD_WORDS;
 ghost use mathlib.Core.Path.{_≡_};
 ghost use Prim.Native.Nat.{_+_, _-_, _≤_, _<_};
 ghost use Rattle.records.specs.Records.{wordAt, isItem, isClaim, stateOf};
@@ -14,11 +15,11 @@ pub struct Tally {
 pub fn word(items: &[u64], i: usize, j: u8) -> u64
     ensures { λ r. ⌜ r ≡ wordAt (now (items .entry)) i j ⌝ }
 {
-    if 7 < j {
+    if RECORD_WORDS as u8 <= j {
         return 0;
     }
-    if i < items.len() / 8 {
-        return items[8 * i + (j as usize)];
+    if i < items.len() / RECORD_WORDS {
+        return items[RECORD_WORDS * i + (j as usize)];
     }
     0
 }

@@ -3,6 +3,7 @@ use console::Got;
 use console::surveys;
 use console::surveys::Shown;
 use options::Options;
+use pieces::RECORD_WORDS;
 use places::MOST_BYTES;
 use places::MOST_ELEMENTS;
 use places::MOST_PIECES;
@@ -10,7 +11,7 @@ use places::ROW_WORDS;
 
 fn run(text: &[u8], o: Options) {
     let mut table = [0u64; ROW_WORDS * MOST_ELEMENTS];
-    let mut items = [0u64; 8 * MOST_PIECES];
+    let mut items = [0u64; RECORD_WORDS * MOST_PIECES];
     let shown = if o.other {
         Shown::Records
     } else {

@@ -10,7 +10,7 @@ use Rattle.ll.specs.Actions.{End, read, bad, stopped, spent}
 use Rattle.forms.specs.Names.{constant, subtype}
 use Rattle.forms.specs.Tree.{Row, State, Refusal, rowsOf}
 use Rattle.forms.specs.Reading.{readingFrom}
-use Rattle.pieces.specs.Kinds.{piecesOf}
+use Rattle.pieces.specs.Kinds.{word-constant, word-subtype, piecesOf}
 use Rattle.places.specs.Places.{rowsIn, kindsOf}
 use Rattle.tree.specs.Answers.{terminalsIn, wordsOf}
 
@@ -18,9 +18,9 @@ use Rattle.tree.specs.Answers.{terminalsIn, wordsOf}
 abbrev pub unlike : ℕ → ℕ → Bool
 unlike i j = false
 
--- the reading of what begins with an element of kind k: a constant (53), a subtype (129), or nothing that is read
+-- the reading of what begins with an element of kind k: a constant, a subtype, or nothing that is read
 abbrev pub readingBy : ℕ → List ℕ → End State Refusal
-readingBy k w = cond (eqb k 53) (readingFrom constant unlike w) (cond (eqb k 129) (readingFrom subtype unlike w) (bad 0))
+readingBy k w = cond (eqb k word-constant) (readingFrom constant unlike w) (cond (eqb k word-subtype) (readingFrom subtype unlike w) (bad 0))
 
 -- the reading of a piece, given by its kinds
 unfoldable pub readingOfPiece : List ℕ → End State Refusal
@@ -56,4 +56,4 @@ itemRows table count words = itemWords (piecesOf (kindsOf (itemsIn table count w
 
 -- the code of the symbol from which a piece is read that begins with kind k, 0 where it is not read
 abbrev pub startOf : ℕ → ℕ
-startOf k = cond (eqb k 53) 82 (cond (eqb k 129) 83 0)
+startOf k = cond (eqb k word-constant) 82 (cond (eqb k word-subtype) 83 0)

@@ -2,7 +2,8 @@
 use Prim.Native.Nat.{ℕ}
 use mathlib.Core.Bool.{true, false, cond}
 use lib.Dec.{eqb}
-use lib.IntN.{pos, negsuc}
+use lib.IntN.{pos, negℤ}
+use Rattle.integers.specs.Integers.{largest}
 use Rattle.values.specs.declared.Value.{Value}
 use Rattle.values.specs.declared.Value.the-variants.{Truth, Range, Truths, Without}
 
@@ -10,9 +11,9 @@ use Rattle.values.specs.declared.Value.the-variants.{Truth, Range, Truth
 -- -2147483647"; any other number is 4, "a name used with no claim above"
 unfoldable pub languageValue : ℕ → Value
 languageValue k =
-    cond (eqb k 1) (Range (negsuc 2147483646) (pos 2147483647))
-    (cond (eqb k 2) (Range (pos 0) (pos 2147483647))
-    (cond (eqb k 3) (Range (pos 1) (pos 2147483647))
+    cond (eqb k 1) (Range (negℤ (pos largest)) (pos largest))
+    (cond (eqb k 2) (Range (pos 0) (pos largest))
+    (cond (eqb k 3) (Range (pos 1) (pos largest))
     (cond (eqb k 4) Truths
     (cond (eqb k 5) (Truth true)
     (cond (eqb k 6) (Truth false) (Without 4))))))
