@@ -1,4 +1,5 @@
 // Names compared: case aside, unless extended.
+use places::ElementNumber;
 ghost use mathlib.Core.Path.{_≡_};
 ghost use mathlib.Core.Bool.{_&&_};
 ghost use Prim.Native.Nat.{ℕ, _+_, _-_, _≤_, _<_};
@@ -41,12 +42,12 @@ fn spelled_same(s: &[u8], table: &[u64], a: usize, b: usize, basic: bool) -> boo
     if n != m {
         return false;
     }
-    let x = places::first_of(table, a);
-    let y = places::first_of(table, b);
+    let x = places::place_of(table, ElementNumber(a));
+    let y = places::place_of(table, ElementNumber(b));
     let p = places::stands(s, x, n);
     let q = places::stands(s, y, n);
     if p & q {
-        return agrees(s, x as usize, y as usize, n as usize, basic);
+        return agrees(s, x.0, y.0, n as usize, basic);
     }
     false
 }
@@ -89,7 +90,8 @@ fn spells(basic: bool, a: &[u8], b: &[u8]) -> bool
 pub fn spelled_as(basic: bool, text: &[u8], elements: &[u64], e: usize, name: &[u8]) -> bool
     ensures { λ r. ⌜ r ≡ spelledAs basic (now (text .entry)) (now (elements .entry)) e (now (name .entry)) ⌝ }
 {
-    let first = places::first_of(elements, e) as usize;
+    let place = places::place_of(elements, ElementNumber(e));
+    let first = place.0;
     let n = places::size_of(elements, e) as usize;
     if text.len() < first {
         return false;

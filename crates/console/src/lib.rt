@@ -2,6 +2,8 @@
 use files::Strict;
 use libc::STDERR_FILENO;
 use libc::STDOUT_FILENO;
+use places::BytePlace;
+use places::ElementNumber;
 use reading::Reading;
 use verdict::Verdict;
 
@@ -77,12 +79,12 @@ fn kind_word(kind: u64) {
     }
 }
 
-fn element_line(i: usize, kind: u64, first: u64, size: u64) {
+fn element_line(i: usize, kind: u64, first: BytePlace, size: u64) {
     number(i as u64);
     words(b" ");
     kind_word(kind);
     words(b" ");
-    number(first);
+    number(first.0 as u64);
     words(b" ");
     number(size);
     words(b"\n");
@@ -97,7 +99,7 @@ fn element_lines(t: &[u64], count: usize) {
         element_line(
             i,
             places::kind_of(t, i),
-            places::first_of(t, i),
+            places::place_of(t, ElementNumber(i)),
             places::size_of(t, i),
         );
         i += 1;

@@ -1,6 +1,7 @@
 // Names resolved: each name used, to the first record that claims it. Names are hashed and chained once, so that a search compares few.
 // Every public function takes any text and tables.
 use pieces::RECORD_WORDS;
+use places::ElementNumber;
 use places::MOST_PIECES;
 ghost use mathlib.Core.Path.{_≡_};
 ghost use mathlib.Core.Bool.{true, cond};
@@ -39,11 +40,11 @@ fn hashed(text: &[u8], from: usize, n: usize, basic: bool) -> u64
 fn bucket(text: &[u8], elements: &[u64], e: usize) -> usize
     ensures { λ r. ⌜ (r ≡ bucketOf (now (text .entry)) (now (elements .entry)) e) × (r < 1024) ⌝ }
 {
-    let first = places::first_of(elements, e);
+    let first = places::place_of(elements, ElementNumber(e));
     let n = places::size_of(elements, e);
     if places::stands(text, first, n) {
         let kind = places::kind_of(elements, e);
-        let h = hashed(text, first as usize, n as usize, kind == 1);
+        let h = hashed(text, first.0, n as usize, kind == 1);
         return (h / 4194304) as usize;
     }
     0

@@ -5,6 +5,7 @@ use folding::Outcome;
 use folding::Relation;
 use folding::Sign;
 use integers::Arithmetic;
+use places::ElementNumber;
 ghost use mathlib.Core.Path.{_≡_};
 ghost use Rattle.operands.specs.Operands.{operatorOf, signOf, literalIn};
 
@@ -59,7 +60,8 @@ pub fn literal_outcome(text: &[u8], elements: &[u64], e: usize) -> Outcome
     if places::kind_of(elements, e) != 3 {
         return expressions::wrong_leaf(3);
     }
-    let first = lent::least(places::first_of(elements, e) as usize, text.len());
+    let place = places::place_of(elements, ElementNumber(e));
+    let first = lent::least(place.0, text.len());
     let size = lent::least(places::size_of(elements, e) as usize, text.len() - first);
     let end = first + size;
     expressions::literal_leaf(&text[first..end])

@@ -68,13 +68,6 @@ pub fn kind_of(table: &[u64], i: usize) -> u64
     cell(table, i, 0)
 }
 
-// Where element i begins.
-pub fn first_of(table: &[u64], i: usize) -> u64
-    ensures { λ r. ⌜ r ≡ cellAt (now (table .entry)) i 1 ⌝ }
-{
-    cell(table, i, 1)
-}
-
 // How many bytes element i has.
 pub fn size_of(table: &[u64], i: usize) -> u64
     ensures { λ r. ⌜ r ≡ cellAt (now (table .entry)) i 2 ⌝ }
@@ -86,16 +79,17 @@ pub fn size_of(table: &[u64], i: usize) -> u64
 pub fn place_of(table: &[u64], e: ElementNumber) -> BytePlace
     ensures { λ r. ⌜ r .0 ≡ cellAt (now (table .entry)) (e .0) 1 ⌝ }
 {
-    BytePlace(first_of(table, e.0) as usize)
+    BytePlace(cell(table, e.0, 1) as usize)
 }
 
 // The n bytes from x stand in the text.
-pub fn stands(s: &[u8], x: u64, n: u64) -> bool
-    ensures { λ r. ⌜ r ≡ within (now (s .entry)) x n ⌝ }
+pub fn stands(s: &[u8], x: BytePlace, n: u64) -> bool
+    ensures { λ r. ⌜ r ≡ within (now (s .entry)) (x .0) n ⌝ }
 {
-    let size = s.len() as u64;
-    if size < x {
+    let size = s.len();
+    let first = x.0;
+    if size < first {
         return false;
     }
-    n <= size - x
+    n <= (size - first) as u64
 }

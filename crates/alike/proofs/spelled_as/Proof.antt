@@ -4,8 +4,8 @@ use Rattle.alike.proofs.Spelling.{spelled-past, spelled-long, spelled-t
 use Rattle.alike.proofs.spelled_as.Statement.{statement}
 use Rattle.alike.proofs.spelled_as.Tie as tie
 
-first-of-requires : tie.Need-first-of-requires
-first-of-requires c κs = search needs
+place-of-requires : tie.Need-place-of-requires
+place-of-requires c κs = search needs
 
 size-of-requires : tie.Need-size-of-requires
 size-of-requires c κs = search needs
@@ -41,7 +41,7 @@ pub spelled-as-spec : {M : Type 1} → statement M
 spelled-as-spec =
     tie.close
     (tie.spec
-    first-of-requires
+    place-of-requires
     size-of-requires
     returns
     sub-if2

@@ -22,8 +22,8 @@ returns c = search needs
 kind-of-requires : tie.Need-kind-of-requires Inv-loop μ-loop
 kind-of-requires c κs = search needs
 
-first-of-requires : tie.Need-first-of-requires Inv-loop μ-loop
-first-of-requires c κs = search needs
+place-of-requires : tie.Need-place-of-requires Inv-loop μ-loop
+place-of-requires c κs = search needs
 
 size-of-requires : tie.Need-size-of-requires Inv-loop μ-loop
 size-of-requires c κs = search needs
@@ -53,7 +53,7 @@ element-lines-spec =
     rows-in-requires
     returns
     kind-of-requires
-    first-of-requires
+    place-of-requires
     size-of-requires
     element-line-requires
     add-i

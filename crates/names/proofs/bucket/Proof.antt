@@ -5,8 +5,8 @@ use borrow.Author.Needs.{needs}
 use Rattle.names.proofs.bucket.Statement.{statement}
 use Rattle.names.proofs.bucket.Tie as tie
 
-first-of-requires : tie.Need-first-of-requires
-first-of-requires c κs = search needs
+place-of-requires : tie.Need-place-of-requires
+place-of-requires c κs = search needs
 
 size-of-requires : tie.Need-size-of-requires
 size-of-requires c κs = search needs
@@ -31,8 +31,8 @@ returns c =
     let at-if1 = at-kind-of .before in
     let at-stands = at-if1 .before in
     let at-size-of = at-stands .before in
-    let at-first-of = at-size-of .before in
-    (bucket-in _ _ _ _ _ _ (at-first-of .first-of .ensures) (at-size-of .size-of .ensures) (at-stands .stands .ensures) _ _ (at-if1 .if1 .taken) (at-kind-of .kind-of .ensures) (c .hashed .ensures .0), chain-low _ (c .hashed .ensures .1))
+    let at-place-of = at-size-of .before in
+    (bucket-in _ _ _ _ _ _ (at-place-of .place-of .ensures) (at-size-of .size-of .ensures) (at-stands .stands .ensures) _ _ (at-if1 .if1 .taken) (at-kind-of .kind-of .ensures) (c .hashed .ensures .0), chain-low _ (c .hashed .ensures .1))
 
 returns-2 : tie.Need-returns-2
 returns-2 c = (search bucket-out, search needs)
@@ -41,7 +41,7 @@ pub bucket-spec : {M : Type 1} → statement M
 bucket-spec =
     tie.close
     (tie.spec
-    first-of-requires
+    place-of-requires
     size-of-requires
     stands-requires
     kind-of-requires

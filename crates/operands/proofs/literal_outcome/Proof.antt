@@ -13,8 +13,8 @@ wrong-leaf-requires c κs = search needs
 returns : tie.Need-returns
 returns c = search not-folded
 
-first-of-requires : tie.Need-first-of-requires
-first-of-requires c κs = search needs
+place-of-requires : tie.Need-place-of-requires
+place-of-requires c κs = search needs
 
 least-requires : tie.Need-least-requires
 least-requires c κs = search needs
@@ -53,7 +53,7 @@ literal-outcome-spec =
     kind-of-requires
     wrong-leaf-requires
     returns
-    first-of-requires
+    place-of-requires
     least-requires
     size-of-requires
     sub-least
