@@ -9,7 +9,7 @@ use lib.ListN.{length}
 use Rattle.classes.specs.Bytes.{endsLine, separates, isLetter, lower, isDigit, isGraphic, digitValue}
 use Rattle.classes.specs.Runs.{inRun, count, goesOn, run}
 use Rattle.words.specs.Words.{reservedWords, delimiters, bytesOf, begins, spells, placeFrom}
-use Rattle.numbers.specs.Numbers.{digits, digitOn, valueFrom, baseOf, exponentHead, exponent, belowBase, based, pointed, number}
+use Rattle.numbers.specs.Numbers.{digits, digitIn, spelled, leading, exponentHead, exponent, belowBase, based, pointed, number}
 use Rattle.elements.specs.Element.{unreadable, identifier, word, followsNone, numeral, single, delimiter, other, opensOf, elementAt}
 use Rattle.reading.specs.Rows.{linesOf, lineRows, linesRows, rowsOf}
 use Rattle.alike.specs.Spelling.{spelt}
@@ -56,7 +56,7 @@ bad = above ++ (bad-line ++ below)
 
 -- the pieces of a text, computed
 unfoldable pieces : List ℕ → List Part
-unfolding endsLine separates isLetter lower isDigit isGraphic digitValue inRun count goesOn run reservedWords delimiters bytesOf begins spells placeFrom digits digitOn valueFrom baseOf exponentHead exponent belowBase based pointed number unreadable identifier word followsNone numeral single delimiter other opensOf elementAt linesOf lineRows linesRows rowsOf cut placedRows placedLines placedIn partsOf
+unfolding endsLine separates isLetter lower isDigit isGraphic digitValue inRun count goesOn run reservedWords delimiters bytesOf begins spells placeFrom digits digitIn spelled leading exponentHead exponent belowBase based pointed number unreadable identifier word followsNone numeral single delimiter other opensOf elementAt linesOf lineRows linesRows rowsOf cut placedRows placedLines placedIn partsOf
 pieces text = partsOf text
 
 -- what pieces claim and use, computed
@@ -121,7 +121,7 @@ total-disturbed u =
 
 -- what the items come to, computed
 unfoldable answers : List ℕ → List ℕ
-unfolding rowsIn claimsIn claimedAbove firstAbove useOf valued valueOf donesFrom donesOf recordOf recordsFrom recordsOf elementsOf piecesOf constantOf rangedOf languageValue operatorOf signOf literalBy rowOutcome outcomeIn literals.digitIn literals.spelled literals.leading literals.digitsPlace literals.exponentOf literals.numberIn literals.isBased literals.valueOf literals.literalOf sizedOf dividedOf toSign powerOf nameOf wordAt
+unfolding rowsIn claimsIn claimedAbove firstAbove useOf valued valueOf donesFrom donesOf recordOf recordsFrom recordsOf elementsOf piecesOf constantOf rangedOf languageValue operatorOf signOf literalBy rowOutcome outcomeIn literals.exponentOf literals.numberIn literals.isBased literals.valueOf literals.literalOf sizedOf dividedOf toSign powerOf nameOf wordAt
 answers text = recordsOf text
 
 -- state 0 and 10,000, then state 5, "leans"

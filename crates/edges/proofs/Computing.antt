@@ -3,7 +3,7 @@ use lib.IntN.{pow, one}
 use Rattle.classes.specs.Bytes.{endsLine, separates, isLetter, lower, isDigit, digitValue}
 use Rattle.classes.specs.Runs.{inRun, count, goesOn, run}
 use Rattle.words.specs.Words.{bytesOf, begins, spells, placeFrom, reservedWords, delimiters}
-use Rattle.numbers.specs.Numbers.{digits, digitOn, valueFrom, baseOf, exponentHead, exponent, belowBase, based, number}
+use Rattle.numbers.specs.Numbers.{digits, digitIn, spelled, leading, exponentHead, exponent, belowBase, based, number}
 use Rattle.elements.specs.Element.{identifier, word, followsNone, numeral, single, delimiter, other, opensOf, elementAt}
 use Rattle.reading.specs.Rows.{linesOf, lineRows, linesRows, rowsOf}
 use Rattle.alike.specs.Spelling.{spelt}
@@ -18,7 +18,7 @@ use Rattle.forms.specs.Reading.{readingFrom}
 use Rattle.forms.specs.Tree.{does}
 use Rattle.tree.specs.Items.{readingOfPiece, rowsOfPiece}
 use Rattle.integers.specs.Integers.{sizedOf, dividedOf, toSign, powerOf}
-use Rattle.literals.specs.Literals.{digitIn, spelled, leading, digitsPlace, exponentOf, numberIn, isBased, valueOf as literalValue, literalOf}
+use Rattle.literals.specs.Literals.{exponentOf, numberIn, isBased, valueOf as literalValue, literalOf}
 use Rattle.operands.specs.Operands.{operatorOf, signOf, literalBy}
 use Rattle.values.specs.Values.{languageValue}
 use Rattle.marks.specs.Marks.{constantOf}
@@ -27,5 +27,5 @@ use Rattle.meaning.specs.Names.{claims, claimsIn, claimedAbove, firstAbove, use
 use Rattle.meaning.specs.Items.{valued, valueOf, donesFrom, donesOf, recordOf, recordsFrom, recordsOf}
 
 unfoldable pub computing : Unit {0}
-unfolding bytesOf linesOf endsLine rowsOf linesRows lineRows separates isLetter lower isDigit digitValue inRun count goesOn run begins spells placeFrom reservedWords delimiters digits digitOn valueFrom baseOf exponentHead exponent belowBase based number identifier word followsNone numeral single delimiter other opensOf elementAt cut elementsOf piecesOf at kinds sameAs spelt isHeading behindWord hasName endsAt isClosing claimMark markOf nameOf runs terminalOf readingFrom does readingOfPiece rowsOfPiece sizedOf dividedOf toSign powerOf pow one digitIn spelled leading digitsPlace exponentOf numberIn isBased literalValue literalOf operatorOf signOf literalBy constantOf languageValue rowOutcome outcomeIn claims claimsIn claimedAbove firstAbove useOf valued valueOf donesFrom donesOf recordOf recordsFrom recordsOf
+unfolding bytesOf linesOf endsLine rowsOf linesRows lineRows separates isLetter lower isDigit digitValue inRun count goesOn run begins spells placeFrom reservedWords delimiters digits digitIn spelled leading exponentHead exponent belowBase based number identifier word followsNone numeral single delimiter other opensOf elementAt cut elementsOf piecesOf at kinds sameAs spelt isHeading behindWord hasName endsAt isClosing claimMark markOf nameOf runs terminalOf readingFrom does readingOfPiece rowsOfPiece sizedOf dividedOf toSign powerOf pow one exponentOf numberIn isBased literalValue literalOf operatorOf signOf literalBy constantOf languageValue rowOutcome outcomeIn claims claimsIn claimedAbove firstAbove useOf valued valueOf donesFrom donesOf recordOf recordsFrom recordsOf
 computing = tt

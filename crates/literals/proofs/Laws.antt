@@ -1,86 +1,30 @@
 -- The ways of the definitions of literals, in the code's terms: each premise is what a call or a test gives. Numbers are capped at 2147483648, one
 -- above the largest. Assumes nothing.
-use mathlib.Core.Path.{_≡_, refl, sym, ap, _∙_}
-use mathlib.Core.Bool.{Bool, true, false}
-use mathlib.Core.List.{List, [], _∷_}
+use mathlib.Core.Path.{_≡_, sym, ap, _∙_}
+use mathlib.Core.List.{List}
 use mathlib.Core.Logic.{_⊎_, inl, inr}
 use Prim.Native.Nat.{ℕ, zero, suc, _+_, _-_, _*_, _^_, _≤_, _<_, min}
 use native.Mathlib.Nat.{mul-le-mul, mul-le-mul-left, mul-le-mul-right, le-mul-of-pos-right, one-le-pow, pow-zero, pow-suc, pow-le-pow-right, mul-assoc, zero-mul, add-zero, mul-one}
 use native.Mathlib.Numerals.{add-one}
 use native.Mathlib.Omega.{arith}
-use borrow.Author.Tests.{eq-eqb, ne-eqb, le-leb, lt-leb, leb-true, leb-false}
-use lib.Dec.{eqb, leb}
+use borrow.Author.Tests.{eq-eqb, ne-eqb, le-leb, lt-leb}
 use lib.IntN.{pos}
-use lib.ListN.{length, take, drop, getD, drop-of-length-le}
-use lib.Seq.{drop-cons, getD-drop, drop-drop, length-take-le}
-use Rattle.classes.specs.Bytes.{lower, digitValue}
+use lib.ListN.{length, take, drop, getD}
+use lib.Seq.{getD-drop, drop-drop, length-take-le}
+use Rattle.classes.specs.Bytes.{lower}
 use Rattle.classes.specs.Runs.{run}
 use Rattle.classes.specs.declared.Run.the-variants.{Below}
 use Rattle.classes.proofs.Laws.{part-rest, run-le, byte-inside}
+use Rattle.numbers.specs.Numbers.{spelled, leading, exponentHead}
+use Rattle.numbers.proofs.Spelled.{sides}
 use Rattle.integers.specs.Integers.{sizedOf}
 use Rattle.integers.specs.declared.Folded.{Folded}
 use Rattle.integers.specs.declared.Folded.the-variants.{Whole, Stopped}
-use Rattle.literals.specs.Literals.{digitIn, spelled, leading, digitsPlace, exponentOf, numberIn, isBased, valueOf, literalOf}
+use Rattle.literals.specs.Literals.{exponentOf, numberIn, isBased, valueOf, literalOf}
 
--- a number is up to another or above it
-sides : (a b : ℕ) → (a ≤ b) ⊎ (b ≤ a)
-sides a b = go (leb a b) refl
-  where
-    go : (x : Bool) → leb a b ≡ x → (a ≤ b) ⊎ (b ≤ a)
-    go true e = inl (leb-true a b e)
-    go false e = inr (omega (arith, leb-false a b e))
-
--- one digit more
-module _ (base v b : ℕ) where
-  on-under : b ≡ 95 → digitIn base v b ≡ v
-  unfolding digitIn
-  on-under e = rw (eq-eqb b 95 e)
-
-  on-digit : (b ≡ 95 → ⊥) → digitIn base v b ≡ v * base + digitValue b
-  unfolding digitIn
-  on-digit e = rw (ne-eqb b 95 e)
-
-  pub kept-under : b ≡ 95 → v ≤ 2147483648 → v ≡ min 2147483648 (digitIn base v b)
-  kept-under e h = omega (arith, on-under e)
-
-  pub capped-digit : (n : ℕ) → n ≡ digitValue b → (b ≡ 95 → ⊥) → 2147483648 < v * base + n → _≡_ {A = ℕ} 2147483648 (min 2147483648 (digitIn base v b))
-  capped-digit n d e h = omega (arith, on-digit e)
-
-  pub kept-digit : (n : ℕ) → n ≡ digitValue b → (b ≡ 95 → ⊥) → v * base + n ≤ 2147483648 → v * base + n ≡ min 2147483648 (digitIn base v b)
-  kept-digit n d e h = omega (arith, on-digit e)
-
+-- a number so capped, times its base, fits a word
 pub product-fits : (v base : ℕ) → v ≤ 2147483648 → base ≤ 16 → v * base ≤ 34359738368
 product-fits v base h k = mul-le-mul h k
-
--- to cap on the way changes nothing
-capped-step : (base v b : ℕ) → 2 ≤ base → min 2147483648 (digitIn base (min 2147483648 v) b) ≡ min 2147483648 (digitIn base v b)
-unfolding digitIn
-capped-step base v b g = go (eqb b 95) refl (sides v 2147483648)
-  where
-    go : (x : Bool) → eqb b 95 ≡ x → (v ≤ 2147483648) ⊎ (2147483648 ≤ v) → min 2147483648 (digitIn base (min 2147483648 v) b) ≡ min 2147483648 (digitIn base v b)
-    go true e h = rw e (omega arith)
-    go false e (inl h) = let k : min 2147483648 v ≡ v = omega arith in rw k
-    go false e (inr h) =
-        let k : min 2147483648 v ≡ 2147483648 = omega arith in
-        rw (k, e) (omega (arith, le-mul-of-pos-right {m = base} v (omega arith)))
-
-capped-value : (base v : ℕ) (s : List ℕ) → 2 ≤ base → min 2147483648 (spelled base (min 2147483648 v) s) ≡ min 2147483648 (spelled base v s)
-unfolding spelled
-capped-value base v [] g = omega arith
-capped-value base v (b ∷ s) g =
-    sym (capped-value base (digitIn base (min 2147483648 v) b) s g)
-    ∙ ap (λ (n : ℕ). min 2147483648 (spelled base n s)) (capped-step base v b g)
-    ∙ capped-value base (digitIn base v b) s g
-
--- the turns of `capped`
-pub value-turn : (base : ℕ) (s : List ℕ) (i v w whole : ℕ) → 2 ≤ base → min 2147483648 (spelled base v (drop i s)) ≡ whole → i < length s
-    → w ≡ min 2147483648 (digitIn base v (getD s i 0)) → min 2147483648 (spelled base w (drop (i + 1) s)) ≡ whole
-unfolding spelled
-value-turn base s i v w whole g h l e = rw (e, add-one) (capped-value base (digitIn base v (getD s i 0)) (drop (suc i) s) g ∙ (rw (drop-cons s i 0 l) at h))
-
-pub value-end : (base : ℕ) (s : List ℕ) (i v whole : ℕ) → min 2147483648 (spelled base v (drop i s)) ≡ whole → v ≤ 2147483648 → length s ≤ i → v ≡ whole
-unfolding spelled
-value-end base s i v whole h k l = omega (arith, rw (drop-of-length-le s l) at h)
 
 -- the digits at the front
 pub leading-is : (base : ℕ) (s : List ℕ) (n r : ℕ) → n ≡ run (Below base) s → r ≡ min 2147483648 (spelled base 0 (take n s)) → r ≡ min 2147483648 (leading base s)
@@ -154,12 +98,12 @@ module _ (s : List ℕ) (at b e : ℕ) (p : b ≡ getD s at 0) (l : e ≡ lower 
     plus-in h = byte-inside s (at + 1) (λ z. omega (arith, sym h ∙ q ∙ z))
 
     pub exponent-plus : (r : ℕ) → d ≡ 43 → r ≡ min 2147483648 (leading 10 (take (length s - (at + 2)) (drop (at + 2) s))) → r ≡ min 2147483648 (exponentOf (drop at s))
-    unfolding exponentOf digitsPlace
+    unfolding exponentOf exponentHead
     exponent-plus r h k =
         rw (first, ← l, eq-eqb e 101 t, getD-drop at s 1 0, ← q, eq-eqb d 43 h, drop-drop) (rw (part-rest s (at + 2)) at k)
 
     pub exponent-plain : (r : ℕ) → (d ≡ 43 → ⊥) → r ≡ min 2147483648 (leading 10 (take (length s - (at + 1)) (drop (at + 1) s))) → r ≡ min 2147483648 (exponentOf (drop at s))
-    unfolding exponentOf digitsPlace
+    unfolding exponentOf exponentHead
     exponent-plain r h k =
         rw (first, ← l, eq-eqb e 101 t, getD-drop at s 1 0, ← q, ne-eqb d 43 h, drop-drop) (rw (part-rest s (at + 1)) at k)
 

@@ -5,8 +5,9 @@ ghost use mathlib.Core.Path.{_≡_};
 ghost use Prim.Native.Nat.{_+_, _*_, _^_, _≤_, _<_, min};
 ghost use lib.IntN.{pos};
 ghost use lib.ListN.{length, drop};
+ghost use Rattle.numbers.specs.Numbers.{digitIn, spelled, leading};
 ghost use Rattle.integers.specs.Integers.{sizedOf};
-ghost use Rattle.literals.specs.Literals.{digitIn, spelled, leading, exponentOf, numberIn, literalOf};
+ghost use Rattle.literals.specs.Literals.{exponentOf, numberIn, literalOf};
 
 // How large a literal is at most.
 const LARGEST: u64 = integers::LARGEST as u64;

@@ -1,78 +1,31 @@
 -- The ways of the definitions of numbers, in the code's terms: each premise is what a call or a test gives. Assumes nothing.
 use mathlib.Core.Path.{_≡_, refl, sym, ap, _∙_}
 use mathlib.Core.Bool.{Bool, true, false, not, _&&_, _||_}
-use mathlib.Core.List.{List, [], _∷_}
-use Prim.Native.Nat.{ℕ, suc, _+_, _-_, _*_, _≤_, _<_, min}
-use native.Mathlib.Numerals.{add-one}
+use mathlib.Core.List.{List, _∷_}
+use Prim.Native.Nat.{ℕ, suc, _+_, _-_, _≤_, _<_, min}
 use native.Mathlib.Omega.{arith}
 use borrow.Author.Tests.{eq-eqb, ne-eqb, eqb-true, not-true, not-false, le-leb, lt-leb}
 use lib.Dec.{eqb, leb}
-use lib.ListN.{length, take, drop, getD, length-drop, drop-of-length-le}
-use lib.Seq.{drop-cons, length-take-le}
-use Rattle.classes.specs.Bytes.{within, lower, isDigit, digitValue}
+use lib.ListN.{length, take, drop, getD, length-drop}
+use lib.Seq.{length-take-le}
+use Rattle.classes.specs.Bytes.{within, lower, isDigit}
 use Rattle.classes.specs.Runs.{run, inRun}
 use Rattle.classes.specs.declared.Run.the-variants.{Below}
 use Rattle.classes.proofs.Laws.{part-rest, run-le, byte-inside, digit-inside, by-test, and-right, run-some, digit-in-ten}
-use Rattle.numbers.specs.Numbers.{digits, digitOn, valueFrom, baseOf, exponentHead, exponent, belowBase, integerPast, based, pointed, number}
+use Rattle.numbers.specs.Numbers.{digits, digitIn, spelled, leading, exponentHead, exponent, belowBase, integerPast, based, pointed, number}
 use Rattle.numbers.specs.declared.Number.{Number}
 use Rattle.numbers.specs.declared.Number.the-variants.{Integer, Real, Neither}
 use Rattle.numbers.specs.declared.Size.{Size}
 use Rattle.numbers.specs.declared.Size.the-variants.{Of, Nothing}
+use Rattle.numbers.proofs.Spelled.{on-digit}
 
 and-false : (x : Bool) → (x && false) ≡ false
 and-false true = refl
 and-false false = refl
 
--- one digit more, where 17 stands for what is above 16
-module _ (v b : ℕ) where
-  on-under : b ≡ 95 → digitOn v b ≡ v
-  unfolding digitOn
-  on-under e = rw (eq-eqb b 95 e)
-
-  on-digit : (b ≡ 95 → ⊥) → digitOn v b ≡ v * 10 + digitValue b
-  unfolding digitOn
-  on-digit e = rw (ne-eqb b 95 e)
-
-  pub capped-under : b ≡ 95 → 17 < v → _≡_ {A = ℕ} 17 (min 17 (digitOn v b))
-  capped-under e h = omega (arith, on-under e)
-
-  pub kept-under : b ≡ 95 → v ≤ 17 → v ≡ min 17 (digitOn v b)
-  kept-under e h = omega (arith, on-under e)
-
-  pub capped-large : (b ≡ 95 → ⊥) → 1 < v → _≡_ {A = ℕ} 17 (min 17 (digitOn v b))
-  capped-large e h = omega (arith, on-digit e)
-
-  pub capped-digit : (n : ℕ) → n ≡ digitValue b → (b ≡ 95 → ⊥) → 17 < v * 10 + n → _≡_ {A = ℕ} 17 (min 17 (digitOn v b))
-  capped-digit n d e h = omega (arith, on-digit e)
-
-  pub kept-digit : (n : ℕ) → n ≡ digitValue b → (b ≡ 95 → ⊥) → v * 10 + n ≤ 17 → v * 10 + n ≡ min 17 (digitOn v b)
-  kept-digit n d e h = omega (arith, on-digit e)
-
--- to cap on the way changes nothing
-capped-step : (v b : ℕ) → min 17 (digitOn (min 17 v) b) ≡ min 17 (digitOn v b)
-unfolding digitOn
-capped-step v b = go (eqb b 95) refl
-  where
-    go : (x : Bool) → eqb b 95 ≡ x → min 17 (digitOn (min 17 v) b) ≡ min 17 (digitOn v b)
-    go true e = rw e (omega arith)
-    go false e = rw e (omega arith)
-
-capped-value : (v : ℕ) (s : List ℕ) → min 17 (valueFrom (min 17 v) s) ≡ min 17 (valueFrom v s)
-unfolding valueFrom
-capped-value v [] = omega arith
-capped-value v (b ∷ s) =
-    sym (capped-value (digitOn (min 17 v) b) s)
-    ∙ ap (λ (n : ℕ). min 17 (valueFrom n s)) (capped-step v b)
-    ∙ capped-value (digitOn v b) s
-
--- the turns of `small_value`
-pub value-turn : (s : List ℕ) (i v w whole : ℕ) → min 17 (valueFrom v (drop i s)) ≡ whole → i < length s → w ≡ min 17 (digitOn v (getD s i 0)) → min 17 (valueFrom w (drop (i + 1) s)) ≡ whole
-unfolding valueFrom
-value-turn s i v w whole h l e = rw (e, add-one) (capped-value (digitOn v (getD s i 0)) (drop (suc i) s) ∙ (rw (drop-cons s i 0 l) at h))
-
-pub value-end : (s : List ℕ) (i v whole : ℕ) → min 17 (valueFrom v (drop i s)) ≡ whole → v ≤ 17 → length s ≤ i → v ≡ whole
-unfolding valueFrom
-value-end s i v whole h k l = omega (arith, rw (drop-of-length-le s l) at h)
+-- one digit more behind a number above 1 is above 16
+pub capped-large : (v b : ℕ) → (b ≡ 95 → ⊥) → 1 < v → _≡_ {A = ℕ} 17 (min 17 (digitIn 10 v b))
+capped-large v b e h = omega (arith, on-digit 10 v b e)
 
 -- the ways of an exponent
 module _ (s : List ℕ) (either : Bool) where
@@ -178,9 +131,9 @@ below-in base s =
 below-le : (base : ℕ) (s : List ℕ) (k : ℕ) → belowBase base s ≡ Of k → k ≤ length s
 below-le base s k e = rw e at (below-in base s)
 
-module _ (s : List ℕ) (n v : ℕ) (h : n ≡ digits s) (w : v ≡ min 17 (valueFrom 0 (take n s))) where
-  base-is : v ≤ 16 → v ≡ baseOf s
-  unfolding baseOf
+module _ (s : List ℕ) (n v : ℕ) (h : n ≡ digits s) (w : v ≡ min 17 (spelled 10 0 (take n s))) where
+  base-is : v ≤ 16 → v ≡ leading 10 s
+  unfolding leading digits
   base-is l = rw (← h) (omega (arith, w))
 
   pub base-small : v < 2 → Neither ≡ based s
@@ -188,8 +141,8 @@ module _ (s : List ℕ) (n v : ℕ) (h : n ≡ digits s) (w : v ≡ min 17 (valu
   base-small l = rw (← base-is (omega arith), lt-leb 2 v l)
 
   pub base-large : 16 < v → Neither ≡ based s
-  unfolding based baseOf
-  base-large l = rw (← h, lt-leb (valueFrom 0 (take n s)) 16 (omega (arith, w)), and-false (leb 2 (valueFrom 0 (take n s))))
+  unfolding based leading digits
+  base-large l = rw (← h, lt-leb (spelled 10 0 (take n s)) 16 (omega (arith, w)), and-false (leb 2 (spelled 10 0 (take n s))))
 
   module _ (st : Size) (g : 2 ≤ v) (l : v ≤ 16) (e : st ≡ belowBase v (take (length s - (n + 1)) (drop (n + 1) s))) where
     based-as : based s ≡ integerPast (n + 1) st
@@ -231,10 +184,10 @@ NumberIn w Neither = Unit {0}
 
 based-in : (s : List ℕ) → digits s < length s → NumberIn (length s) (based s)
 unfolding based
-based-in s l = by-test (NumberIn (length s)) (within 2 16 (baseOf s)) (λ _. go (belowBase (baseOf s) (drop (digits s + 1) s)) refl) (λ _. tt)
+based-in s l = by-test (NumberIn (length s)) (within 2 16 (leading 10 s)) (λ _. go (belowBase (leading 10 s) (drop (digits s + 1) s)) refl) (λ _. tt)
   where
-    go : (z : Size) → belowBase (baseOf s) (drop (digits s + 1) s) ≡ z → NumberIn (length s) (integerPast (digits s + 1) z)
-    go (Of k) e = (omega arith, omega (arith, below-le (baseOf s) (drop (digits s + 1) s) k e, length-drop (digits s + 1) s))
+    go : (z : Size) → belowBase (leading 10 s) (drop (digits s + 1) s) ≡ z → NumberIn (length s) (integerPast (digits s + 1) z)
+    go (Of k) e = (omega arith, omega (arith, below-le (leading 10 s) (drop (digits s + 1) s) k e, length-drop (digits s + 1) s))
     go Nothing e = tt
 
 pointed-in : (s : List ℕ) → digits s < length s → NumberIn (length s) (pointed s)

@@ -1,5 +1,5 @@
--- The integer and real literals of 01's section "Elements": how far a number goes that begins with a digit at the front of a line's rest.
--- Past the end of a list `getD` gives 0, a byte of no class. Assumes nothing.
+-- The integer and real literals of 01's section "Elements": how far a number goes that begins with a digit at the front of a line's rest, and
+-- what digits spell. Past the end of a list `getD` gives 0, a byte of no class. Assumes nothing.
 use Prim.Native.Nat.{ℕ, _+_, _*_}
 use mathlib.Core.Bool.{Bool, true, false, cond, _&&_, _||_}
 use mathlib.Core.List.{List, [], _∷_}
@@ -17,17 +17,17 @@ use Rattle.numbers.specs.declared.Size.the-variants.{Of, Nothing}
 unfoldable pub digits : List ℕ → ℕ
 digits s = run (Below 10) s
 
--- the number that digits and underscores spell, behind those that spell v
-unfoldable pub digitOn : ℕ → ℕ → ℕ
-digitOn v b = cond (eqb b 95) v (v * 10 + digitValue b)
+-- the number that digits and underscores (95) spell in a base, behind those that spell v
+unfoldable pub digitIn : ℕ → ℕ → ℕ → ℕ
+digitIn base v b = cond (eqb b 95) v (v * base + digitValue b)
 
-unfoldable pub valueFrom : ℕ → List ℕ → ℕ
-valueFrom v [] = v
-valueFrom v (b ∷ s) = valueFrom (digitOn v b) s
+unfoldable pub spelled : ℕ → ℕ → List ℕ → ℕ
+spelled base v [] = v
+spelled base v (b ∷ s) = spelled base (digitIn base v b) s
 
--- "base 2 to 16": the digits in front of the `#`
-unfoldable pub baseOf : List ℕ → ℕ
-baseOf s = valueFrom 0 (take (digits s) s)
+-- "digits with single underscores between" and "digits below the base": the number that those at the front spell
+unfoldable pub leading : ℕ → List ℕ → ℕ
+leading base s = spelled base 0 (take (run (Below base) s) s)
 
 -- "then perhaps E, an optional plus and digits"; of a real literal, "its exponent of either sign". First E and a sign, then all of it
 unfoldable pub exponentHead : Bool → List ℕ → ℕ
@@ -50,9 +50,9 @@ abbrev pub integerPast : ℕ → Size → Number
 integerPast n (Of k) = Integer (n + k)
 integerPast n Nothing = Neither
 
--- the three ways that a number goes on behind its digits: `#` (35), a point (46), or neither
+-- the three ways that a number goes on behind its digits: `#` (35), a point (46), or neither. In front of the `#` they spell the "base 2 to 16"
 unfoldable pub based : List ℕ → Number
-based s = cond (within 2 16 (baseOf s)) (integerPast (digits s + 1) (belowBase (baseOf s) (drop (digits s + 1) s))) Neither
+based s = cond (within 2 16 (leading 10 s)) (integerPast (digits s + 1) (belowBase (leading 10 s) (drop (digits s + 1) s))) Neither
 
 -- "decimal with a point and digits on both sides"
 unfoldable pub pointed : List ℕ → Number

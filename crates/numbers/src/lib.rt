@@ -4,7 +4,7 @@ ghost use mathlib.Core.Path.{_≡_};
 ghost use mathlib.Core.Bool.{true, false};
 ghost use Prim.Native.Nat.{_+_, _≤_, _<_, min};
 ghost use lib.ListN.{length, getD, drop};
-ghost use Rattle.numbers.specs.Numbers.{digits, digitOn, valueFrom, exponentHead, exponent, belowBase, based, pointed, number};
+ghost use Rattle.numbers.specs.Numbers.{digits, digitIn, spelled, exponentHead, exponent, belowBase, based, pointed, number};
 
 // A number's size in bytes, or none: a `#` or a point with nothing fitting behind it.
 pub enum Number {
@@ -20,7 +20,7 @@ pub enum Size {
 
 // One digit more, where 17 stands for any number above 16.
 fn with_digit(v: u8, b: u8) -> u8
-    ensures { λ r. ⌜ r ≡ min 17 (digitOn v b) ⌝ }
+    ensures { λ r. ⌜ r ≡ min 17 (digitIn 10 v b) ⌝ }
 {
     if b == 95 {
         if 17 < v {
@@ -40,7 +40,7 @@ fn with_digit(v: u8, b: u8) -> u8
 
 // The number that digits and underscores spell, or 17 where it is above 16.
 fn small_value(s: &[u8]) -> u8
-    ensures { λ r. ⌜ r ≡ min 17 (valueFrom 0 (now (s .entry))) ⌝ }
+    ensures { λ r. ⌜ r ≡ min 17 (spelled 10 0 (now (s .entry))) ⌝ }
 {
     let mut v: u8 = 0;
     let mut i = 0;

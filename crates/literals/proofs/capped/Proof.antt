@@ -1,8 +1,8 @@
 -- The invariant: the value, with the rest of the digits behind it, is the value of the whole, each capped. Assumes nothing.
 use borrow.Author.Needs.{needs}
 use native.Mathlib.Omega.{arith}
-use Rattle.literals.proofs.Laws.{value-turn, value-end}
-use Rattle.literals.specs.Literals.{spelled}
+use Rattle.numbers.proofs.Spelled.{value-turn, value-end}
+use Rattle.numbers.specs.Numbers.{spelled}
 use lib.ListN.{length, drop}
 use Prim.Native.Nat.{_-_, _≤_, min}
 use mathlib.Core.Path.{_≡_, refl}

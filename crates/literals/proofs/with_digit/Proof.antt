@@ -1,6 +1,7 @@
 -- The ways that a digit more goes. Assumes nothing.
 use native.Mathlib.Omega.{arith}
-use Rattle.literals.proofs.Laws.{kept-under, capped-digit, kept-digit, product-fits}
+use Rattle.numbers.proofs.Spelled.{kept-under, capped-digit, kept-digit}
+use Rattle.literals.proofs.Laws.{product-fits}
 use Rattle.classes.proofs.Laws.{digit-value-le}
 use borrow.Author.Needs.{needs}
 use Rattle.literals.proofs.with_digit.Statement.{statement}

@@ -1,5 +1,6 @@
 -- The five ways that a digit more goes. Assumes nothing.
-use Rattle.numbers.proofs.Laws.{capped-under, kept-under, capped-large, capped-digit, kept-digit}
+use Rattle.numbers.proofs.Spelled.{capped-under, kept-under, capped-digit, kept-digit}
+use Rattle.numbers.proofs.Laws.{capped-large}
 use Rattle.classes.proofs.Laws.{digit-value-le}
 use native.Mathlib.Omega.{arith}
 use borrow.Author.Needs.{needs}
