@@ -9,7 +9,8 @@ use borrow.Author.Tests.{eq-eqb, ne-eqb}
 use Rattle.places.specs.Places.{cellAt}
 use Rattle.alike.specs.Spelling.{spelledAs}
 use Rattle.alike.proofs.Spelling.{spelled-sized}
-use Rattle.names.specs.Language.{integerName, naturalName, positiveName, booleanName, trueName, falseName, sevenOf, languageOf}
+use Rattle.names.specs.Language.{integerName, naturalName, positiveName, booleanName, trueName, falseName, languageOf}
+use Rattle.names.specs.Chains.{sevenOf}
 
 -- a name told or not
 pub told-so : (x t : Bool) (n : ℕ) → x ≡ t → x ≡ true → n ≡ cond t n 0

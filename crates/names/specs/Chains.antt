@@ -10,6 +10,7 @@ use Rattle.alike.specs.Alike.{counts}
 use Rattle.places.specs.Places.{cellAt, within}
 use Rattle.records.specs.Records.{wordAt, isClaim}
 use Rattle.names.specs.Names.{firstFrom}
+use Rattle.names.specs.Language.{integerName, naturalName, booleanName}
 
 -- a hash with a byte more
 unfoldable pub mixedWith : ℕ → ℕ → ℕ
@@ -57,3 +58,7 @@ pub record Marking (own : List ℕ) (n i : ℕ) (marks : List ℕ) (any : Bool) 
   pub sound : (k : ℕ) → getD marks k 0 ≡ 1 → Twin own n k
   pub complete : (k f : ℕ) → k < i → getD own k 0 ≡ suc f → (k ≡ f → ⊥) → (getD marks k 0 ≡ 1) × (getD marks f 0 ≡ 1) × (any ≡ true)
   pub some : any ≡ true → (k : ℕ) × Twin own n k
+
+-- a name of the language is told by its length first: the number of one of seven letters
+abbrev pub sevenOf : (List ℕ → Bool) → ℕ
+sevenOf p = cond (p integerName) 1 (cond (p naturalName) 2 (cond (p booleanName) 4 0))

@@ -36,7 +36,3 @@ numberOf p k (w ∷ ws) = cond (p w) k (numberOf p (suc k) ws)
 -- 1 to 6 for a language's name, a basic identifier, case aside; 0 for any other element
 unfoldable pub languageOf : List ℕ → List ℕ → ℕ → ℕ
 languageOf text table e = cond (eqb (cellAt table e 0) 1) (numberOf (spelledAs true text table e) 1 languageNames) 0
-
--- the number of a name of seven letters
-abbrev pub sevenOf : (List ℕ → Bool) → ℕ
-sevenOf p = cond (p integerName) 1 (cond (p naturalName) 2 (cond (p booleanName) 4 0))

@@ -10,8 +10,8 @@ ghost use lib.ListN.{length, getD, replicate};
 ghost use Rattle.places.specs.Sizes.{mostPieces};
 ghost use Rattle.alike.specs.Spelling.{spelledAs};
 ghost use Rattle.names.specs.Names.{recordsIn, linkOf, ownOf, below, filled, linksTable, ownsTable, twinsTable, anyTwin};
-ghost use Rattle.names.specs.Language.{sevenOf, languageOf};
-ghost use Rattle.names.specs.Chains.{mixedWith, hashFrom, bucketOf, inBucket, Chained, First, Marking};
+ghost use Rattle.names.specs.Language.{languageOf};
+ghost use Rattle.names.specs.Chains.{mixedWith, hashFrom, bucketOf, inBucket, Chained, First, Marking, sevenOf};
 
 // How many chains the names are hashed into.
 const BUCKETS: usize = 1024;
