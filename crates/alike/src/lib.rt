@@ -1,9 +1,8 @@
 // Names compared: case aside, unless extended.
 use places::ElementNumber;
 ghost use mathlib.Core.Path.{_≡_};
-ghost use mathlib.Core.Bool.{_&&_};
-ghost use Prim.Native.Nat.{ℕ, _+_, _-_, _≤_, _<_};
-ghost use lib.ListN.{length, getD};
+ghost use Prim.Native.Nat.{_+_, _-_, _≤_, _<_};
+ghost use lib.ListN.{length};
 ghost use Rattle.alike.specs.Alike.{counts, agree, spelledSame, sameName};
 ghost use Rattle.alike.specs.Spelling.{spelt, spelledAs};
 

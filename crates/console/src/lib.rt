@@ -9,8 +9,6 @@ use verdict::Verdict;
 
 pub mod surveys; // what is printed of a survey
 
-ghost use mathlib.Core.Path.{_≡_};
-
 // How many bytes were read, or that a read failed.
 pub enum Got {
     Bytes(usize),

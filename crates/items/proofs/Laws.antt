@@ -18,10 +18,10 @@ use Rattle.names.specs.Language.{languageOf}
 use Rattle.folding.specs.declared.Outcome.{Outcome}
 use Rattle.folds.specs.Folds.{nameValue, foldOf}
 use Rattle.marks.specs.Marks.{constantOf, subtypeOf, rangedOf}
-use Rattle.values.specs.Words.{stateOf, kindOf, lowOf, highOf}
 use Rattle.values.specs.declared.Value.{Value}
 use Rattle.values.specs.declared.Value.the-variants.{Without}
-use Rattle.items.specs.Items.{heldIn, rowsHeld, goesDownIn, doubledIn, expressionAt, rangeAt, boundedAt, markAt, formedAt, valueAt, valueWords, completedAt, completedFrom, completed}
+use Rattle.items.specs.Items.{heldIn, rowsHeld, goesDownIn, doubledIn, expressionAt, rangeAt, boundedAt, markAt, formedAt, valueAt, completedAt, completedFrom, completed}
+use Rattle.values.specs.Words.{stateOf, kindOf, lowOf, highOf, valueWords}
 use Rattle.pieces.specs.Kinds.{anyDown}
 
 -- ---- the rows of a piece

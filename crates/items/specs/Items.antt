@@ -2,7 +2,7 @@
 -- from its first element's row on. Assumes nothing.
 use Prim.Native.Nat.{ℕ, zero, suc, _+_, _-_, _*_, _/_, min}
 use mathlib.Core.Bool.{Bool, cond, not, _&&_, _||_}
-use mathlib.Core.List.{List, [], _∷_}
+use mathlib.Core.List.{List}
 use lib.Dec.{eqb, ltb}
 use lib.ListN.{length, getD, drop, take}
 use lib.Seq.{sets}
@@ -14,7 +14,7 @@ use Rattle.names.specs.Language.{languageOf}
 use Rattle.folding.specs.declared.Outcome.{Outcome}
 use Rattle.folds.specs.Folds.{nameValue, foldOf}
 use Rattle.marks.specs.Marks.{constantOf, subtypeOf, rangedOf}
-use Rattle.values.specs.Words.{stateOf, kindOf, lowOf, highOf}
+use Rattle.values.specs.Words.{valueWords}
 use Rattle.values.specs.declared.Value.{Value}
 use Rattle.values.specs.declared.Value.the-variants.{Without}
 
@@ -66,10 +66,6 @@ unfoldable pub valueAt : List ℕ → List ℕ → List ℕ → List ℕ → Lis
 valueAt text table links twins rows items i =
     cond (eqb (rowsHeld rows items i) 0) (Without 1)
     (cond (doubledIn text table twins items i) (Without 2) (formedAt text table items links i rows (rowsHeld rows items i)))
-
--- the last four words of a record
-abbrev pub valueWords : Value → List ℕ
-valueWords v = stateOf v ∷ kindOf v ∷ lowOf v ∷ highOf v ∷ []
 
 -- the table with record i completed, if it is an item
 unfoldable pub completedAt : List ℕ → List ℕ → List ℕ → List ℕ → List ℕ → List ℕ → ℕ → List ℕ

@@ -7,7 +7,8 @@ ghost use Prim.Native.Nat.{_+_, _-_, _*_, _/_, _≤_, _<_};
 ghost use lib.ListN.{length};
 ghost use lib.Seq.{sets};
 ghost use Rattle.pieces.specs.Records.{recordWords};
-ghost use Rattle.items.specs.Items.{rowsHeld, goesDownIn, doubledIn, expressionAt, rangeAt, markAt, boundedAt, formedAt, valueAt, valueWords, completedAt, completed};
+ghost use Rattle.items.specs.Items.{rowsHeld, goesDownIn, doubledIn, expressionAt, rangeAt, markAt, boundedAt, formedAt, valueAt, completedAt, completed};
+ghost use Rattle.values.specs.Words.{valueWords};
 
 fn minus(a: usize, b: usize) -> usize
     ensures { λ r. ⌜ r ≡ a - b ⌝ }

@@ -1,6 +1,5 @@
 -- The readers' answers as numbers, 0 for what is absent. Assumes nothing.
 use Prim.Native.Nat.{ℕ}
-use mathlib.Core.Bool.{Bool, true, false}
 use mathlib.Core.List.{List}
 use Rattle.refusals.specs.Refusals.{refusalNumber, refusalPlace}
 use Rattle.reading.specs.declared.Reading.{Reading}

@@ -4,7 +4,7 @@ use integers::Folded;
 ghost use mathlib.Core.Path.{_≡_};
 ghost use Prim.Native.Nat.{_+_, _*_, _^_, _≤_, _<_, min};
 ghost use lib.IntN.{pos};
-ghost use lib.ListN.{length, drop};
+ghost use lib.ListN.{drop};
 ghost use Rattle.numbers.specs.Numbers.{digitIn, spelled, leading};
 ghost use Rattle.integers.specs.Integers.{sizedOf};
 ghost use Rattle.literals.specs.Literals.{exponentOf, numberIn, literalOf};

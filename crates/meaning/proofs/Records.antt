@@ -5,8 +5,8 @@ use mathlib.Core.List.{List, [], _∷_, _++_, append-assoc}
 use Prim.Native.Nat.{ℕ, zero, suc, _+_, _-_, _*_, _/_, _≤_, _<_}
 use native.Mathlib.Nat.{add-zero, add-assoc}
 use native.Mathlib.Omega.{arith}
-use borrow.Author.Tests.{lt-ltb, le-leb}
-use lib.Dec.{leb, ltb}
+use borrow.Author.Tests.{lt-ltb}
+use lib.Dec.{ltb}
 use lib.ListN.{length, getD, set, replicate, length-append}
 use lib.Seq.{sets}
 use Rattle.pieces.specs.Kinds.{markOf}
@@ -14,7 +14,7 @@ use Rattle.pieces.specs.Records as marks
 use Rattle.records.specs.Records.{wordAt, isItem}
 use Rattle.values.specs.declared.Value.{Value}
 use Rattle.values.specs.declared.Value.the-variants.{Without}
-use Rattle.items.specs.Items.{valueWords}
+use Rattle.values.specs.Words.{valueWords}
 use Rattle.worded.specs.Elements.{Piece, kinds}
 use Rattle.worded.proofs.Cutting.{kindsEach, total, kinds-length}
 use Rattle.meaning.specs.Names.{Done, classOf}

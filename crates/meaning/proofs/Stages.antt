@@ -12,7 +12,8 @@ use Rattle.records.specs.Records.{wordAt, isItem}
 use Rattle.tree.specs.Items.{itemRows}
 use Rattle.values.specs.declared.Value.{Value}
 use Rattle.uses.specs.Uses.{useIn}
-use Rattle.items.specs.Items.{doubledIn, valueAt, valueWords, completedAt, completedFrom, completed}
+use Rattle.items.specs.Items.{doubledIn, valueAt, completedAt, completedFrom, completed}
+use Rattle.values.specs.Words.{valueWords}
 use Rattle.worded.specs.Elements.{Piece, at, piecesOf}
 use Rattle.worded.proofs.Cutting.{total}
 use Rattle.meaning.specs.Names.{classOf, ownDoubled, Done, useOf}

@@ -12,7 +12,7 @@ use Rattle.tree.specs.Items.{rowsOfPiece}
 use Rattle.folding.specs.declared.Outcome.{Outcome}
 use Rattle.operands.specs.Operands.{literalBy}
 use Rattle.marks.specs.Marks.{operandOf, constantOf, subtypeOf, rangedOf}
-use Rattle.values.specs.Words.{stateOf, kindOf, lowOf, highOf}
+use Rattle.values.specs.Words.{valueWords}
 use Rattle.values.specs.declared.Value.{Value}
 use Rattle.values.specs.declared.Value.the-variants.{Without}
 use Rattle.worded.specs.Elements.{Element, Piece, at, kinds, piecesOf}
@@ -63,7 +63,7 @@ donesOf ps = donesFrom ps [] ps
 
 -- a record: "class 1 to 5 ..; first element, count, name element, state; in state 0 kind .. and two numbers; what is absent is 0"
 abbrev pub itemWords : Bool → Value → List ℕ
-itemWords true v = stateOf v ∷ kindOf v ∷ lowOf v ∷ highOf v ∷ []
+itemWords true v = valueWords v
 itemWords false v = 0 ∷ 0 ∷ 0 ∷ 0 ∷ []
 
 unfoldable pub recordOf : ℕ → Done → List ℕ

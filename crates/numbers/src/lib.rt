@@ -2,8 +2,8 @@
 use classes::Run;
 ghost use mathlib.Core.Path.{_≡_};
 ghost use mathlib.Core.Bool.{true, false};
-ghost use Prim.Native.Nat.{_+_, _≤_, _<_, min};
-ghost use lib.ListN.{length, getD, drop};
+ghost use Prim.Native.Nat.{_+_, _<_, min};
+ghost use lib.ListN.{length, drop};
 ghost use Rattle.numbers.specs.Numbers.{digits, digitIn, spelled, exponentHead, exponent, belowBase, based, pointed, number};
 
 // A number's size in bytes, or none: a `#` or a point with nothing fitting behind it.

@@ -2,6 +2,7 @@
 -- name comes to by its item's record. Assumes nothing.
 use Prim.Native.Nat.{ℕ, suc, _-_, _%_}
 use mathlib.Core.Bool.{Bool, true, false, cond, not}
+use mathlib.Core.List.{List, [], _∷_}
 use lib.Dec.{eqb, ltb}
 use lib.IntN.{ℤ, pos, negsuc}
 use Rattle.values.specs.declared.Value.{Value}
@@ -55,6 +56,10 @@ highOf (Truth t) = 0
 highOf (Range low high) = wordOf high
 highOf Truths = truthWord true
 highOf (Without s) = 0
+
+-- the last four words of an item's record
+abbrev pub valueWords : Value → List ℕ
+valueWords v = stateOf v ∷ kindOf v ∷ lowOf v ∷ highOf v ∷ []
 
 -- a constant's name used, by the kind and the first number of its record
 unfoldable pub usedConstant : ℕ → ℕ → Value
