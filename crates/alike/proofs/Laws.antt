@@ -70,14 +70,6 @@ module _ (t : Bool) (s l : List ℕ) (a b : ℕ) where
   spelled-in n m x y p q r e g d ex ey ep eq f h =
       rw (eq-eqb (cellAt l a 2) (cellAt l b 2) (sym e ∙ d ∙ g), ← e, ← ex, ← ey, ← ep, ← eq, f) h
 
-pub both-left : (p q : Bool) → p && q ≡ true → p ≡ true
-both-left true q e = refl
-both-left false q e = e
-
-pub both-right : (p q : Bool) → p && q ≡ true → q ≡ true
-both-right true q e = e
-both-right false q e = let z : _≡_ {A = ℕ} 0 1 = cc in absurd (omega arith)
-
 module _ (s l : List ℕ) (a b : ℕ) where
   pub same-kinds : (p q : ℕ) → p ≡ cellAt l a 0 → q ≡ cellAt l b 0 → (p ≡ q → ⊥) → false ≡ sameName s l a b
   unfolding sameName

@@ -7,9 +7,9 @@ use native.Mathlib.Omega.{arith}
 use lib.Dec.{eqb}
 use lib.ListN.{length, getD}
 use borrow.Author.Tests.{eq-eqb, eqb-true, le-leb, leb-true}
+use Rattle.laws.proofs.Laws.{both-left, both-right}
 use Rattle.alike.specs.Alike.{counts, agree, spelledSame, byKind, sameName}
 use Rattle.places.specs.Places.{cellAt, within}
-use Rattle.alike.proofs.Laws.{both-left, both-right}
 
 module _ (t : Bool) (s : List ℕ) where
   head : (x y n : ℕ) → agree t s x y (suc n) ≡ true → counts t (getD s x 0) ≡ counts t (getD s y 0)

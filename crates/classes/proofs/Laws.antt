@@ -1,6 +1,6 @@
 -- Laws of `count`, of which a run is one: one byte more, none, and how many there can be. Assumes nothing.
 use mathlib.Core.Path.{_≡_, refl, sym, _∙_}
-use mathlib.Core.Bool.{Bool, true, false, cond, not, _&&_, _||_, false≢true}
+use mathlib.Core.Bool.{Bool, true, false, cond, not, _||_, false≢true}
 use mathlib.Core.List.{List, [], _∷_}
 use Prim.Native.Nat.{ℕ, zero, suc, _+_, _-_, _≤_, _<_, zero-le, suc-le-suc}
 use native.Mathlib.Nat.{not-suc-le-zero, le-of-suc-le-suc, le-refl}
@@ -10,6 +10,7 @@ use borrow.Author.Tests.{eq-eqb, ne-eqb, lt-ltb, le-leb, leb-true, leb-false, no
 use lib.Dec.{leb}
 use lib.ListN.{length, take, drop, getD, length-drop, drop-of-length-le, List·getD-eq-default}
 use lib.Seq.{take-all}
+use Rattle.laws.proofs.Laws.{both-left, both-right}
 use Rattle.classes.specs.Bytes.{within, isLetter, isDigit, digitValue}
 use Rattle.classes.specs.Runs.{count, run, inRun, goesOn}
 use Rattle.classes.specs.declared.Run.{Run}
@@ -53,17 +54,9 @@ pub part-rest : (s : List ℕ) (i : ℕ) → take (length s - i) (drop i s) ≡ 
 part-rest s i = take-all (length s - i) (drop i s) (rw length-drop (le-refl _))
 
 -- both of two tests
-pub and-left : (x y : Bool) → (x && y) ≡ true → x ≡ true
-and-left true y e = refl
-and-left false y e = e
-
-pub and-right : (x y : Bool) → (x && y) ≡ true → y ≡ true
-and-right true y e = e
-and-right false y e = absurd (false≢true e)
-
 -- a byte that is within two bounds
 pub within-low : (low high b : ℕ) → within low high b ≡ true → low ≤ b
-within-low low high b e = leb-true low b (and-left (leb low b) (leb b high) e)
+within-low low high b e = leb-true low b (both-left (leb low b) (leb b high) e)
 
 -- a property of a choice holds if it holds of each side where that side is chosen
 pub by-test : {A : Type 0} (P : A → Type 0) (t : Bool) {x y : A} → (t ≡ true → P x) → (t ≡ false → P y) → P (cond t x y)
@@ -71,7 +64,7 @@ by-test P true f g = f refl
 by-test P false f g = g refl
 
 pub within-high : (low high b : ℕ) → within low high b ≡ true → b ≤ high
-within-high low high b e = leb-true b high (and-right (leb low b) (leb b high) e)
+within-high low high b e = leb-true b high (both-right (leb low b) (leb b high) e)
 
 pub digit-value-le : (b : ℕ) → digitValue b ≤ 16
 unfolding digitValue isDigit

@@ -3,16 +3,14 @@
 use Prim.Native.Nat.{ℕ, zero, suc}
 use mathlib.Core.Path.{_≡_, refl, sym, ap, ap₂, subst, _∙_}
 use mathlib.Core.Logic.{inl, inr}
-use mathlib.Core.Bool.{Bool, true, false, cond, false≢true}
+use mathlib.Core.Bool.{Bool, true, false, cond}
 use mathlib.Core.List.{List, [], _∷_}
 use native.Mathlib.Omega.{arith}
-use borrow.Author.Tests.{eqb-true, eq-eqb}
+use borrow.Author.Tests.{eqb-true}
 use lib.Dec.{eqb}
 use lib.ListN.{length, getD, drop}
+use Rattle.laws.proofs.Laws.{both-left, both-right}
 use Rattle.ll.specs.Actions.{End, read, bad, stopped, spent}
-use Rattle.alike.specs.Alike.{counts, byKind}
-use Rattle.alike.specs.Spelling.{spelt}
-use Rattle.alike.proofs.Laws.{both-left, both-right}
 use Rattle.forms.specs.Names.{constant, subtype}
 use Rattle.forms.specs.Tree.{Row, State, Refusal, rowsOf}
 use Rattle.forms.specs.Reading.{readingFrom}
@@ -32,45 +30,9 @@ use Rattle.worded.specs.Elements.{Element, Piece, at, kinds}
 use Rattle.worded.specs.Names.{sameAs}
 use Rattle.meaning.specs.Names.{classOf, ownName, claims, ownDoubled, Done, useOf}
 use Rattle.meaning.specs.Items.{valued, bounded, marked, formed, unlessDoubled, valueOf}
+use Rattle.meaning.proofs.Sameness.{same-on}
 use Rattle.damage.specs.Places.{In}
 use Rattle.damage.specs.Damage.{UsesName}
-
--- spellings that count the same, one after the other
-spelt-on : (b : Bool) (x y z : List ℕ) → spelt b x y ≡ true → spelt b y z ≡ true → spelt b x z ≡ true
-unfolding spelt
-spelt-on b [] [] [] h k = refl
-spelt-on b [] [] (w ∷ z) h k = k
-spelt-on b [] (v ∷ y) z h k = absurd (false≢true h)
-spelt-on b (u ∷ x) [] z h k = absurd (false≢true h)
-spelt-on b (u ∷ x) (v ∷ y) [] h k = k
-spelt-on b (u ∷ x) (v ∷ y) (w ∷ z) h k =
-    let p = eqb-true (counts b u) (counts b v) (both-left (eqb (counts b u) (counts b v)) (spelt b x y) h) in
-    let q = eqb-true (counts b v) (counts b w) (both-left (eqb (counts b v) (counts b w)) (spelt b y z) k) in
-    rw (eq-eqb (counts b u) (counts b w) (p ∙ q))
-    (spelt-on b x y z (both-right (eqb (counts b u) (counts b v)) (spelt b x y) h) (both-right (eqb (counts b v) (counts b w)) (spelt b y z) k))
-
-by-kind-on : (k : ℕ) (a b a′ b′ a″ b″ : Bool) → (a ≡ true → a′ ≡ true → a″ ≡ true) → (b ≡ true → b′ ≡ true → b″ ≡ true) → byKind k a b ≡ true → byKind k a′ b′ ≡ true → byKind k a″ b″ ≡ true
-by-kind-on zero a b a′ b′ a″ b″ f g h l = h
-by-kind-on (suc zero) a b a′ b′ a″ b″ f g h l = f h l
-by-kind-on (suc (suc zero)) a b a′ b′ a″ b″ f g h l = g h l
-by-kind-on (suc (suc (suc k))) a b a′ b′ a″ b″ f g h l = h
-
-chosen : (t x : Bool) → cond t x false ≡ true → (t ≡ true) × (x ≡ true)
-chosen true x h = (refl, h)
-chosen false x h = absurd (false≢true h)
-
--- names that are one, one after the other
-pub same-on : (x y z : Element) → sameAs x y ≡ true → sameAs y z ≡ true → sameAs x z ≡ true
-unfolding sameAs
-same-on x y z h k =
-    let p = chosen (eqb (x .kind) (y .kind)) (byKind (x .kind) (spelt true (x .bytes) (y .bytes)) (spelt false (x .bytes) (y .bytes))) h in
-    let q = chosen (eqb (y .kind) (z .kind)) (byKind (y .kind) (spelt true (y .bytes) (z .bytes)) (spelt false (y .bytes) (z .bytes))) k in
-    let e : x .kind ≡ y .kind = eqb-true (x .kind) (y .kind) (p .0) in
-    let f : y .kind ≡ z .kind = eqb-true (y .kind) (z .kind) (q .0) in
-    let g : byKind (x .kind) (spelt true (y .bytes) (z .bytes)) (spelt false (y .bytes) (z .bytes)) ≡ true = ap (λ (n : ℕ). byKind n (spelt true (y .bytes) (z .bytes)) (spelt false (y .bytes) (z .bytes))) e ∙ q .1 in
-    rw (eq-eqb (x .kind) (z .kind) (e ∙ f))
-    (by-kind-on (x .kind) (spelt true (x .bytes) (y .bytes)) (spelt false (x .bytes) (y .bytes)) (spelt true (y .bytes) (z .bytes)) (spelt false (y .bytes) (z .bytes)) (spelt true (x .bytes) (z .bytes)) (spelt false (x .bytes) (z .bytes))
-    (spelt-on true (x .bytes) (y .bytes) (z .bytes)) (spelt-on false (x .bytes) (y .bytes) (z .bytes)) (p .1) g)
 
 -- who claims the name of a piece that claims x claims x
 pub claims-on : (x : Element) (q r : Piece) → claims x q ≡ true → claims (ownName q) r ≡ true → claims x r ≡ true

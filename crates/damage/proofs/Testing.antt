@@ -9,7 +9,7 @@ use borrow.Author.Tests.{ltb-true, eq-eqb}
 use lib.Dec.{eqb, ltb}
 use lib.ListN.{length, getD, take, drop, take-append-drop}
 use lib.Seq.{drop-cons, length-take-le}
-use Rattle.alike.proofs.Laws.{both-left, both-right}
+use Rattle.laws.proofs.Laws.{both-left, both-right}
 use Rattle.classes.specs.Bytes.{endsLine}
 use Rattle.reading.specs.Promises.{Inside}
 use Rattle.forms.specs.Tree.{Row}
@@ -23,7 +23,7 @@ use Rattle.damage.specs.Places.{In, Part, closesPart, opensPart, partsOf
 use Rattle.damage.specs.Damage.{OneLine, lineNumber, NoneOf, UsesName, LeadsTo, itself, through, Concerns, Undisturbed, ClosedAbove, OpenedBelow}
 use Rattle.damage.proofs.Order.{in-middle}
 use Rattle.damage.proofs.Common.{of-piece, same-each, always-common}
-use Rattle.damage.proofs.Agreeing.{same-on}
+use Rattle.meaning.proofs.Sameness.{same-on}
 use Rattle.damage.proofs.Promises.{same-answer}
 
 module _ {A : Type 0} (f : A → Bool) where

@@ -7,10 +7,11 @@ use native.Mathlib.Omega.{arith}
 use borrow.Author.Tests.{eqb-true, ltb-false}
 use lib.Dec.{eqb, ltb}
 use lib.ListN.{length, take, getD}
+use Rattle.laws.proofs.Laws.{both-right}
 use Rattle.classes.specs.Bytes.{separates, isLetter, isDigit, isGraphic}
 use Rattle.classes.specs.Runs.{run}
 use Rattle.classes.specs.declared.Run.the-variants.{Word}
-use Rattle.classes.proofs.Laws.{by-test, and-right, run-le, run-some, letter-in-word, byte-inside}
+use Rattle.classes.proofs.Laws.{by-test, run-le, run-some, letter-in-word, byte-inside}
 use Rattle.words.specs.Words.{placeIn, reservedWords, delimiters}
 use Rattle.words.specs.declared.Place.{Place}
 use Rattle.words.specs.declared.Place.the-variants.{At, Nowhere}
@@ -88,7 +89,7 @@ module _ (b : ℕ) (t : List ℕ) where
   unfolding apostrophe
   apostrophe-good ticks =
       by-test (Good s) (not ticks && eqb (getD s 2 0) 39)
-      (λ e. by-test (Good s) (isGraphic (getD s 1 0)) (λ _. (omega arith, omega (arith, byte-inside s 2 (λ z. omega (arith, eqb-true (getD s 2 0) 39 (and-right (not ticks) (eqb (getD s 2 0) 39) e), z))))) (λ _. unreadable-good))
+      (λ e. by-test (Good s) (isGraphic (getD s 1 0)) (λ _. (omega arith, omega (arith, byte-inside s 2 (λ z. omega (arith, eqb-true (getD s 2 0) 39 (both-right (not ticks) (eqb (getD s 2 0) 39) e), z))))) (λ _. unreadable-good))
       (λ _. one)
 
   delimiter-good : Good s (delimiter s)

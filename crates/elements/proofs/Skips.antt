@@ -7,10 +7,11 @@ use Prim.Native.Nat.{ℕ, _+_}
 use borrow.Author.Tests.{eqb-true}
 use lib.Dec.{eqb, ltb}
 use lib.ListN.{length, take, drop, getD}
+use Rattle.laws.proofs.Laws.{both-left, both-right}
 use Rattle.classes.specs.Bytes.{separates, isLetter, isDigit, isGraphic}
 use Rattle.classes.specs.Runs.{run}
 use Rattle.classes.specs.declared.Run.the-variants.{Word}
-use Rattle.classes.proofs.Laws.{by-test, and-left, and-right}
+use Rattle.classes.proofs.Laws.{by-test}
 use Rattle.words.specs.Words.{placeIn, reservedWords, delimiters}
 use Rattle.words.specs.declared.Place.{Place}
 use Rattle.words.specs.declared.Place.the-variants.{At, Nowhere}
@@ -77,7 +78,7 @@ module _ (s : List ℕ) where
   unfolding other
   is-comment =
       by-test (SkipIs s) (eqb (getD s 0 0) 45 && eqb (getD s 1 0) 45)
-      (λ e. inr (eqb-true _ _ (and-left (eqb (getD s 0 0) 45) _ e), eqb-true _ _ (and-right (eqb (getD s 0 0) 45) (eqb (getD s 1 0) 45) e), refl))
+      (λ e. inr (eqb-true _ _ (both-left (eqb (getD s 0 0) 45) _ e), eqb-true _ _ (both-right (eqb (getD s 0 0) 45) (eqb (getD s 1 0) 45) e), refl))
       (λ _. by-test (SkipIs s) (eqb (getD s 0 0) 47 && eqb (getD s 1 0) 42) (λ _. none-unreadable) (λ _. none-delimiter))
 
   abbrev By : Bool → Opens → Type 0

@@ -8,6 +8,7 @@ use mathlib.Core.List.{List, [], _∷_}
 use native.Mathlib.Omega.{arith}
 use lib.Dec.{ltb}
 use lib.ListN.{getD}
+use Rattle.laws.proofs.Laws.{clash}
 use Rattle.ll.specs.Grammar.{Sym, act}
 use Rattle.ll.specs.Actions.{go, stop, End, read, bad, stopped, spent}
 use Rattle.ll.proofs.Trail.{Trail, whole, more, other, none, refuses, eats, acts, grows}
@@ -21,9 +22,6 @@ use Rattle.forms.proofs.Meaning.{trailed}
 use Rattle.forms.proofs.Opening.{compares, deepens}
 use Rattle.forms.proofs.Telling.{Good}
 use Rattle.forms.proofs.Comparing.{good-grow}
-
-clash : {A : Type 0} → _≡_ {A = ℕ} 0 1 → A
-clash z = absurd (omega arith)
 
 -- the frames' names
 abbrev namesIn : List Frame → List ℕ

@@ -5,18 +5,17 @@ use mathlib.Core.Logic.{⊎-elim}
 use mathlib.Core.Bool.{Bool, true, false, _&&_, _||_, cond}
 use mathlib.Core.List.{List, [], _∷_, _++_}
 use native.Mathlib.Omega.{arith}
-use lib.Dec.{T, eqb, eqb→eq}
+use lib.Dec.{T}
 use lib.ListN.{getD}
-use borrow.Author.Tests.{eq-eqb}
 use Rattle.ll.specs.Grammar.{Sym, tok, nt, act}
-use Rattle.ll.proofs.Theory.{mem, keep, or-left, or-cases, and-left, and-right, and-both, mem-append, mem-left, mem-right, mem-keep, keep-mem}
+use Rattle.ll.proofs.Theory.{mem, keep, and-left, and-right, and-both, mem-append, mem-left, mem-right, mem-keep, keep-mem, one-of, is-one}
 use Rattle.ll.proofs.Check.{every, every-at}
 use Rattle.forms.specs.Kinds.{colon}
 use Rattle.forms.specs.Rules.{forms, body}
 use Rattle.forms.specs.Open.{among}
 use Rattle.forms.specs.Closing.{Closed, nothing, named, Walk, innermost, around, isNothing, unitWords, isIdentifier, isEnd, behindUnit, opensOne, behindEnd, labelOf, namesAfter, endsAfter, walked, closedBy}
 use Rattle.forms.proofs.Hints as hints
-use Rattle.forms.proofs.Telling.{Ends, clear, frame, any, Known, unknown, unnamed, just, labels, pushed, owns, Out, kept, labelling, lost, pickBool, pickEnds, pickKnown, before, null, after, endsIn, endsOut, knownIn, outOf, EndsIs, KnownIs, OutIs, Leaves, Good, sameBool, same-bool, isFalse, headOf, isClear, isFrame, isTold, isPushed, onward, through, stays, noColon, opened, ended, fitsEnds, fitsKnown, isLabels, fitsOut, stillKept, sure, lower, asks, may, namesOk, rules-close}
+use Rattle.forms.proofs.Telling.{Ends, clear, frame, any, Known, unknown, unnamed, just, labels, pushed, owns, Out, kept, labelling, lost, before, null, after, endsIn, endsOut, knownIn, outOf, EndsIs, KnownIs, OutIs, Leaves, Good, sameBool, same-bool, isFalse, headOf, isClear, isFrame, isTold, isPushed, onward, through, stays, noColon, opened, ended, fitsEnds, fitsKnown, isLabels, fitsOut, stillKept, sure, lower, asks, may, namesOk, rules-close}
 
 -- what the parts of the test say
 abbrev Asks : Bool → Closed → ℕ → Type 0
@@ -30,12 +29,6 @@ free false r g h k = k
 asked-now : (b : Bool) (r : Closed) (g : ℕ) → T b → Asks b r g → r ≡ named g
 asked-now true r g h k = k
 asked-now false r g h k = absurd h
-
-one-of : (t q : ℕ) → T (mem t (q ∷ [])) → t ≡ q
-one-of t q h = ⊎-elim (eqb→eq t q) (λ z. absurd z) (or-cases (eqb t q) false h)
-
-is-one : (q : ℕ) → T (mem q (q ∷ []))
-is-one q = or-left (eqb q q) false (subst T (sym (eq-eqb q q refl)) tt)
 
 ends-fit : (w e : Ends) (c : Closed) (g : ℕ) → T (fitsEnds w e) → EndsIs e c g → EndsIs w c g
 ends-fit any e c g t h = tt
@@ -86,7 +79,7 @@ labels-is labels x g t h = h
 labels-is pushed x g t h = absurd t
 labels-is owns x g t h = absurd t
 
-name-known : (i : Known) (x : Walk) (g : ℕ) → KnownIs i x g → KnownIs (pickKnown (isPushed i) owns just) x (x .count)
+name-known : (i : Known) (x : Walk) (g : ℕ) → KnownIs i x g → KnownIs (cond (isPushed i) owns just) x (x .count)
 name-known unknown x g h = refl
 name-known unnamed x g h = refl
 name-known just x g h = refl
@@ -167,20 +160,20 @@ module _ (x : Walk) (a g : ℕ) (S : List ℕ) (e : Ends) (i : Known) (at : T (m
       by pushed h = tt
       by owns h = ap named (sym h)
 
-  else-next : isEnd a ≡ false → EndsIs (pickEnds (behindEnd (headOf S) a) e clear) (endsAfter x a) g
+  else-next : isEnd a ≡ false → EndsIs (cond (behindEnd (headOf S) a) e clear) (endsAfter x a) g
   else-next h =
-      subst (λ (c : Closed). EndsIs (pickEnds (behindEnd (headOf S) a) e clear) c g)
+      subst (λ (c : Closed). EndsIs (cond (behindEnd (headOf S) a) e clear) c g)
       (sym (ap (λ (b : Bool). cond b (named (innermost (x .names))) (cond (behindEnd (x .last) a) (x .ends) nothing)) h))
-      (subst (λ (b : Bool). EndsIs (pickEnds b e clear) (cond (behindEnd (x .last) a) (x .ends) nothing) g) end-is (by (behindEnd (x .last) a)))
+      (subst (λ (b : Bool). EndsIs (cond b e clear) (cond (behindEnd (x .last) a) (x .ends) nothing) g) end-is (by (behindEnd (x .last) a)))
     where
-      by : (b : Bool) → EndsIs (pickEnds b e clear) (cond b (x .ends) nothing) g
+      by : (b : Bool) → EndsIs (cond b e clear) (cond b (x .ends) nothing) g
       by true = end
       by false = refl
 
   opened-next : namesAfter x a ≡ labelOf (x .last) (x .count) ∷ x .names → KnownIs (opened S i) (walked x a) g
   opened-next h = by i known
     where
-      open-none : (b : Bool) → noColon S ≡ b → g ≡ 0 → KnownIs (pickKnown b owns unknown) (walked x a) g
+      open-none : (b : Bool) → noColon S ≡ b → g ≡ 0 → KnownIs (cond b owns unknown) (walked x a) g
       open-none true q z = z ∙ sym (no-label x S at (subst T (sym q) tt)) ∙ ap innermost (sym h)
       open-none false q z = tt
 
@@ -195,7 +188,7 @@ module _ (x : Walk) (a g : ℕ) (S : List ℕ) (e : Ends) (i : Known) (at : T (m
   stays-next : namesAfter x a ≡ x .names → KnownIs (stays a i) (walked x a) g
   stays-next h = by i known
     where
-      label-next : (b : Bool) → among a (colon ∷ []) ≡ b → g ≡ x .count → KnownIs (pickKnown b labels unknown) (walked x a) g
+      label-next : (b : Bool) → among a (colon ∷ []) ≡ b → g ≡ x .count → KnownIs (cond b labels unknown) (walked x a) g
       label-next true q z =
           let y : x .count ≡ suc (x .count) - 1 = omega arith in
           z ∙ y ∙ sym (ap (λ (c : Bool). cond c (suc (x .count) - 1) 0) q)
@@ -293,7 +286,7 @@ module _ (n : ℕ) (x₀ : Walk) (g₀ : ℕ) (G₀ : List ℕ) (α : List Sym) 
       → T (mem (x .last) S) → EndsIs e (x .ends) g → KnownIs i x g → Above (x .names) d → Framed f k g G → T (sure a S e)
       → ((d′ : ℕ) (e′ : Ends) (i′ : Known) → Told k f d′ (asks a e) false (a ∷ []) e′ i′ (walked x a) (closedBy x a) g G → T (P d′ e′ i′) → Q)
       → (E U O : Bool) → isEnd a ≡ E → behindUnit (x .last) a && isNothing (x .ends) ≡ U → opensOne (x .last) a ≡ O
-      → T (pickBool E (lower d (λ d. P d (ended i) unknown)) (pickBool U (P (suc d) (pickEnds (behindEnd (headOf S) a) e clear) pushed) (pickBool O (P (suc d) (pickEnds (behindEnd (headOf S) a) e clear) (opened S i)) (P d (pickEnds (behindEnd (headOf S) a) e clear) (stays a i)))))
+      → T (cond E (lower d (λ d. P d (ended i) unknown)) (cond U (P (suc d) (cond (behindEnd (headOf S) a) e clear) pushed) (cond O (P (suc d) (cond (behindEnd (headOf S) a) e clear) (opened S i)) (P d (cond (behindEnd (headOf S) a) e clear) (stays a i)))))
       → Q
   tok-case P Q k f zero S e i x g a G at en kn ab fr su ih true U O p q r t = absurd t
   tok-case P Q k f (suc d) S e i x g a G at en kn ab fr su ih true U O p q r t =
@@ -308,7 +301,7 @@ module _ (n : ℕ) (x₀ : Walk) (g₀ : ℕ) (G₀ : List ℕ) (α : List Sym) 
       }) t
   tok-case P Q k f d S e i x g a G at en kn ab fr su ih false true O p q r t =
       let ns = names-is x a g S e i at en kn su false true O p q r in
-      ih (suc d) (pickEnds (behindEnd (headOf S) a) e clear) pushed (record {
+      ih (suc d) (cond (behindEnd (headOf S) a) e clear) pushed (record {
         at = is-one a;
         end = else-next x a g S e i at en kn su p;
         known = ap innermost ns;
@@ -318,7 +311,7 @@ module _ (n : ℕ) (x₀ : Walk) (g₀ : ℕ) (G₀ : List ℕ) (α : List Sym) 
       }) t
   tok-case P Q k f d S e i x g a G at en kn ab fr su ih false false true p q r t =
       let ns = names-is x a g S e i at en kn su false false true p q r in
-      ih (suc d) (pickEnds (behindEnd (headOf S) a) e clear) (opened S i) (record {
+      ih (suc d) (cond (behindEnd (headOf S) a) e clear) (opened S i) (record {
         at = is-one a;
         end = else-next x a g S e i at en kn su p;
         known = opened-next x a g S e i at en kn su ns;
@@ -328,7 +321,7 @@ module _ (n : ℕ) (x₀ : Walk) (g₀ : ℕ) (G₀ : List ℕ) (α : List Sym) 
       }) t
   tok-case P Q k f d S e i x g a G at en kn ab fr su ih false false false p q r t =
       let ns = names-is x a g S e i at en kn su false false false p q r in
-      ih d (pickEnds (behindEnd (headOf S) a) e clear) (stays a i) (record {
+      ih d (cond (behindEnd (headOf S) a) e clear) (stays a i) (record {
         at = is-one a;
         end = else-next x a g S e i at en kn su p;
         known = stays-next x a g S e i at en kn su ns;
@@ -365,12 +358,12 @@ module _ (n : ℕ) (x₀ : Walk) (g₀ : ℕ) (G₀ : List ℕ) (α : List Sym) 
   append (tok a ∷ β) k f d b z S e i x r g G h t =
       let L = may n z S in
       let P : ℕ → Ends → Known → Bool = λ d e′ i. namesOk n k f d (asks a e) false (a ∷ []) e′ i β in
-      let es = pickEnds (behindEnd (headOf L) a) e clear in
+      let es = cond (behindEnd (headOf L) a) e clear in
       let X = lower d (λ d. P d (ended i) unknown) in
       let Y = P (suc d) es pushed in
       let Z = P (suc d) es (opened L i) in
       let M = P d es (stays a i) in
-      let C = pickBool (isEnd a) X (pickBool (behindUnit (headOf L) a && isClear e) Y (pickBool (opensOne (headOf L) a) Z M)) in
+      let C = cond (isEnd a) X (cond (behindUnit (headOf L) a && isClear e) Y (cond (opensOne (headOf L) a) Z M)) in
       let u = and-right (isFalse b) (sure a L e && C) t in
       let su = and-left (sure a L e) C u in
       let at = wide z S (x .last) (h .at) in (
@@ -378,8 +371,8 @@ module _ (n : ℕ) (x₀ : Walk) (g₀ : ℕ) (G₀ : List ℕ) (α : List Sym) 
         tok-case P (Good (walked x a) (closedBy x a) g G (β ++ α)) k f d L e i x g a G at (h .end) (h .known) (h .above) (h .framed) su
             (λ d′ e′ i′ h′ t′. append β k f d′ (asks a e) false (a ∷ []) e′ i′ (walked x a) (closedBy x a) g G h′ t′)
             (isEnd a) (behindUnit (x .last) a && isNothing (x .ends)) (opensOne (x .last) a) refl refl refl
-            (subst (λ (o : Bool). T (pickBool (isEnd a) X (pickBool (behindUnit (x .last) a && isNothing (x .ends)) Y (pickBool o Z M)))) (sym (one-is x a g L e i at (h .end) (h .known) su))
-            (subst (λ (o : Bool). T (pickBool (isEnd a) X (pickBool o Y (pickBool (opensOne (headOf L) a) Z M)))) (sym (unit-is x a g L e i at (h .end) (h .known) su)) (and-right (sure a L e) C u))),
+            (subst (λ (o : Bool). T (cond (isEnd a) X (cond (behindUnit (x .last) a && isNothing (x .ends)) Y (cond o Z M)))) (sym (one-is x a g L e i at (h .end) (h .known) su))
+            (subst (λ (o : Bool). T (cond (isEnd a) X (cond o Y (cond (opensOne (headOf L) a) Z M)))) (sym (unit-is x a g L e i at (h .end) (h .known) su)) (and-right (sure a L e) C u))),
       )
   append (nt m ∷ β) k f d b z S e i x r g G h t =
       let A = every (λ t. mem t (before m)) (may n z S) in
@@ -427,9 +420,9 @@ module _ (n : ℕ) (x₀ : Walk) (g₀ : ℕ) (G₀ : List ℕ) (α : List Sym) 
   append (act (suc (suc zero)) ∷ β) k f d b z S e i x r g G h t =
       (free b r g (and-left (isFalse b) (namesOk n k f d false z S e i β) t) (h .asked), append β k f d false z S e i x nothing g G (unasked k f d b z S e i x r g G h) (and-right (isFalse b) (namesOk n k f d false z S e i β) t))
   append (act (suc (suc (suc zero))) ∷ β) k f d b z S e i x r g G h t =
-      let A = namesOk n (stillKept f k lost) f d false z S (onward e) (pickKnown (isPushed i) owns just) β in (
+      let A = namesOk n (stillKept f k lost) f d false z S (onward e) (cond (isPushed i) owns just) β in (
         free b r g (and-left (isFalse b) A t) (h .asked),
-        append β (stillKept f k lost) f d false z S (onward e) (pickKnown (isPushed i) owns just) x nothing (x .count) G
+        append β (stillKept f k lost) f d false z S (onward e) (cond (isPushed i) owns just) x nothing (x .count) G
             (record {
               at = h .at;
               end = onward-is e (x .ends) g (x .count) (h .end);

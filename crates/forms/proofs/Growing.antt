@@ -6,15 +6,13 @@ use mathlib.Core.List.{List, [], _∷_, _++_, append-assoc, append-nil}
 use native.Mathlib.Omega.{arith}
 use lib.Dec.{ltb}
 use lib.ListN.{length}
+use Rattle.laws.proofs.Laws.{clash}
 use Rattle.ll.specs.Grammar.{Sym, nt}
 use Rattle.ll.specs.Actions.{go, stop, Reads, done, eat, acts, grow}
 use Rattle.forms.specs.Rules.{forms}
 use Rattle.forms.specs.Tree.{Row, Frame, State, Refusal, name-differs, too-deep, fresh, top, onTop, joined, marked, named, rowOf, rowed, does, start, isNamed, rowsOf, Reading}
 use Rattle.forms.specs.Forest.{Forest, bare, tree}
 use Rattle.forms.proofs.Nesting.{Nested, nested-eat, nested-act, nested-grow, nested-from, frame-left}
-
-clash : {A : Type 0} → _≡_ {A = ℕ} 0 1 → A
-clash z = absurd (omega arith)
 
 pub forest-le : {lo hi : ℕ} {l : List Row} → Forest lo hi l → lo ≤ hi
 forest-le (bare h) = h

@@ -23,10 +23,8 @@ use Rattle.forms.specs.Picks.{predict}
 use Rattle.forms.specs.Tree.{Frame, State, Refusal, name-differs, too-deep, fresh, top, onTop, joined, marked, named, rowed, isNamed, does, start}
 use Rattle.forms.specs.Reading.{steps, readingFrom}
 use Rattle.forms.specs.Items.{IsItem, ItemReading, ReadsItems, ItemsAnswer, KindsAlone, OneItem, FewerRows}
+use Rattle.forms.proofs.Positive.{picked}
 use Rattle.forms.proofs.Tests.{tables, forms-ll, weight, leads, steps-paid, isRow, spare, rows-spare}
-
-clash : {A : Type 0} → _≡_ {A = ℕ} 0 1 → A
-clash z = absurd (omega arith)
 
 -- from a name that costs less than an element pays for, and behind which the text may end
 module _ (m : ℕ) (light : weight m < 128) (known : m < 80) (last : T (mem 0 (theory.Tables.follow tables m))) where
@@ -176,10 +174,6 @@ rows-rowed : (n k : ℕ) (fs : List Frame) → rowsIn (onTop (rowed n k) fs) ≤
 rows-rowed n k [] = omega arith
 rows-rowed n k (f ∷ fs) = omega arith
 
-picked : (b : Bool) (s t : State) (r : Refusal) (u : State) → cond b (go t) (stop r) ≡ go u → t ≡ u
-picked true s t r u e = cc
-picked false s t r u e = let z : _≡_ {A = ℕ} 0 1 = cc in clash z
-
 few-act : (alike : ℕ → ℕ → Bool) (a k : ℕ) (s t : State) (α : List Sym) → does alike a k s ≡ go t → Fewer isRow spare (rowsIn (s .frames)) k (act a ∷ α) → Fewer isRow spare (rowsIn (t .frames)) k α
 unfolding does
 few-act alike zero k s t α e h =
@@ -195,10 +189,10 @@ few-act alike (suc (suc (suc zero))) k s t α e h =
     let z : _≡_ {A = State} (record { frames = onTop (named k) (s .frames); depth = s .depth }) t = cc in
     omega (arith, ap (λ (x : State). rowsIn (x .frames)) z, rows-named k (s .frames))
 few-act alike (suc (suc (suc (suc zero)))) k s t α e h =
-    let z : s ≡ t = picked (isNamed alike (top (s .frames) .name) (k - 1)) s s name-differs t e in
+    let z : s ≡ t = picked (isNamed alike (top (s .frames) .name) (k - 1)) s name-differs t e in
     omega (arith, ap (λ (x : State). rowsIn (x .frames)) z)
 few-act alike (suc (suc (suc (suc (suc zero))))) k s t α e h =
-    let z = picked (ltb (s .depth) 32) s (record { frames = s .frames; depth = s .depth + 1 }) too-deep t e in
+    let z = picked (ltb (s .depth) 32) (record { frames = s .frames; depth = s .depth + 1 }) too-deep t e in
     omega (arith, ap (λ (x : State). rowsIn (x .frames)) z)
 few-act alike (suc (suc (suc (suc (suc (suc zero)))))) k s t α e h =
     let z : _≡_ {A = State} (record { frames = s .frames; depth = s .depth - 1 }) t = cc in

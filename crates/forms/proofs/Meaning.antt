@@ -9,6 +9,7 @@ use native.Mathlib.Omega.{arith}
 use lib.Dec.{T, lit<}
 use lib.ListN.{length, take, drop, take-append-drop}
 use lib.Seq.{take-take}
+use Rattle.laws.proofs.Laws.{clash}
 use Rattle.ll.proofs.Running.{Out, good, run}
 use Rattle.ll.proofs.Running as plain
 use Rattle.ll.specs.Actions.{End, bad, stopped, spent}
@@ -22,9 +23,6 @@ use Rattle.forms.specs.Picks.{predict}
 use Rattle.forms.specs.Tree.{State, Refusal, does, start, IsFile}
 use Rattle.forms.specs.Reading.{steps, readingFrom, readingOf, Begins, ReadsFiles, OneReading, FirstWrong, StillBegins, AlwaysAnswers}
 use Rattle.forms.proofs.Tests.{tables, forms-ll, weight, leads, steps-paid}
-
-clash : {A : Type 0} → _≡_ {A = ℕ} 0 1 → A
-clash z = absurd (omega arith)
 
 pub begun : theory.Fol forms predict tables forms-ll (file ∷ [])
 begun = ((λ t m. go t m), lit< tt, tt)

@@ -9,6 +9,7 @@ use native.Mathlib.Numerals.{add-one}
 use lib.Dec.{ltb}
 use lib.ListN.{length}
 use borrow.Author.Tests.{ltb-true}
+use Rattle.laws.proofs.Laws.{clash}
 use Rattle.ll.specs.Grammar.{Sym, tok, nt, act}
 use Rattle.ll.specs.Actions.{go, stop, Reads, done, eat, acts, grow}
 use Rattle.ll.proofs.Room as room
@@ -16,9 +17,6 @@ use Rattle.forms.specs.Names.{file}
 use Rattle.forms.specs.Rules.{forms, body}
 use Rattle.forms.specs.Tree.{Frame, State, Refusal, name-differs, too-deep, fresh, top, onTop, joined, marked, named, rowed, does, start, isNamed, Reading}
 use Rattle.forms.proofs.Tests as tests
-
-clash : {A : Type 0} → _≡_ {A = ℕ} 0 1 → A
-clash z = absurd (omega arith)
 
 pub top-size : (g : Frame → Frame) (fs : List Frame) → length (onTop g fs) ≡ length fs
 top-size g [] = refl

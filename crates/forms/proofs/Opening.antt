@@ -8,10 +8,11 @@ use mathlib.Core.List.{List, [], _∷_, _++_}
 use native.Mathlib.Omega.{arith}
 use lib.Dec.{T, eqb, ltb, eqb→eq}
 use lib.ListN.{getD}
-use borrow.Author.Tests.{eq-eqb, ne-eqb, ltb-true, ltb-false}
+use borrow.Author.Tests.{ne-eqb, ltb-true, ltb-false}
+use Rattle.laws.proofs.Laws.{clash}
 use Rattle.ll.specs.Grammar.{Sym, tok, nt, act}
 use Rattle.ll.specs.Actions.{Step, go, stop, End, read, bad, stopped, spent}
-use Rattle.ll.proofs.Theory.{mem, keep, nullb, and-left, and-right, and-both, or-left, or-cases, mem-append, mem-left, mem-right, mem-keep, keep-mem}
+use Rattle.ll.proofs.Theory.{mem, keep, nullb, and-left, and-right, and-both, or-cases, mem-append, mem-left, mem-right, mem-keep, keep-mem, is-one}
 use Rattle.ll.proofs.Check.{below-at, every, every-at}
 use Rattle.ll.proofs.Trail.{Trail, whole, more, other, none, refuses, eats, acts, grows}
 use Rattle.forms.specs.Names.{file}
@@ -22,9 +23,6 @@ use Rattle.forms.specs.Open.{Role, opening, closing, neither, role, afte
 use Rattle.forms.proofs.Hints as hints
 use Rattle.forms.proofs.Tests as tests
 use Rattle.forms.proofs.Meaning.{trailed, reads-files}
-
-clash : {A : Type 0} → _≡_ {A = ℕ} 0 1 → A
-clash z = absurd (omega arith)
 
 abbrev last : ℕ → List ℕ
 last n = getD hints.lasts n []
@@ -179,9 +177,6 @@ fine-grow p l n e q α f =
     (λ k. mem-right t (last n) (keep (null n) (one q)) (keep-mem (null n) t (one q) (subst (λ (x : ℕ). T (null x)) e (tests.forms-ll .nulls p l (k .0))) (k .1)))
     (ends-from (body p) (one q) t m))
     (f .2))
-
-is-one : (q : ℕ) → T (mem q (one q))
-is-one q = or-left (eqb q q) false (subst T (sym (eq-eqb q q refl)) tt)
 
 -- what an action leaves of the count
 module _ (alike : ℕ → ℕ → Bool) (k : ℕ) (s t : State) (α : List Sym) where

@@ -2,29 +2,21 @@
 -- which kinds a frame may have where a name begins and ends, and a computed test to a rule says that they hold. Assumes nothing.
 use Prim.Native.Nat.{ℕ, zero, suc, _+_, _-_, _≤_, _<_}
 use mathlib.Core.Path.{_≡_, refl, sym, _∙_, ap, subst}
-use mathlib.Core.Logic.{⊎-elim}
 use mathlib.Core.Bool.{Bool, true, false, _&&_, cond}
 use mathlib.Core.List.{List, [], _∷_, _++_}
 use native.Mathlib.Omega.{arith}
 use lib.Dec.{T, eqb, ltb, eqb→eq}
 use lib.ListN.{getD, drop}
-use borrow.Author.Tests.{eq-eqb}
+use Rattle.laws.proofs.Laws.{clash}
 use Rattle.ll.specs.Grammar.{Sym, tok, nt, act}
 use Rattle.ll.specs.Actions.{go, stop, Reads, done, eat, acts, grow}
-use Rattle.ll.proofs.Theory.{mem, or-left, or-cases, and-left, and-right}
+use Rattle.ll.proofs.Theory.{mem, and-left, and-right, one-of, is-one}
 use Rattle.ll.proofs.Check.{below-at, every, every-at}
 use Rattle.forms.specs.Rules.{forms, body}
 use Rattle.forms.specs.Tree.{Row, Frame, State, Refusal, name-differs, too-deep, fresh, top, onTop, joined, marked, named, rowOf, rowed, isNamed, does, rowsOf, Reading}
 use Rattle.forms.specs.Open.{among}
 use Rattle.forms.specs.Operators.{unaryOperators, binaryOperators, HasOperator, OperatorRight, EachRow}
 use Rattle.forms.proofs.Hints as hints
-
-clash : {A : Type 0} → _≡_ {A = ℕ} 0 1 → A
-clash z = absurd (omega arith)
-
-abbrev pickBool : Bool → Bool → Bool → Bool
-pickBool true a b = a
-pickBool false a b = b
 
 -- the kinds that the frame's operator may have when a name begins; the kind just read when it ends, 0 where that is not told
 abbrev enter : ℕ → List ℕ
@@ -41,19 +33,13 @@ orKept (x ∷ m) l = x ∷ m
 abbrev leave : ℕ → List ℕ → List ℕ
 leave n l = orKept (getD hints.leaves n []) l
 
-one-of : (t q : ℕ) → T (mem t (q ∷ [])) → t ≡ q
-one-of t q h = ⊎-elim (eqb→eq t q) (λ z. absurd z) (or-cases (eqb t q) false h)
-
-is-one : (q : ℕ) → T (mem q (q ∷ []))
-is-one q = or-left (eqb q q) false (subst T (sym (eq-eqb q q refl)) tt)
-
 kept-in : (m l : List ℕ) (q t : ℕ) → T (mem q l) → T (mem t (orKept m (q ∷ []))) → T (mem t (orKept m l))
 kept-in [] l q t h k = subst (λ (x : ℕ). T (mem x l)) (sym (one-of t q k)) h
 kept-in (x ∷ m) l q t h k = k
 
 -- a row of form f in a frame whose operator has the kind q
 abbrev rowFits : ℕ → ℕ → Bool
-rowFits f q = pickBool (eqb f 28) (among q unaryOperators) (pickBool (eqb f 29) (among q binaryOperators) (eqb q 0))
+rowFits f q = cond (eqb f 28) (among q unaryOperators) (cond (eqb f 29) (among q binaryOperators) (eqb q 0))
 
 -- With p just read (0: not told), q the kind of the innermost frame's operator and F those of the frames around it: α marks and puts rows as it may.
 abbrev Marks : ℕ → ℕ → List ℕ → List Sym → Type 0
@@ -253,7 +239,7 @@ module _ (W : List ℕ) where
   row-right : (n k q : ℕ) (f : Frame) → T (rowFits n q) → Operates k (f .first) (f .operator) q → OperatorRight W (rowOf n k f)
   row-right n k q f t o = by (eqb n 28) (eqb n 29) t
     where
-      by : (a b : Bool) → T (pickBool a (among q unaryOperators) (pickBool b (among q binaryOperators) (eqb q 0)))
+      by : (a b : Bool) → T (cond a (among q unaryOperators) (cond b (among q binaryOperators) (eqb q 0)))
           → cond a (HasOperator W unaryOperators (rowOf n k f)) (cond b (HasOperator W binaryOperators (rowOf n k f)) (f .operator ≡ f .first))
       by true b t = has unaryOperators n k q f refl t o
       by false true t = has binaryOperators n k q f refl t o

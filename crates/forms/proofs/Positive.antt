@@ -5,15 +5,13 @@ use mathlib.Core.List.{List, [], _∷_, _++_}
 use mathlib.Core.Bool.{Bool, true, false, not, _&&_, cond}
 use native.Mathlib.Omega.{arith}
 use lib.Dec.{T, eqb, ltb}
+use Rattle.laws.proofs.Laws.{clash}
 use Rattle.ll.specs.Grammar.{Sym, tok, nt, act}
 use Rattle.ll.specs.Actions.{go, stop, Reads, done, eat, acts, grow}
 use Rattle.ll.proofs.Theory.{and-left, and-right}
 use Rattle.ll.proofs.Check.{below-at}
 use Rattle.forms.specs.Rules.{forms, body}
 use Rattle.forms.specs.Tree.{Row, Frame, State, Refusal, name-differs, too-deep, fresh, top, onTop, joined, marked, named, rowed, isNamed, does}
-
-clash : {A : Type 0} → _≡_ {A = ℕ} 0 1 → A
-clash z = absurd (omega arith)
 
 abbrev pub Positive : List Row → Type 0
 Positive [] = Unit {0}
@@ -56,7 +54,7 @@ fair-append (nt n ∷ β) α b a = fair-append β α b a
 rule-fair : (p : ℕ) → p < 165 → T (fair (body p))
 rule-fair p l = below-at 165 (λ p. fair (body p)) tt p l
 
-picked : (b : Bool) (t : State) (r : Refusal) (u : State) → cond b (go t) (stop r) ≡ go u → t ≡ u
+pub picked : (b : Bool) (t : State) (r : Refusal) (u : State) → cond b (go t) (stop r) ≡ go u → t ≡ u
 picked true t r u e = cc
 picked false t r u e = let z : _≡_ {A = ℕ} 0 1 = cc in clash z
 

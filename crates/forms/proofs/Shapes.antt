@@ -3,23 +3,22 @@
 use Prim.Native.Nat.{ℕ, zero, suc, _+_, _-_, _<_}
 use mathlib.Core.Path.{_≡_, refl, sym as flip, _∙_, ap, subst}
 use mathlib.Core.List.{List, [], _∷_, _++_}
-use mathlib.Core.Bool.{Bool, true, false, _&&_, cond}
+use mathlib.Core.Bool.{Bool, true, false, _&&_}
 use native.Mathlib.Omega.{arith}
 use lib.Dec.{T, eqb, ltb, eqb→eq}
 use lib.ListN.{length}
 use borrow.Author.Tests.{eq-eqb, ne-eqb}
+use Rattle.laws.proofs.Laws.{clash}
 use Rattle.ll.specs.Grammar.{Sym, tok, nt, act}
-use Rattle.ll.specs.Actions.{go, stop, Reads, done, eat, acts, grow}
+use Rattle.ll.specs.Actions.{go, Reads, done, eat, acts, grow}
 use Rattle.ll.proofs.Theory.{mem, and-left, and-right}
 use Rattle.ll.proofs.Check.{below, below-at, imp, imp-at}
 use Rattle.ll.proofs.Room as room
 use Rattle.forms.specs.Rules.{forms, body}
 use Rattle.forms.specs.Tree.{Row, Frame, State, Refusal, name-differs, too-deep, fresh, top, onTop, joined, marked, named, rowed, isNamed, does, start, rowsOf}
 use Rattle.forms.specs.Items.{ItemReading, itemRow, markRow, BeginWithMark}
+use Rattle.forms.proofs.Positive.{picked}
 use Rattle.forms.proofs.Tests as tests
-
-clash : {A : Type 0} → _≡_ {A = ℕ} 0 1 → A
-clash z = absurd (omega arith)
 
 -- the names behind the mark whose rows stand in frames of their own: subtype-range, range, expression
 abbrev framed : List ℕ
@@ -108,10 +107,6 @@ keeps-joined (suc i) (g ∷ g′ ∷ fs) h = h
 keeps-top : (i : ℕ) (u : Frame → Frame) (fs : List Frame) → Keeps (suc i) fs → Keeps (suc i) (onTop u fs)
 keeps-top i u [] h = absurd h
 keeps-top i u (g ∷ fs) h = h
-
-picked : (b : Bool) (t : State) (r : Refusal) (u : State) → cond b (go t) (stop r) ≡ go u → t ≡ u
-picked true t r u e = cc
-picked false t r u e = let z : _≡_ {A = ℕ} 0 1 = cc in clash z
 
 module _ (alike : ℕ → ℕ → Bool) where
   keeps-opens : (i k : ℕ) (s t : State) → does alike 0 k s ≡ go t → Keeps i (s .frames) → Keeps (suc i) (t .frames)

@@ -38,18 +38,6 @@ pub data Out : Type 0 where
   labelling : Out
   lost : Out
 
-abbrev pub pickBool : Bool → Bool → Bool → Bool
-pickBool true a b = a
-pickBool false a b = b
-
-abbrev pub pickEnds : Bool → Ends → Ends → Ends
-pickEnds true a b = a
-pickEnds false a b = b
-
-abbrev pub pickKnown : Bool → Known → Known → Known
-pickKnown true a b = a
-pickKnown false a b = b
-
 abbrev pub isOne : ℕ → List Sym → Bool
 isOne n [] = false
 isOne n (nt m ∷ l) = eqb n m || isOne n l
@@ -68,13 +56,13 @@ after n S = getD hints.lasts n [] ++ keep (null n) S
 
 -- what is told where a name begins, and where it ends
 abbrev pub endsIn : ℕ → Ends
-endsIn n = pickEnds (isOne n (closing ∷ package-word ∷ entity-word ∷ architecture-word ∷ [])) frame clear
+endsIn n = cond (isOne n (closing ∷ package-word ∷ entity-word ∷ architecture-word ∷ [])) frame clear
 
 abbrev pub endsOut : ℕ → Ends
-endsOut n = pickEnds (isOne n (closing ∷ [])) any (endsIn n)
+endsOut n = cond (isOne n (closing ∷ [])) any (endsIn n)
 
 abbrev pub knownIn : ℕ → Known
-knownIn n = pickKnown (isOne n (labelled-concurrent ∷ block ∷ process ∷ labelled ∷ loop ∷ [])) labels unknown
+knownIn n = cond (isOne n (labelled-concurrent ∷ block ∷ process ∷ labelled ∷ loop ∷ [])) labels unknown
 
 abbrev pub outOf : ℕ → Out
 outOf n = cond (isOne n (label ∷ [])) labelling (cond (isOne n (after-name ∷ after-first ∷ [])) lost kept)
@@ -187,7 +175,7 @@ through kept owns = owns
 abbrev pub stays : ℕ → Known → Known
 stays a unknown = unknown
 stays a unnamed = unnamed
-stays a just = pickKnown (among a (colon ∷ [])) labels unknown
+stays a just = cond (among a (colon ∷ [])) labels unknown
 stays a labels = unknown
 stays a pushed = unknown
 stays a owns = owns
@@ -198,7 +186,7 @@ noColon S = every (λ p. isFalse (among p (colon ∷ []))) S
 -- behind a word that opens, one of S before it
 abbrev pub opened : List ℕ → Known → Known
 opened S unknown = unknown
-opened S unnamed = pickKnown (noColon S) owns unknown
+opened S unnamed = cond (noColon S) owns unknown
 opened S just = unknown
 opened S labels = owns
 opened S pushed = unknown
@@ -284,10 +272,10 @@ namesOk n k (suc f) d b z S e i [] = false
 namesOk n k f d b z S e i (tok a ∷ β) =
     isFalse b
     && (sure a (may n z S) e
-    && pickBool (isEnd a) (lower d (λ d. namesOk n k f d (asks a e) false (a ∷ []) (ended i) unknown β))
-    (pickBool (behindUnit (headOf (may n z S)) a && isClear e) (namesOk n k f (suc d) (asks a e) false (a ∷ []) (pickEnds (behindEnd (headOf (may n z S)) a) e clear) pushed β)
-    (pickBool (opensOne (headOf (may n z S)) a) (namesOk n k f (suc d) (asks a e) false (a ∷ []) (pickEnds (behindEnd (headOf (may n z S)) a) e clear) (opened (may n z S) i) β)
-    (namesOk n k f d (asks a e) false (a ∷ []) (pickEnds (behindEnd (headOf (may n z S)) a) e clear) (stays a i) β))))
+    && cond (isEnd a) (lower d (λ d. namesOk n k f d (asks a e) false (a ∷ []) (ended i) unknown β))
+    (cond (behindUnit (headOf (may n z S)) a && isClear e) (namesOk n k f (suc d) (asks a e) false (a ∷ []) (cond (behindEnd (headOf (may n z S)) a) e clear) pushed β)
+    (cond (opensOne (headOf (may n z S)) a) (namesOk n k f (suc d) (asks a e) false (a ∷ []) (cond (behindEnd (headOf (may n z S)) a) e clear) (opened (may n z S) i) β)
+    (namesOk n k f d (asks a e) false (a ∷ []) (cond (behindEnd (headOf (may n z S)) a) e clear) (stays a i) β))))
 namesOk n k f d b z S e i (nt m ∷ β) =
     isFalse b
     && (every (λ t. mem t (before m)) (may n z S)
@@ -298,7 +286,7 @@ namesOk n k zero d b z S e i (act (suc zero) ∷ β) = false
 namesOk n k (suc f) d b z S e i (act (suc zero) ∷ β) = isFalse b && namesOk n k f d false z S (onward e) unknown β
 namesOk n k f d b z S e i (act (suc (suc zero)) ∷ β) = isFalse b && namesOk n k f d false z S e i β
 namesOk n k f d b z S e i (act (suc (suc (suc zero))) ∷ β) =
-    isFalse b && namesOk n (stillKept f k lost) f d false z S (onward e) (pickKnown (isPushed i) owns just) β
+    isFalse b && namesOk n (stillKept f k lost) f d false z S (onward e) (cond (isPushed i) owns just) β
 namesOk n k f d b z S e i (act (suc (suc (suc (suc zero)))) ∷ β) = b && namesOk n k f d false z S e i β
 namesOk n k f d b z S e i (act (suc (suc (suc (suc (suc zero))))) ∷ β) = isFalse b && namesOk n k f d false z S e i β
 namesOk n k f d b z S e i (act (suc (suc (suc (suc (suc (suc zero)))))) ∷ β) = isFalse b && namesOk n k f d false z S e i β

@@ -8,6 +8,7 @@ use native.Mathlib.Omega.{arith}
 use lib.Dec.{T, eqb, ltb, leb, eqb→eq, leb→le}
 use lib.ListN.{length}
 use borrow.Author.Tests.{eq-eqb, ne-eqb, le-leb}
+use Rattle.laws.proofs.Laws.{clash}
 use Rattle.ll.specs.Grammar.{Sym, tok, nt, act}
 use Rattle.ll.specs.Actions.{go, stop, Reads, done, eat, acts, grow}
 use Rattle.ll.proofs.Theory.{mem, and-left, and-right}
@@ -21,9 +22,6 @@ use Rattle.forms.specs.Forest as forest
 use Rattle.forms.proofs.Tests as tests
 use Rattle.forms.proofs.Nesting.{top-size, joined-less, one-frame, Nested, nested-eat, nested-act, nested-grow, nested-start}
 use Rattle.forms.proofs.Growing.{Standing, kept, standing-eat, forest-le, forest-more}
-
-clash : {A : Type 0} → _≡_ {A = ℕ} 0 1 → A
-clash z = absurd (omega arith)
 
 -- the names that stand outside every unit's frame
 abbrev numbers : List Sym → List ℕ

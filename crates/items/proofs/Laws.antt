@@ -1,15 +1,16 @@
 -- The ways of an item, in the code's terms: each premise is what a call or a test gives. Assumes nothing.
 use mathlib.Core.Path.{_≡_, refl, sym, ap, _∙_}
 use mathlib.Core.Bool.{Bool, true, false, not, cond, _||_}
-use mathlib.Core.List.{List, [], _∷_}
+use mathlib.Core.List.{List}
 use Prim.Native.Nat.{ℕ, zero, suc, _+_, _-_, _*_, _/_, _≤_, _<_, min}
-use native.Mathlib.Nat.{zero-min, min-zero, suc-min-suc, add-zero}
+use native.Mathlib.Nat.{add-zero}
 use native.Mathlib.Omega.{arith}
 use native.Mathlib.Numerals.{add-one}
 use borrow.Author.Tests.{eq-eqb, ne-eqb, lt-ltb, le-ltb, not-true, not-false}
 use lib.Dec.{eqb}
 use lib.ListN.{length, getD, drop, take, set, length-drop}
 use lib.Seq.{drop-drop, drop-cons, getD-drop, sets, length-sets}
+use Rattle.laws.proofs.Laws.{cut}
 use Rattle.classes.proofs.Laws.{by-test}
 use Rattle.places.specs.Places.{rowsIn, cellAt, kindsOf}
 use Rattle.places.proofs.Laws.{kinds-length, kind-at}
@@ -72,11 +73,6 @@ module _ (rows items : List ℕ) (i from most m : ℕ) (inv : Left rows items i 
   held-end l = let a : most - m ≡ 0 = omega arith in rw (a, add-zero m) at inv
 
 -- ---- the word downto
-
-cut : (k : ℕ) (l : List ℕ) → take (min k (length l)) l ≡ take k l
-cut zero l = rw (zero-min (length l))
-cut (suc k) [] = rw (min-zero (suc k))
-cut (suc k) (x ∷ l) = rw (suc-min-suc k (length l)) (ap (λ (m : List ℕ). x ∷ m) (cut k l))
 
 -- past m kinds without it
 abbrev pub Down : (table items : List ℕ) (i from most m : ℕ) → Type 0

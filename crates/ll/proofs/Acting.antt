@@ -8,15 +8,13 @@ use mathlib.Core.Bool.{Bool, true, false, cond}
 use native.Mathlib.Omega.{arith}
 use lib.Dec.{eqb}
 use borrow.Author.Tests.{eq-eqb, eqb-true}
+use Rattle.laws.proofs.Laws.{clash}
 use Rattle.ll.specs.Grammar.{Sym, tok, nt, act, Grammar, Gen, look}
 use Rattle.ll.proofs.Running.{Out, run, choose}
 use Rattle.ll.specs.Grammar as plain
 use Rattle.ll.proofs.Running as running
 use Rattle.ll.specs.Actions.{Step, go, stop, Reads, done, eat, acts, grow, End, read, bad, stopped, spent, chooseEnd, goOn, runs}
 use Rattle.ll.proofs.Theory.{Tables, LL, Fol, picked, fol-grow}
-
-clash : {A : Type 0} → _≡_ {A = ℕ} 0 1 → A
-clash z = absurd (omega arith)
 
 -- a refusal comes at an element that was not read yet
 least-tok : (k j : ℕ) (o : Out) → (o ≡ running.Out.bad j → suc k ≤ j) → (b : Bool) → cond b o (running.Out.bad k) ≡ running.Out.bad j → k ≤ j

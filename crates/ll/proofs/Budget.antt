@@ -7,6 +7,7 @@ use mathlib.Core.Bool.{Bool, true, false, cond}
 use native.Mathlib.Omega.{arith}
 use lib.Dec.{T, eqb, leb, leb→le}
 use lib.ListN.{length}
+use Rattle.laws.proofs.Laws.{clash}
 use Rattle.ll.specs.Grammar.{Sym, tok, nt, act, Grammar, look}
 use Rattle.ll.proofs.Running.{Out, bad, spent, choose, run}
 use Rattle.ll.proofs.Theory.{Tables, LL}
@@ -55,9 +56,6 @@ lead-one d [] = omega arith
 lead-one d (tok a ∷ α) = omega arith
 lead-one d (act a ∷ α) = lead-one d α
 lead-one d (nt n ∷ α) = at-most-1 (d n)
-
-clash : {A : Type 0} → _≡_ {A = ℕ} 0 1 → A
-clash z = absurd (omega arith)
 
 -- what is left to be done: α to read, n elements left
 abbrev pub due : (ℕ → ℕ) → (ℕ → ℕ) → List Sym → ℕ → ℕ

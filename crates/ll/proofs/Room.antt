@@ -8,6 +8,7 @@ use native.Mathlib.Omega.{arith}
 use lib.Dec.{T, eqb, leb, ltb, leb→le, eqb→eq}
 use borrow.Author.Tests.{eqb-true, eq-eqb, ne-eqb}
 use lib.ListN.{length}
+use Rattle.laws.proofs.Laws.{clash}
 use Rattle.ll.specs.Grammar.{Sym, tok, nt, act}
 use Rattle.ll.proofs.Theory.{and-left, and-right}
 
@@ -22,9 +23,6 @@ pickT false a b = b
 abbrev pub pickB : Bool → Bool → Bool → Bool
 pickB true a b = a
 pickB false a b = b
-
-clash : {A : Type 0} → _≡_ {A = ℕ} 0 1 → A
-clash z = absurd (omega arith)
 
 -- how often an action stands in a row of symbols
 abbrev pub times : ℕ → List Sym → ℕ

@@ -6,7 +6,7 @@ use mathlib.Core.Logic.{_⊎_, inl, inr, ⊎-elim}
 use mathlib.Core.List.{List, [], _∷_, _++_, append-assoc}
 use mathlib.Core.Bool.{Bool, true, false, _||_, _&&_, cond}
 use native.Mathlib.Omega.{arith}
-use lib.Dec.{T, eqb}
+use lib.Dec.{T, eqb, eqb→eq}
 use lib.ListN.{length, take}
 use borrow.Author.Tests.{eq-eqb, eqb-true, eqb-false}
 use Rattle.ll.specs.Grammar.{Sym, tok, nt, act, Grammar, Gen, done, eat, skip, grow, look}
@@ -39,6 +39,13 @@ and-both false b h k = absurd h
 abbrev pub mem : ℕ → List ℕ → Bool
 mem t [] = false
 mem t (x ∷ l) = eqb t x || mem t l
+
+-- one alone
+pub one-of : (t q : ℕ) → T (mem t (q ∷ [])) → t ≡ q
+one-of t q h = ⊎-elim (eqb→eq t q) (λ z. absurd z) (or-cases (eqb t q) false h)
+
+pub is-one : (q : ℕ) → T (mem q (q ∷ []))
+is-one q = or-left (eqb q q) false (subst T (sym (eq-eqb q q refl)) tt)
 
 pub mem-append : (t : ℕ) (a b : List ℕ) → T (mem t (a ++ b)) → T (mem t a) ⊎ T (mem t b)
 mem-append t [] b h = inr h

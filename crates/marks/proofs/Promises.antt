@@ -6,6 +6,7 @@ use Prim.Native.Nat.{ℕ, _≤_}
 use native.Mathlib.Omega.{arith}
 use lib.IntN.{ℤ}
 use lib.Signed.{ltZ, leZ}
+use Rattle.laws.proofs.Laws.{clash}
 use Rattle.integers.specs.declared.Folded.{Folded}
 use Rattle.integers.specs.declared.Folded.the-variants as F
 use Rattle.integers.specs.declared.Arithmetic.the-variants.{Add}
@@ -19,9 +20,6 @@ use Rattle.folding.proofs.Sorts.{Within, left-sort, right-sort, left-kept, righ
 use Rattle.values.specs.declared.Value.{Value}
 use Rattle.values.specs.declared.Value.the-variants.{Number, Truth, Range, Truths, Without}
 use Rattle.marks.specs.Marks.{markSort, withoutOf, heldIn, valueIn, besideMark, constantOf, boundsIn, rangedOf}
-
-clash : {A : Type 0} → _≡_ {A = ℕ} 0 1 → A
-clash z = absurd (omega arith)
 
 -- ---- a constant's number is its value's, and in its mark's range
 

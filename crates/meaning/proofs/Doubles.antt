@@ -7,10 +7,10 @@ use native.Mathlib.Omega.{arith}
 use borrow.Author.Tests.{ltb-true, ltb-false, eqb-false, ne-eqb, le-leb, lt-leb, not-true}
 use lib.Dec.{eqb, ltb, leb}
 use lib.ListN.{length, getD, take}
+use Rattle.laws.proofs.Laws.{both-left, both-right}
 use Rattle.alike.specs.Alike.{sameName}
 use Rattle.places.specs.Places.{cellAt}
 use Rattle.alike.specs.Spelling.{spelt, spelledAs}
-use Rattle.alike.proofs.Laws.{both-left, both-right}
 use Rattle.alike.proofs.Sameness.{same-flips}
 use Rattle.reading.specs.Rows.{rowsOf}
 use Rattle.reading.proofs.Promises.{stand-in-order}

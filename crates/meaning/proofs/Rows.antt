@@ -8,6 +8,7 @@ use native.Mathlib.Omega.{arith}
 use lib.Dec.{eqb}
 use borrow.Author.Tests.{ne-eqb}
 use lib.ListN.{length, getD, take, drop, replicate, length-drop}
+use Rattle.laws.proofs.Laws.{clash}
 use Rattle.ll.specs.Actions.{End, read, bad, stopped, spent}
 use Rattle.forms.specs.Names.{constant, subtype}
 use Rattle.forms.specs.Tree.{Row, State, Refusal, rowsOf}
@@ -19,9 +20,6 @@ use Rattle.tree.specs.Items.{unlike, readingBy, readingOfPiece, rowsRead, rowsO
 use Rattle.tree.proofs.Pieces.{rows-few}
 use Rattle.items.specs.Items.{heldIn}
 use Rattle.folds.specs.Rows.{rowsIn}
-
-clash : {A : Type 0} → _≡_ {A = ℕ} 0 1 → A
-clash z = absurd (omega arith)
 
 -- ---- no row has form 0
 

@@ -5,9 +5,9 @@ use mathlib.Core.List.{List, [], _∷_}
 use Prim.Native.Nat.{ℕ, zero, suc, _+_}
 use borrow.Author.Tests.{eq-eqb, eqb-true}
 use lib.Dec.{eqb}
+use Rattle.laws.proofs.Laws.{chosen, both-left, both-right}
 use Rattle.alike.specs.Alike.{counts, byKind}
 use Rattle.alike.specs.Spelling.{spelt}
-use Rattle.alike.proofs.Laws.{both-left, both-right}
 use Rattle.pieces.specs.Kinds.{isName}
 use Rattle.records.specs.Records.{isClaim}
 use Rattle.records.specs.Tallies.{oneIf}
@@ -82,10 +82,6 @@ spell-on (suc (suc zero)) a b c h g = spelt-on false a b c h g
 spell-on (suc (suc (suc k))) a b c h g = h
 
 -- ---- names
-
-chosen : (t x : Bool) → cond t x false ≡ true → (t ≡ true) × (x ≡ true)
-chosen true x h = (refl, h)
-chosen false x h = absurd (false≢true h)
 
 same-opens : (x y : Element) → sameAs x y ≡ true → (x .kind ≡ y .kind) × (spell (x .kind) (x .bytes) (y .bytes) ≡ true)
 unfolding sameAs

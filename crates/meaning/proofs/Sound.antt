@@ -2,12 +2,13 @@
 -- nothing.
 use mathlib.Core.Path.{_≡_, refl, sym, subst}
 use mathlib.Core.Logic.{inl, inr}
-use mathlib.Core.Bool.{Bool, true, false, cond, _&&_, _||_}
+use mathlib.Core.Bool.{Bool, true, false, cond, _||_}
 use mathlib.Core.List.{List, [], _∷_, _++_}
 use Prim.Native.Nat.{ℕ, zero, suc}
 use native.Mathlib.Omega.{arith}
 use borrow.Author.Tests.{eqb-true}
 use lib.Dec.{eqb}
+use Rattle.laws.proofs.Laws.{clash, both-left}
 use Rattle.forms.specs.Tree.{Row}
 use Rattle.records.specs.Records.{isClaim}
 use Rattle.tree.specs.Items.{rowsOfPiece}
@@ -25,9 +26,6 @@ use Rattle.worded.specs.Elements.{Element, Piece, at, kinds}
 use Rattle.meaning.specs.Names.{classOf, language, claims, doubled, ownDoubled, Done, claimedAbove, firstAbove, useOf}
 use Rattle.meaning.specs.Items.{valued, bounded, formed, unlessDoubled, valueOf, doneOf}
 use Rattle.meaning.proofs.Good.{GoodDone, Good}
-
-clash : {A : Type 0} → _≡_ {A = ℕ} 0 1 → A
-clash z = absurd (omega arith)
 
 -- ---- expressions, and what is kept of them
 
@@ -80,10 +78,6 @@ module _ (p : Piece) (used : Element → Value) (u : SoundUse small used) where
   formed-subtype c (item ∷ mark ∷ rs) = rw c (bounded-fits small p used u (used (at p (mark .first))) (u (at p (mark .first))) rs)
 
 -- ---- names used
-
-both-left : (a b : Bool) → (a && b) ≡ true → a ≡ true
-both-left true b e = refl
-both-left false b e = e
 
 is-claim : (c : ℕ) → isClaim c ≡ true → (P : ℕ → Type 0) → P 3 → P 4 → P c
 is-claim c e P x y = go (eqb c 3) (eqb c 4) refl refl e

@@ -9,9 +9,9 @@ use lib.Dec.{eqb}
 use lib.ListN.{length, getD, set}
 use lib.Seq.{getD-set-same, getD-set-other}
 use borrow.Author.Tests.{eq-eqb, ne-eqb, eqb-false}
+use Rattle.laws.proofs.Laws.{both-left, both-right}
 use Rattle.alike.specs.Alike.{sameName}
 use Rattle.places.specs.Places.{cellAt}
-use Rattle.alike.proofs.Laws.{both-left, both-right}
 use Rattle.alike.proofs.Sameness.{same-kindless}
 use Rattle.records.specs.Records.{wordAt, isClaim}
 use Rattle.names.specs.Names.{recordsIn, firstFrom, claimsElement, linkOf, below}

@@ -5,8 +5,8 @@ use mathlib.Core.List.{List}
 use Prim.Native.Nat.{ℕ, suc, _<_, min}
 use native.Mathlib.Omega.{arith}
 use lib.ListN.{length, getD}
+use Rattle.laws.proofs.Laws.{both-left, both-right}
 use Rattle.alike.specs.Alike.{sameName}
-use Rattle.alike.proofs.Laws.{both-left, both-right}
 use Rattle.alike.proofs.Sameness.{same-flips, same-goes-on}
 use Rattle.records.specs.Records.{wordAt, isClaim}
 use Rattle.names.specs.Names.{recordsIn, claimsElement, linkOf, ownOf, share, filled}

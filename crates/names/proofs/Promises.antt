@@ -8,7 +8,7 @@ use native.Mathlib.Omega.{arith}
 use lib.Dec.{eqb}
 use lib.ListN.{length, getD}
 use borrow.Author.Tests.{eqb-true, eqb-false, eq-eqb, ne-eqb, not-true}
-use Rattle.alike.proofs.Laws.{both-left, both-right}
+use Rattle.laws.proofs.Laws.{both-left, both-right}
 use Rattle.pairs.specs.Pairs.{sameNumber, laterOf, pairFrom, pairOf}
 use Rattle.pairs.specs.declared.Pair.{Pair}
 use Rattle.pairs.specs.declared.Pair.the-variants.{Both, Neither}

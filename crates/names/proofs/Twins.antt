@@ -10,7 +10,7 @@ use lib.Dec.{eqb}
 use lib.ListN.{length, getD, set, length-set}
 use lib.Seq.{getD-set-same, getD-set-other}
 use borrow.Author.Tests.{eqb-false, ne-eqb, not-true}
-use Rattle.alike.proofs.Laws.{both-left, both-right}
+use Rattle.laws.proofs.Laws.{both-left, both-right}
 use Rattle.records.specs.Tallies.{oneIf}
 use Rattle.names.specs.Names.{recordsIn, anyFrom, ownOf, share, another, twinOf, anyTwin}
 use Rattle.names.specs.Chains.{Twin, First, Marking}

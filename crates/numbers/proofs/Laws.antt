@@ -1,6 +1,6 @@
 -- The ways of the definitions of numbers, in the code's terms: each premise is what a call or a test gives. Assumes nothing.
 use mathlib.Core.Path.{_≡_, refl, sym, ap, _∙_}
-use mathlib.Core.Bool.{Bool, true, false, not, _&&_, _||_}
+use mathlib.Core.Bool.{Bool, true, false, not, _&&_, _||_, and-false}
 use mathlib.Core.List.{List, _∷_}
 use Prim.Native.Nat.{ℕ, suc, _+_, _-_, _≤_, _<_, min}
 use native.Mathlib.Omega.{arith}
@@ -8,20 +8,17 @@ use borrow.Author.Tests.{eq-eqb, ne-eqb, eqb-true, not-true, not-false, le-leb, 
 use lib.Dec.{eqb, leb}
 use lib.ListN.{length, take, drop, getD, length-drop}
 use lib.Seq.{length-take-le}
+use Rattle.laws.proofs.Laws.{both-right}
 use Rattle.classes.specs.Bytes.{within, lower, isDigit}
 use Rattle.classes.specs.Runs.{run, inRun}
 use Rattle.classes.specs.declared.Run.the-variants.{Below}
-use Rattle.classes.proofs.Laws.{part-rest, run-le, byte-inside, digit-inside, by-test, and-right, run-some, digit-in-ten}
+use Rattle.classes.proofs.Laws.{part-rest, run-le, byte-inside, digit-inside, by-test, run-some, digit-in-ten}
 use Rattle.numbers.specs.Numbers.{digits, digitIn, spelled, leading, exponentHead, exponent, belowBase, integerPast, based, pointed, number}
 use Rattle.numbers.specs.declared.Number.{Number}
 use Rattle.numbers.specs.declared.Number.the-variants.{Integer, Real, Neither}
 use Rattle.numbers.specs.declared.Size.{Size}
 use Rattle.numbers.specs.declared.Size.the-variants.{Of, Nothing}
 use Rattle.numbers.proofs.Spelled.{on-digit}
-
-and-false : (x : Bool) → (x && false) ≡ false
-and-false true = refl
-and-false false = refl
 
 -- one digit more behind a number above 1 is above 16
 pub capped-large : (v b : ℕ) → (b ≡ 95 → ⊥) → 1 < v → _≡_ {A = ℕ} 17 (min 17 (digitIn 10 v b))
@@ -78,7 +75,7 @@ exponent-le : (either : Bool) (s : List ℕ) → exponent either s ≤ length s
 unfolding exponent digits
 exponent-le either s =
     by-test (λ (n : ℕ). n ≤ length s) (eqb (lower (getD s 0 0)) 101 && isDigit (getD s (exponentHead either s) 0))
-    (λ e. omega (arith, run-le (Below 10) (drop (exponentHead either s) s), length-drop (exponentHead either s) s, digit-inside s (exponentHead either s) (and-right (eqb (lower (getD s 0 0)) 101) _ e)))
+    (λ e. omega (arith, run-le (Below 10) (drop (exponentHead either s) s), length-drop (exponentHead either s) s, digit-inside s (exponentHead either s) (both-right (eqb (lower (getD s 0 0)) 101) _ e)))
     (λ _. omega arith)
 
 -- an exponent behind n bytes stays within the text
@@ -124,7 +121,7 @@ below-in : (base : ℕ) (s : List ℕ) → SizeIn (length s) (belowBase base s)
 unfolding belowBase
 below-in base s =
     by-test (SizeIn (length s)) (inRun (Below base) (getD s 0 0) && eqb (getD s (run (Below base) s) 0) 35)
-    (λ e. let i = byte-at s (run (Below base) s) (getD s (run (Below base) s) 0) 34 refl (eqb-true _ _ (and-right (inRun (Below base) (getD s 0 0)) _ e)) in
+    (λ e. let i = byte-at s (run (Below base) s) (getD s (run (Below base) s) 0) 34 refl (eqb-true _ _ (both-right (inRun (Below base) (getD s 0 0)) _ e)) in
     omega (arith, i, exponent-le false (drop (run (Below base) s + 1) s), length-drop (run (Below base) s + 1) s))
     (λ _. tt)
 

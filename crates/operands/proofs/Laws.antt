@@ -1,14 +1,15 @@
 -- The kinds that are told apart, and an element's bytes. Assumes nothing.
-use mathlib.Core.Path.{_≡_, refl, ap}
+use mathlib.Core.Path.{_≡_, refl}
 use mathlib.Core.Bool.{Bool, true, false}
-use mathlib.Core.List.{List, [], _∷_}
-use Prim.Native.Nat.{ℕ, zero, suc, _+_, _-_, _≤_, _<_, min}
+use mathlib.Core.List.{List}
+use Prim.Native.Nat.{ℕ, _+_, _-_, _≤_, _<_, min}
 use native.Mathlib.Omega.{arith}
 use borrow.Author.Tests.{eq-eqb, ne-eqb, leb-true, leb-false}
 use lib.Dec.{leb}
-use native.Mathlib.Nat.{add-sub-cancel-left, zero-min, min-zero, suc-min-suc}
+use native.Mathlib.Nat.{add-sub-cancel-left}
 use lib.ListN.{length, take, drop, length-drop, drop-of-length-le}
 use lib.Seq.{take-nil}
+use Rattle.laws.proofs.Laws.{cut}
 use Rattle.places.specs.Places.{cellAt}
 use Rattle.folding.specs.declared.Operator.the-variants.{Join}
 use Rattle.folding.specs.declared.Sign.the-variants.{Plus}
@@ -25,11 +26,6 @@ unfolding signOf
 pluses k a0 b0 c0 = rw (ne-eqb k 22 a0, ne-eqb k 33 b0, ne-eqb k 90 c0)
 
 -- a part within the text, whatever the row says
-cut : (k : ℕ) (l : List ℕ) → take (min k (length l)) l ≡ take k l
-cut zero l = rw (zero-min (length l))
-cut (suc k) [] = rw (min-zero (suc k))
-cut (suc k) (x ∷ l) = rw (suc-min-suc k (length l)) (ap (λ (m : List ℕ). x ∷ m) (cut k l))
-
 inside : (a b f s : ℕ) (t : List ℕ) → a ≤ length t → f ≡ min a (length t) → s ≡ min b (length t - f) → take s (drop f t) ≡ take b (drop a t)
 inside a b f s t h p q =
     let z : f ≡ a = omega arith in

@@ -7,6 +7,7 @@ use native.Mathlib.Omega.{arith}
 use borrow.Author.Tests.{ltb-false}
 use lib.Dec.{ltb}
 use lib.ListN.{length, replicate, length-append, length-replicate}
+use Rattle.laws.proofs.Laws.{clash}
 use Rattle.reading.specs.Rows.{rowsOf}
 use Rattle.reading.specs.Table.{cells}
 use Rattle.reading.specs.Reading.{readingOf}
@@ -45,9 +46,6 @@ each-length : (ps : List Piece) → length (kindsEach ps) ≡ length ps
 unfolding kindsEach
 each-length [] = refl
 each-length (p ∷ ps) = ap suc (each-length ps)
-
-clash : {A : Type 0} → _≡_ {A = ℕ} 0 1 → A
-clash z = absurd (omega arith)
 
 -- pieces that are marked are few enough, and the table has room for them
 pub marked-room : (n words k : ℕ) → marking n words ≡ M.Marked k → (k ≡ n) × (n ≤ 1024) × (8 * n ≤ words)

@@ -9,6 +9,7 @@ use native.Mathlib.Nat.{zero-add}
 use borrow.Author.Tests.{le-ltb, lt-ltb, ltb-true, ltb-false}
 use lib.Dec.{ltb}
 use lib.ListN.{length, getD}
+use Rattle.laws.proofs.Laws.{clash}
 use Rattle.records.specs.Tallies.{inState, countsFrom, tallyOf}
 use Rattle.records.specs.Frames.{frameGood}
 use Rattle.records.proofs.Counting.{counts-at}
@@ -33,9 +34,6 @@ use Rattle.refusals.specs.declared.SurveyRefusal.the-variants.{Elements, TooMan
 use Rattle.packages.specs.declared.Outcome.{Outcome}
 use Rattle.packages.specs.declared.Outcome.the-variants.{Done, Refused}
 use Rattle.packages.proofs.Joined.{marked-room}
-
-clash : {A : Type 0} → _≡_ {A = ℕ} 0 1 → A
-clash z = absurd (omega arith)
 
 pub no-choice : NoChoice
 no-choice s e i x x′ t t′ u u′ p q r p′ q′ r′ = (cc, cc, cc)

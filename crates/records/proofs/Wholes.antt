@@ -9,7 +9,7 @@ use native.Mathlib.Omega.{arith}
 use borrow.Author.Tests.{eqb-true, eq-eqb}
 use lib.Dec.{eqb}
 use lib.ListN.{getD}
-use Rattle.alike.proofs.Laws.{both-left, both-right}
+use Rattle.laws.proofs.Laws.{both-left, both-right}
 use Rattle.records.specs.Tallies.{inState, countsFrom, tallyOf}
 use Rattle.records.specs.Frames.{noneFrom, wholeOf}
 use Rattle.records.proofs.Counting.{counts-at}

@@ -10,6 +10,7 @@ use borrow.Author.Tests.{eq-eqb, ne-eqb, eqb-true, eqb-false}
 use lib.Dec.{eqb}
 use lib.ListN.{length, getD, take, drop, length-append}
 use lib.Seq.{take-at, drop-at}
+use Rattle.laws.proofs.Laws.{clash}
 use Rattle.ll.specs.Grammar.{Sym, nt}
 use Rattle.ll.specs.Actions.{End, read, bad, stopped, spent}
 use Rattle.forms.specs.Names.{constant, subtype}
@@ -30,9 +31,6 @@ use Rattle.tree.proofs.Zeros.{zeros, zeros-size}
 use Rattle.tree.proofs.Final.{words-size}
 use Rattle.tree.proofs.Lists.{terminals-length}
 use Rattle.tree.proofs.Pieces.{rows-few}
-
-clash : {A : Type 0} → _≡_ {A = ℕ} 0 1 → A
-clash z = absurd (omega arith)
 
 -- five words to each element of a piece
 pub piece-size : (p : List ℕ) → length (pieceWords p) ≡ 5 * length p

@@ -11,6 +11,7 @@ use lib.ListN.{length, getD}
 use lib.Seq.{sets}
 use types.Run.{OneOf}
 use denote.Enum.Declared.{tagOf}
+use Rattle.laws.proofs.Laws.{clash}
 use Rattle.ll.specs.Actions.{End, read, bad, stopped, spent}
 use Rattle.alike.specs.Alike.{sameName}
 use Rattle.forms.specs.Names.{constant, subtype}
@@ -29,9 +30,6 @@ use Rattle.tree.specs.Items.{unlike, readingBy, readingOfPiece, rowsRead
 use Rattle.tree.proofs.Found as declared
 use Rattle.tree.proofs.Lists.{terminals-length}
 use Rattle.tree.proofs.Final.{unread}
-
-clash : {A : Type 0} → _≡_ {A = ℕ} 0 1 → A
-clash z = absurd (omega arith)
 
 -- the answers of `start_of`
 pub start-constant : (k : ℕ) → k ≡ 53 → _≡_ {A = ℕ} 82 (startOf k)

@@ -8,6 +8,7 @@ use mathlib.Core.List.{List, [], _∷_}
 use native.Mathlib.Nat.{lt-of-not-le, eq-or-lt-of-le}
 use native.Mathlib.Omega.{arith}
 use lib.ListN.{length, drop, take-append-drop, List·getD-eq-default}
+use Rattle.laws.proofs.Laws.{clash}
 use Rattle.ll.specs.Actions.{End, read, bad, stopped, spent}
 use Rattle.ll.proofs.Acting as acting
 use Rattle.forms.specs.Rules.{forms}
@@ -20,9 +21,6 @@ use Rattle.forms.proofs.Meaning as meaning
 use Rattle.forms.proofs.Opening as opening
 use Rattle.forms.proofs.Closing as closing
 use Rattle.tree_promises.specs.Due.{NoFileDue, NameDue, DepthDue, SomeDue, NoneBefore, NoFileFirst, NameFirst, DepthFirst}
-
-clash : {A : Type 0} → _≡_ {A = ℕ} 0 1 → A
-clash z = absurd (omega arith)
 
 true-false : {A : Type 0} (b : Bool) → b ≡ true → b ≡ false → A
 true-false b p q = let z : _≡_ {A = ℕ} 0 1 = cc in clash z

@@ -8,6 +8,7 @@ use native.Mathlib.Omega.{arith}
 use lib.Dec.{leb}
 use lib.ListN.{length, replicate}
 use borrow.Author.Tests.{le-leb, lt-leb, leb-true, leb-false}
+use Rattle.laws.proofs.Laws.{clash}
 use Rattle.ll.specs.Actions.{End, read, bad, stopped, spent}
 use Rattle.alike.specs.Alike.{sameName}
 use Rattle.forms.specs.Tree.{State, Refusal, name-differs, too-deep, rowsOf}
@@ -25,9 +26,6 @@ use Rattle.tree.specs.declared.Answer.the-variants.{Tree, NoFile, NameDiffers, 
 use Rattle.tree.proofs.Lists.{terminals-size}
 use Rattle.tree_promises.specs.Promises.{Elements, Answered, Accepts, HasRows, OneTree, NoFileExactly, NameDiffersExactly, TooDeepExactly, FileExactly, FirstWrong, StillBegins, TooManyOpen, NeverTooMany, WrongName, NeverWrongName, FirstDecides, IsShort, ZerosElse, RowsNest, LeavesInOrder, OperatorColumn, NoChoice}
 use Rattle.tree_promises.proofs.Exactly as exactly
-
-clash : {A : Type 0} → _≡_ {A = ℕ} 0 1 → A
-clash z = absurd (omega arith)
 
 -- an answer comes from one end of the reading
 tree-end : (room rows : ℕ) (o : End State Refusal) → answerOf room o ≡ Tree rows → (s : State) × ((o ≡ read s) × (length (rowsOf s) ≡ rows) × (5 * rows ≤ room))

@@ -5,13 +5,11 @@ use mathlib.Core.Bool.{Bool, true, false, cond}
 use mathlib.Core.List.{List, [], _∷_}
 use native.Mathlib.Omega.{arith}
 use lib.ListN.{length, getD}
+use Rattle.laws.proofs.Laws.{clash}
 use Rattle.verdict.specs.declared.Verdict.the-variants.{Passes, NotSupported}
 use Rattle.verdict.specs.Verdict.{unsupported, verdictFrom, formsIn, verdictOf}
 use Rattle.verdict.specs.Promises.{formAt, formBefore, PassesExactly, NamesFirst}
 use Rattle.verdict.proofs.Laws.{forms-size, forms-get}
-
-clash : {A : Type 0} → _≡_ {A = ℕ} 0 1 → A
-clash z = absurd (omega arith)
 
 -- the form before the j-th, b before the first
 abbrev before : ℕ → List ℕ → ℕ → ℕ

@@ -1,7 +1,7 @@
 -- Laws of `begins` and `searched` at places of their lists, and that the search in a packed list finds the place in the list of words.
 -- Assumes nothing.
 use mathlib.Core.Path.{_≡_, refl, sym, ap, _∙_}
-use mathlib.Core.Bool.{Bool, true, false, not, _&&_, _||_, false≢true}
+use mathlib.Core.Bool.{Bool, true, false, not, _&&_, _||_, false≢true, and-false}
 use mathlib.Core.List.{List, [], _∷_, _++_}
 use Prim.Native.Nat.{ℕ, zero, suc, _+_, _-_, _≤_, _<_}
 use Prim.Native.String.{String}
@@ -12,8 +12,9 @@ use borrow.Author.Tests.{eq-eqb, ne-eqb, eqb-true, eqb-false, not-true}
 use lib.Dec.{eqb}
 use lib.ListN.{length, take, drop, getD, drop-of-length-le}
 use lib.Seq.{drop-cons, drop-drop, drop-append-seam}
+use Rattle.laws.proofs.Laws.{both-left, both-right}
 use Rattle.classes.specs.Bytes.{within, isLetter, lower}
-use Rattle.classes.proofs.Laws.{part-rest, by-test, within-low, within-high, and-left, and-right, not-upper, not-lower}
+use Rattle.classes.proofs.Laws.{part-rest, by-test, within-low, within-high, not-upper, not-lower}
 use Rattle.words.specs.Words.{delimiters, bytesOf, begins, spells, placeFrom}
 use Rattle.words.specs.Packed.{searched, byteFrom}
 use Rattle.words.specs.declared.Place.{Place}
@@ -168,19 +169,19 @@ one-spelled b (y ∷ z ∷ l) e p = absurd (omega (arith, e))
 pub plain-place : (xs : List String) (k b : ℕ) → plains xs ≡ true → byteFrom k b (firsts xs) ≡ placeFrom k (b ∷ []) xs
 unfolding byteFrom placeFrom spells
 plain-place [] k b p = refl
-plain-place (x ∷ xs) k b p = go (spells (b ∷ []) x) refl (plain-place xs (suc k) b (and-right (both x) (plains xs) p))
+plain-place (x ∷ xs) k b p = go (spells (b ∷ []) x) refl (plain-place xs (suc k) b (both-right (both x) (plains xs) p))
   where
     both : String → Bool
     both x = eqb (length (bytesOf x)) 1 && not (isLetter (getD (bytesOf x) 0 0))
 
     here : both x ≡ true
-    here = and-left (both x) (plains xs) p
+    here = both-left (both x) (plains xs) p
 
     one : length (bytesOf x) ≡ 1
-    one = eqb-true _ _ (and-left (eqb (length (bytesOf x)) 1) (not (isLetter (getD (bytesOf x) 0 0))) here)
+    one = eqb-true _ _ (both-left (eqb (length (bytesOf x)) 1) (not (isLetter (getD (bytesOf x) 0 0))) here)
 
     plain : isLetter (getD (bytesOf x) 0 0) ≡ false
-    plain = not-true (isLetter (getD (bytesOf x) 0 0)) (and-right (eqb (length (bytesOf x)) 1) (not (isLetter (getD (bytesOf x) 0 0))) here)
+    plain = not-true (isLetter (getD (bytesOf x) 0 0)) (both-right (eqb (length (bytesOf x)) 1) (not (isLetter (getD (bytesOf x) 0 0))) here)
 
     go : (y : Bool) → spells (b ∷ []) x ≡ y → byteFrom (suc k) b (firsts xs) ≡ placeFrom (suc k) (b ∷ []) xs → byteFrom k b (firsts (x ∷ xs)) ≡ placeFrom k (b ∷ []) (x ∷ xs)
     go true e h = rw (sym (one-spelled b (bytesOf x) one plain) ∙ e, byteFrom, e, placeFrom)
@@ -210,10 +211,6 @@ or-none false false true e = absurd (false≢true (sym e))
 
 lower-other : (d x : ℕ) → isLetter x ≡ false → eqb d x ≡ false → eqb (lower d) x ≡ false
 lower-other d x p e = lower-plain d x p ∙ ne-eqb x d (λ z. eqb-false d x e (sym z))
-
-and-false : (x : Bool) → (x && false) ≡ false
-and-false true = refl
-and-false false = refl
 
 not-pair : (b d x y : ℕ) → eqb (lower d) y ≡ false → (eqb (lower b) x && (eqb (lower d) y && true)) ≡ false
 not-pair b d x y e = rw (e, and-false)

@@ -1,5 +1,6 @@
 -- `alike::spelled_same` meets its contract. Sizes, places and bytes, in that order, as the definition goes. Assumes nothing.
-use Rattle.alike.proofs.Laws.{spelled-size, spelled-out, spelled-in, both-left, both-right}
+use Rattle.laws.proofs.Laws.{both-left, both-right}
+use Rattle.alike.proofs.Laws.{spelled-size, spelled-out, spelled-in}
 use Rattle.places.proofs.Laws.{within-is}
 use borrow.Author.Needs.{needs}
 use Rattle.alike.proofs.spelled_same.Statement.{statement}

@@ -1,0 +1,1 @@
+// Laws of truths and lists that the proofs of several crates cite: no definitions, no code.
