@@ -1,8 +1,10 @@
 -- The promises of the strict reading of a text, proved. Assumes nothing.
-use Prim.Native.Nat.{ℕ, _-_, _*_, _≤_}
+use Prim.Native.Nat.{ℕ, _-_, _*_, _/_, _≤_, _<_}
 use native.Mathlib.Omega.{arith}
 use mathlib.Core.Path.{_≡_, refl, sym, ap, _∙_, subst}
+use mathlib.Core.Bool.{cond}
 use mathlib.Core.List.{List, _++_}
+use lib.Dec.{eqb}
 use lib.ListN.{length, replicate}
 use Rattle.places.specs.Places.{kindsOf}
 use Rattle.reading.specs.Rows as elements
@@ -24,13 +26,17 @@ use Rattle.verdict.specs.Verdict.{verdictOf}
 use Rattle.verdict.specs.declared.Verdict.{Verdict}
 use Rattle.files.specs.declared.Unread.{Unread}
 use Rattle.files.specs.declared.Unread.the-variants as U
+use Rattle.refusals.specs.Refusals.{strictNumber, strictPlace}
+use Rattle.refusals.specs.declared.Refusal.the-variants as E
 use Rattle.refusals.specs.declared.StrictRefusal.{StrictRefusal}
 use Rattle.refusals.specs.declared.StrictRefusal.the-variants as S
 use Rattle.files.specs.declared.Strict.{Strict}
 use Rattle.files.specs.declared.Strict.the-variants.{Read, Refused}
 use Rattle.files.specs.Strict.{unreadableFrom, byAnswer, treeTable, fileOf, byUnread, elementsAs, byReading, strictOf, kept, elementsAfter, treeByUnread, treeAs, treeByReading, treeAfter}
 use Rattle.reading.specs.Given.{count, Taken}
-use Rattle.files.specs.Given.{Readable, verdictOn, IsRead, Given}
+use Rattle.reading.specs.Given as given
+use Rattle.reading.proofs.Answers as reading
+use Rattle.files.specs.Given.{FirstUnreadable, Readable, Elements, alike, File, verdictOn, IsRead, Given, of-elements, unreadable, no-file, name-differs, too-deep, tree-short}
 use Rattle.files.specs.Promises.{Accepted, RefusedExactly, TablesHold, ZerosOnRefusal, NoChoice}
 use Rattle.reading.proofs.Answers.{ReadingSays, reading-says, taken-read, refused-reading}
 use Rattle.files.proofs.Given.{all-count, UnreadSays, unread-says, none-unread, first-unread}
@@ -110,10 +116,56 @@ module _ (text : List ℕ) (ew tw : ℕ) where
       ∙ ap (λ (x : List ℕ). verdictOf x (length (rowsOf s))) (tree-rows t s f m)
       ∙ verdict-rows (rowsOf s) tw m
 
+  -- when each refusal is given, refusal by refusal
+  abbrev GivenAs : StrictRefusal → Type 0
+  GivenAs (S.Elements r) = reading.GivenAs text ew r
+  GivenAs (S.Unreadable e) = Taken text ew × FirstUnreadable (elements.rowsOf text) (e .0)
+  GivenAs (S.NoFile e) = Readable text ew × NoFileFirst (alike text) (Elements text) (e .0)
+  GivenAs (S.NameDiffers e) = Readable text ew × NameFirst (alike text) (Elements text) (e .0)
+  GivenAs (S.TooDeep e) = Readable text ew × DepthFirst (alike text) (Elements text) (e .0)
+  GivenAs (S.TreeShort rows) = Readable text ew × (rows ≡ tw / 5) × ((s : State) × (File text s × (tw < 5 * length (rowsOf s))))
+
+  -- and by the numbers of 01's table
+  abbrev At : ℕ → ℕ → Type 0
+  At n k =
+      cond (eqb n 2) (Taken text ew × FirstUnreadable (elements.rowsOf text) k)
+      (cond (eqb n 5) (Readable text ew × NoFileFirst (alike text) (Elements text) k)
+      (cond (eqb n 6) (Readable text ew × NameFirst (alike text) (Elements text) k)
+      (cond (eqb n 7) (Readable text ew × DepthFirst (alike text) (Elements text) k)
+      (cond (eqb n 8) (Readable text ew × (k ≡ tw / 5) × ((s : State) × (File text s × (tw < 5 * length (rowsOf s))))) (given.Given text ew n k)))))
+
+  numbered : {n k : ℕ} → Given text ew tw n k → At n k
+  numbered (of-elements (given.too-long h)) = given.too-long h
+  numbered (of-elements (given.too-many a h)) = given.too-many a h
+  numbered (of-elements (given.short a b h)) = given.short a b h
+  numbered (unreadable t u) = (t, u)
+  numbered (no-file r d) = (r, d)
+  numbered (name-differs r d) = (r, d)
+  numbered (too-deep r d) = (r, d)
+  numbered (tree-short {s = s} r f l) = (r, refl, (s, (f, l)))
+
+  given-as : (r : StrictRefusal) → Given text ew tw (strictNumber r) (strictPlace r) → GivenAs r
+  given-as (S.Elements (E.TextTooLong p)) g = reading.given-as text ew (E.TextTooLong p) (numbered g)
+  given-as (S.Elements (E.TooManyElements e)) g = reading.given-as text ew (E.TooManyElements e) (numbered g)
+  given-as (S.Elements (E.TableShort e)) g = reading.given-as text ew (E.TableShort e) (numbered g)
+  given-as (S.Unreadable e) g = numbered g
+  given-as (S.NoFile e) g = numbered g
+  given-as (S.NameDiffers e) g = numbered g
+  given-as (S.TooDeep e) g = numbered g
+  given-as (S.TreeShort rows) g = numbered g
+
+  as-given : (r : StrictRefusal) → GivenAs r → Given text ew tw (strictNumber r) (strictPlace r)
+  as-given (S.Elements r) g = of-elements (reading.as-given text ew r g)
+  as-given (S.Unreadable e) g = unreadable (g .0) (g .1)
+  as-given (S.NoFile e) g = no-file (g .0) (g .1)
+  as-given (S.NameDiffers e) g = name-differs (g .0) (g .1)
+  as-given (S.TooDeep e) g = too-deep (g .0) (g .1)
+  as-given (S.TreeShort rows) g = subst (λ (k : ℕ). Given text ew tw 8 k) (sym (g .1)) (tree-short (g .0) (g .2 .1 .0) (g .2 .1 .1))
+
   -- what an answer says of the text
   abbrev Says : Strict → Type 0
   Says (Read rows v) = IsRead text ew tw rows v
-  Says (Refused r) = Given text ew tw r
+  Says (Refused r) = GivenAs r
 
   file-says : Readable text ew → Says (fileOf text (tableOf text ew) (count text) tw)
   file-says r = go (Answered text (tableOf text ew) (count text) tw) refl
@@ -153,7 +205,7 @@ module _ (text : List ℕ) (ew tw : ℕ) where
       ∙ answered-as (r .0) (A.Tree rows) (accepts text (tableOf text ew) (count text) tw rows .1 (s, (h, c, l)))
       ∙ ap (Read rows) (verdict-as (r .0) s h rows c l ∙ sym w)
 
-  refused-by : (r : StrictRefusal) → Given text ew tw r → strictOf text ew tw ≡ Refused r
+  refused-by : (r : StrictRefusal) → GivenAs r → strictOf text ew tw ≡ Refused r
   refused-by (S.Elements r) g = strict-by text ew tw (R.Refused r) (refused-reading text ew r g)
   refused-by (S.Unreadable e) g =
       strict-by text ew tw (R.Read (record { 0 = count text })) (taken-read text ew (g .0))
@@ -180,7 +232,10 @@ pub accepted : Accepted
 accepted text ew tw rows v = ((λ e. subst (Says text ew tw) e (strict-says text ew tw)), read-by text ew tw rows v)
 
 pub refused-exactly : RefusedExactly
-refused-exactly text ew tw r = ((λ e. subst (Says text ew tw) e (strict-says text ew tw)), refused-by text ew tw r)
+refused-exactly text ew tw r = (
+  (λ e. as-given text ew tw r (subst (Says text ew tw) e (strict-says text ew tw))),
+  λ g. refused-by text ew tw r (given-as text ew tw r g),
+)
 
 pub tables-hold : TablesHold
 unfolding elementsAfter

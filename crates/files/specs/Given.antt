@@ -19,8 +19,6 @@ use Rattle.forms.specs.Tree as forms
 use Rattle.tree_promises.specs.Due.{NoFileFirst, NameFirst, DepthFirst}
 use Rattle.verdict.specs.Verdict.{verdictFrom}
 use Rattle.verdict.specs.declared.Verdict.{Verdict}
-use Rattle.refusals.specs.declared.StrictRefusal.{StrictRefusal}
-use Rattle.refusals.specs.declared.StrictRefusal.the-variants as S
 
 -- element e of these is there and is unreadable
 abbrev pub UnreadableIn : List Row → ℕ → Type 0
@@ -69,13 +67,17 @@ IsRead text elementWords treeWords rows v =
     Readable text elementWords
     × ((s : State) × (File text s × (length (forms.rowsOf s) ≡ rows) × (5 * rows ≤ treeWords) × (v ≡ verdictOn (forms.rowsOf s))))
 
--- 01's table: when each refusal is given, and its place; 1, 3, 4 as the element reader gives them. Each is given where those above it are
--- not; of 5, 6, 7 the first element decides.
-abbrev pub Given : List ℕ → ℕ → ℕ → StrictRefusal → Type 0
-Given text elementWords treeWords (S.Elements r) = elements.Given text elementWords r
-Given text elementWords treeWords (S.Unreadable e) = Taken text elementWords × FirstUnreadable (rowsOf text) (e .0)
-Given text elementWords treeWords (S.NoFile e) = Readable text elementWords × NoFileFirst (alike text) (Elements text) (e .0)
-Given text elementWords treeWords (S.NameDiffers e) = Readable text elementWords × NameFirst (alike text) (Elements text) (e .0)
-Given text elementWords treeWords (S.TooDeep e) = Readable text elementWords × DepthFirst (alike text) (Elements text) (e .0)
-Given text elementWords treeWords (S.TreeShort rows) =
-    Readable text elementWords × (rows ≡ treeWords / 5) × ((s : State) × (File text s × (treeWords < 5 * length (forms.rowsOf s))))
+-- 01's table of refusals, a line to each: its number, when it is given, and its place; 1, 3, 4 as the element reader gives them. Each is given
+-- where those above it are not; of 5, 6, 7 the first element decides.
+pub data Given (text : List ℕ) (elementWords treeWords : ℕ) : ℕ → ℕ → Type 0 where
+  of-elements : {number place : ℕ} → elements.Given text elementWords number place → Given text elementWords treeWords number place
+  -- "an unreadable element, the first"
+  unreadable : {e : ℕ} → Taken text elementWords → FirstUnreadable (rowsOf text) e → Given text elementWords treeWords 2 e
+  -- "elements up to here begin no file; or the text ends early"
+  no-file : {e : ℕ} → Readable text elementWords → NoFileFirst (alike text) (Elements text) e → Given text elementWords treeWords 5 e
+  -- "closing name or label differs, or closes what had none"
+  name-differs : {e : ℕ} → Readable text elementWords → NameFirst (alike text) (Elements text) e → Given text elementWords treeWords 6 e
+  -- "more than 32 open after this element"
+  too-deep : {e : ℕ} → Readable text elementWords → DepthFirst (alike text) (Elements text) e → Given text elementWords treeWords 7 e
+  -- "tree table short", at the "rows it has"
+  tree-short : {s : State} → Readable text elementWords → File text s → treeWords < 5 * length (forms.rowsOf s) → Given text elementWords treeWords 8 (treeWords / 5)

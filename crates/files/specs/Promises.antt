@@ -12,6 +12,7 @@ use Rattle.forms.specs.Tree.{State}
 use Rattle.forms.specs.Tree as forms
 use Rattle.tree.specs.Answers.{wordsOf}
 use Rattle.verdict.specs.declared.Verdict.{Verdict}
+use Rattle.refusals.specs.Refusals.{strictNumber, strictPlace}
 use Rattle.refusals.specs.declared.StrictRefusal.{StrictRefusal}
 use Rattle.files.specs.declared.Strict.{Strict}
 use Rattle.files.specs.declared.Strict.the-variants.{Read, Refused}
@@ -24,9 +25,9 @@ use Rattle.files.specs.Given.{Readable, File, IsRead, Given}
 abbrev pub Accepted : Type 0
 Accepted = (text : List ℕ) (ew tw rows : ℕ) (v : Verdict) → (strictOf text ew tw ≡ Read rows v) ↔ IsRead text ew tw rows v
 
--- Each refusal is given exactly where 01's table says, with its place.
+-- Each refusal is given exactly where 01's table says, with its number and its place.
 abbrev pub RefusedExactly : Type 0
-RefusedExactly = (text : List ℕ) (ew tw : ℕ) (r : StrictRefusal) → (strictOf text ew tw ≡ Refused r) ↔ Given text ew tw r
+RefusedExactly = (text : List ℕ) (ew tw : ℕ) (r : StrictRefusal) → (strictOf text ew tw ≡ Refused r) ↔ Given text ew tw (strictNumber r) (strictPlace r)
 
 -- When a text is read, the element table has its elements and the tree table the rows of the file that it is; unused rows are zeros.
 abbrev pub TablesHold : Type 0

@@ -7,7 +7,7 @@ use Prim.Native.Nat.{ℕ, _*_, _/_, _≤_, _<_}
 use native.Mathlib.Omega.{arith}
 use native.Mathlib.Nat.{zero-add}
 use borrow.Author.Tests.{le-ltb, lt-ltb, ltb-true, ltb-false}
-use lib.Dec.{ltb}
+use lib.Dec.{eqb, ltb}
 use lib.ListN.{length, getD}
 use Rattle.laws.proofs.Laws.{clash}
 use Rattle.records.specs.Tallies.{inState, countsFrom, tallyOf}
@@ -22,13 +22,19 @@ use Rattle.reading.specs.Reading as elements
 use Rattle.reading.specs.declared.Reading.{Reading}
 use Rattle.reading.specs.declared.Reading.the-variants as R
 use Rattle.worded.specs.Elements.{piecesOf}
-use Rattle.pieces.specs.Records.{marking}
+use Rattle.places.specs.Sizes.{mostPieces}
+use Rattle.pieces.specs.Records.{recordWords, marking}
 use Rattle.packages.specs.Survey.{itemTable, summary, byMarking, byReading, surveyOf, elementsAfter, itemsAfter, refusedBy, summedOf}
-use Rattle.reading.specs.Given.{Taken, Given}
+use Rattle.reading.specs.Given.{Taken}
+use Rattle.reading.specs.Given as given
+use Rattle.reading.proofs.Answers as reading
 use Rattle.reading.proofs.Answers.{ReadingSays, reading-says, taken-read, refused-reading}
-use Rattle.packages.specs.Promises.{NoChoice, ZerosOnRefusal, Surveyed, ElementsExactly, TooManyExactly, ItemsShortExactly, SaysOfRecords}
+use Rattle.packages.specs.Given.{Given, of-elements, too-many, items-short}
+use Rattle.packages.specs.Promises.{NoChoice, ZerosOnRefusal, Surveyed, RefusedExactly, SaysOfRecords}
 use Rattle.packages.specs.declared.Survey.{Survey}
 use Rattle.packages.specs.declared.Summary.{Summary}
+use Rattle.refusals.specs.Refusals.{surveyNumber, surveyPlace}
+use Rattle.refusals.specs.declared.Refusal.the-variants as E
 use Rattle.refusals.specs.declared.SurveyRefusal.{SurveyRefusal}
 use Rattle.refusals.specs.declared.SurveyRefusal.the-variants.{Elements, TooMany, ItemsShort}
 use Rattle.packages.specs.declared.Outcome.{Outcome}
@@ -64,7 +70,7 @@ zeros-on-refusal s e i r h = (rw h, rw h, by-reading-refused (readingOf s e) s (
 -- what each outcome says of the text and the tables
 abbrev Said : List ℕ → ℕ → ℕ → Outcome → Type 0
 Said s e i (Done y) = Taken s e × (length (piecesOf s) ≤ 1024) × (8 * length (piecesOf s) ≤ i)
-Said s e i (Refused (Elements r)) = Given s e r
+Said s e i (Refused (Elements r)) = reading.GivenAs s e r
 Said s e i (Refused TooMany) = Taken s e × (1024 < length (piecesOf s))
 Said s e i (Refused (ItemsShort k)) = Taken s e × (length (piecesOf s) ≤ 1024) × (i / 8 < length (piecesOf s)) × (k ≡ i / 8)
 
@@ -98,20 +104,41 @@ surveyed s e i = (
       rw (taken-read s e (x .0), le-ltb 1024 (length (piecesOf s)) few, le-ltb (i / 8) (length (piecesOf s)) (omega arith)) (_, refl),
 )
 
-pub elements-exactly : ElementsExactly
-unfolding surveyOf
-elements-exactly s e i r = (said s e i (Refused (Elements r)), λ h. rw (refused-reading s e r h))
+-- the same, by the numbers of 01's table
+module _ (s : List ℕ) (e i : ℕ) where
+  abbrev At : ℕ → ℕ → Type 0
+  At n k =
+      cond (eqb n 9) ((k ≡ mostPieces) × Taken s e × (mostPieces < length (piecesOf s)))
+      (cond (eqb n 10) (Taken s e × (length (piecesOf s) ≤ mostPieces) × (i / recordWords < length (piecesOf s)) × (k ≡ i / recordWords)) (given.Given s e n k))
 
-pub too-many-exactly : TooManyExactly
-unfolding surveyOf marking
-too-many-exactly s e i = (said s e i (Refused TooMany), λ x. rw (taken-read s e (x .0), lt-ltb 1024 (length (piecesOf s)) (x .1)))
+  numbered : {n k : ℕ} → Given s e i n k → At n k
+  numbered (of-elements (given.too-long h)) = given.too-long h
+  numbered (of-elements (given.too-many a h)) = given.too-many a h
+  numbered (of-elements (given.short a b h)) = given.short a b h
+  numbered (too-many t h) = (refl, t, h)
+  numbered (items-short t a h) = (t, a, omega arith, refl)
 
-pub items-short-exactly : ItemsShortExactly
-unfolding surveyOf marking
-items-short-exactly s e i k = (
-  said s e i (Refused (ItemsShort k)),
-  λ x. rw (taken-read s e (x .0), le-ltb 1024 (length (piecesOf s)) (x .1), lt-ltb (i / 8) (length (piecesOf s)) (x .2), x .3),
-)
+  given-as : (r : SurveyRefusal) → Given s e i (surveyNumber r) (surveyPlace r) → Said s e i (Refused r)
+  given-as (Elements (E.TextTooLong p)) g = reading.given-as s e (E.TextTooLong p) (numbered g)
+  given-as (Elements (E.TooManyElements n)) g = reading.given-as s e (E.TooManyElements n) (numbered g)
+  given-as (Elements (E.TableShort n)) g = reading.given-as s e (E.TableShort n) (numbered g)
+  given-as TooMany g = let x = numbered g in (x .1, x .2)
+  given-as (ItemsShort k) g = numbered g
+
+  as-given : (r : SurveyRefusal) → Said s e i (Refused r) → Given s e i (surveyNumber r) (surveyPlace r)
+  as-given (Elements r) x = of-elements (reading.as-given s e r x)
+  as-given TooMany x = too-many (x .0) (x .1)
+  as-given (ItemsShort k) x = let l = x .2 in subst (λ (n : ℕ). Given s e i 10 n) (sym (x .3)) (items-short (x .0) (x .1) (omega arith))
+
+  -- and the refusal by what is said
+  refused-by : (r : SurveyRefusal) → Said s e i (Refused r) → surveyOf s e i .outcome ≡ Refused r
+  unfolding surveyOf marking
+  refused-by (Elements r) x = rw (refused-reading s e r x)
+  refused-by TooMany x = rw (taken-read s e (x .0), lt-ltb 1024 (length (piecesOf s)) (x .1))
+  refused-by (ItemsShort k) x = rw (taken-read s e (x .0), le-ltb 1024 (length (piecesOf s)) (x .1), lt-ltb (i / 8) (length (piecesOf s)) (x .2), x .3)
+
+pub refused-exactly : RefusedExactly
+refused-exactly s e i r = ((λ h. as-given s e i r (said s e i (Refused r) h)), λ g. refused-by s e i r (given-as s e i r g))
 
 -- what a survey says of n records
 abbrev Says : List ℕ → List ℕ → List ℕ → ℕ → Summary → Survey → Type 0

@@ -1,3 +1,4 @@
 pub mod Survey
 pub mod Tables
+pub mod Given
 pub mod Promises

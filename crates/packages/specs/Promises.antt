@@ -1,5 +1,5 @@
 -- What the survey promises beside its contract, as statements: proofs/Promises.antt proves each. Assumes nothing: these are definitions.
-use Prim.Native.Nat.{ℕ, _*_, _/_, _≤_, _<_}
+use Prim.Native.Nat.{ℕ, _*_, _≤_}
 use mathlib.Core.Path.{_≡_}
 use mathlib.Core.Logic.{_↔_}
 use mathlib.Core.Bool.{true}
@@ -10,16 +10,16 @@ use Rattle.pieces.specs.Records.{recordWords}
 use Rattle.records.specs.Tallies.{inState}
 use Rattle.records.specs.Frames.{frameGood}
 use Rattle.names.specs.Names.{sharedPair}
-use Rattle.reading.specs.Given.{Taken, Given}
+use Rattle.reading.specs.Given.{Taken}
 use Rattle.reading.specs.Reading as elements
-use Rattle.refusals.specs.declared.Refusal.{Refusal}
 use Rattle.worded.specs.Elements.{piecesOf}
 use Rattle.packages.specs.Survey.{surveyOf, elementsAfter, itemsAfter, itemTable, refusedBy}
+use Rattle.packages.specs.Given.{Given}
 use Rattle.packages.specs.declared.Survey.{Survey}
 use Rattle.packages.specs.declared.Summary.{Summary}
 use Rattle.packages.specs.declared.Outcome.the-variants.{Done, Refused}
+use Rattle.refusals.specs.Refusals.{surveyNumber, surveyPlace}
 use Rattle.refusals.specs.declared.SurveyRefusal.{SurveyRefusal}
-use Rattle.refusals.specs.declared.SurveyRefusal.the-variants.{Elements, TooMany, ItemsShort}
 
 -- Any two permitted answers coincide: what `read_survey` ensures leaves no choice.
 abbrev pub NoChoice : Type 0
@@ -40,20 +40,9 @@ Surveyed =
     (s : List ℕ) (e i : ℕ)
     → ((y : Summary) × (surveyOf s e i .outcome ≡ Done y)) ↔ (Taken s e × (length (piecesOf s) ≤ mostPieces) × (recordWords * length (piecesOf s) ≤ i))
 
--- Refusals 1, 3, 4 are given exactly when 01 says, at its place.
-abbrev pub ElementsExactly : Type 0
-ElementsExactly = (s : List ℕ) (e i : ℕ) (r : Refusal) → (surveyOf s e i .outcome ≡ Refused (Elements r)) ↔ Given s e r
-
--- Refusal 9 is given exactly when none of 1, 3, 4 refuses the text and its pieces are more than 1,024.
-abbrev pub TooManyExactly : Type 0
-TooManyExactly = (s : List ℕ) (e i : ℕ) → (surveyOf s e i .outcome ≡ Refused TooMany) ↔ (Taken s e × (mostPieces < length (piecesOf s)))
-
--- Refusal 10 is given exactly when none of 1, 3, 4 refuses the text, its pieces are at most 1,024 and the item table has fewer records than
--- that; its place is the records that it has.
-abbrev pub ItemsShortExactly : Type 0
-ItemsShortExactly =
-    (s : List ℕ) (e i k : ℕ)
-    → (surveyOf s e i .outcome ≡ Refused (ItemsShort k)) ↔ (Taken s e × (length (piecesOf s) ≤ mostPieces) × (i / recordWords < length (piecesOf s)) × (k ≡ i / recordWords))
+-- Each refusal is given exactly when 01's table says, with its number and its place.
+abbrev pub RefusedExactly : Type 0
+RefusedExactly = (s : List ℕ) (e i : ℕ) (r : SurveyRefusal) → (surveyOf s e i .outcome ≡ Refused r) ↔ Given s e i (surveyNumber r) (surveyPlace r)
 
 -- What a survey that is done says: the frame and the first pair are those of its records, each count of the tally is the number of items in
 -- that state, and it is whole when the frame is good and every item is in state 0.

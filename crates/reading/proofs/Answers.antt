@@ -1,15 +1,18 @@
 -- The answers of a reading, one by one, with what the table holds then: u₀ is the table once it is zeroed, u₁ once the rows are put, u₂
 -- where it is zeroed again. Assumes nothing.
 use mathlib.Core.Path.{_≡_, refl, sym, ap, _∙_, subst}
+use mathlib.Core.Bool.{cond}
 use mathlib.Core.List.{List, _++_}
 use Prim.Native.Nat.{ℕ, _-_, _*_, _/_, _≤_, _<_}
 use native.Mathlib.Omega.{arith}
 use borrow.Author.Tests.{lt-ltb, le-ltb, ltb-true, ltb-false}
-use lib.Dec.{ltb}
+use lib.Dec.{eqb, ltb}
 use Rattle.classes.proofs.Laws.{by-test}
 use lib.ListN.{length, replicate, length-append, length-replicate}
 use Rattle.reading.specs.Rows.{rowsOf}
-use Rattle.places.specs.Places.{rowsIn}
+use Rattle.places.specs.Sizes.{mostBytes, mostElements}
+use Rattle.places.specs.Places.{rowWords, rowsIn}
+use Rattle.refusals.specs.Refusals.{refusalNumber, refusalPlace}
 use Rattle.reading.specs.Table.{cells, puts}
 use Rattle.places.specs.declared.ElementNumber.{ElementNumber}
 use Rattle.refusals.specs.declared.Refusal.{Refusal}
@@ -17,14 +20,42 @@ use Rattle.refusals.specs.declared.Refusal.the-variants.{TextTooLong, TooManyEl
 use Rattle.reading.specs.declared.Reading.{Reading}
 use Rattle.reading.specs.declared.Reading.the-variants.{Read, Refused}
 use Rattle.reading.specs.Reading.{readingOf, tableBy, tableOf}
-use Rattle.reading.specs.Given.{count, Taken, Given}
+use Rattle.reading.specs.Given.{count, Taken, Given, too-long, too-many, short}
 use Rattle.reading.proofs.TableLaws.{length-puts, length-cells, puts-zeros}
 
 module _ (s : List ℕ) (w : ℕ) where
+  -- when each refusal is given, refusal by refusal
+  abbrev pub GivenAs : Refusal → Type 0
+  GivenAs (TextTooLong p) = (p .0 ≡ mostBytes) × (mostBytes < length s)
+  GivenAs (TooManyElements e) = (e .0 ≡ mostElements) × (length s ≤ mostBytes) × (mostElements < count s)
+  GivenAs (TableShort e) = (e .0 ≡ w / rowWords) × (length s ≤ mostBytes) × (count s ≤ mostElements) × (w < rowWords * count s)
+
+  -- and by the numbers of 01's table
+  abbrev At : ℕ → ℕ → Type 0
+  At n k =
+      cond (eqb n 1) ((k ≡ mostBytes) × (mostBytes < length s))
+      (cond (eqb n 3) ((k ≡ mostElements) × (length s ≤ mostBytes) × (mostElements < count s))
+      (cond (eqb n 4) ((k ≡ w / rowWords) × (length s ≤ mostBytes) × (count s ≤ mostElements) × (w < rowWords * count s)) ⊥))
+
+  numbered : {n k : ℕ} → Given s w n k → At n k
+  numbered (too-long h) = (refl, h)
+  numbered (too-many a h) = (refl, a, h)
+  numbered (short a b h) = (refl, a, b, h)
+
+  pub given-as : (r : Refusal) → Given s w (refusalNumber r) (refusalPlace r) → GivenAs r
+  given-as (TextTooLong p) g = numbered g
+  given-as (TooManyElements e) g = numbered g
+  given-as (TableShort e) g = numbered g
+
+  pub as-given : (r : Refusal) → GivenAs r → Given s w (refusalNumber r) (refusalPlace r)
+  as-given (TextTooLong p) g = subst (λ (k : ℕ). Given s w 1 k) (sym (g .0)) (too-long (g .1))
+  as-given (TooManyElements e) g = subst (λ (k : ℕ). Given s w 3 k) (sym (g .0)) (too-many (g .1) (g .2))
+  as-given (TableShort e) g = subst (λ (k : ℕ). Given s w 4 k) (sym (g .0)) (short (g .1) (g .2) (g .3))
+
   -- what an answer says of the text
   abbrev pub ReadingSays : Reading → Type 0
   ReadingSays (Read n) = (n .0 ≡ count s) × Taken s w
-  ReadingSays (Refused r) = Given s w r
+  ReadingSays (Refused r) = GivenAs r
 
   pub reading-says : ReadingSays (readingOf s w)
   unfolding readingOf
@@ -40,7 +71,7 @@ module _ (s : List ℕ) (w : ℕ) where
   unfolding readingOf
   taken-read t = let l = t .2 in simp (le-ltb 65536 (length s) (t .0), le-ltb 8192 (count s) (t .1), le-ltb (w / 3) (count s) (omega arith))
 
-  pub refused-reading : (r : Refusal) → Given s w r → readingOf s w ≡ Refused r
+  pub refused-reading : (r : Refusal) → GivenAs r → readingOf s w ≡ Refused r
   unfolding readingOf
   refused-reading (TextTooLong p) g = rw (lt-ltb 65536 (length s) (g .1)) (ap (λ (k : ℕ). Refused (TextTooLong (record { 0 = k }))) (sym (g .0)))
   refused-reading (TooManyElements e) g =

@@ -25,7 +25,7 @@ use Rattle.reading.specs.Rows.{Row, onto, linesOf, lineRows, linesRows, 
 use Rattle.reading.specs.Lines.{inLine}
 use Rattle.reading.specs.Promises.{NoChoice, ReadExactly, RefusedExactly, Inside, Ended, Laid, nothing, line-end, separator, comment, element, NothingLost, InOrder, StandInOrder, moved, LinesApart, LineAlone}
 use Rattle.reading.specs.declared.Reading.the-variants.{Read}
-use Rattle.reading.proofs.Answers.{ReadingSays, reading-says, taken-read, refused-reading}
+use Rattle.reading.proofs.Answers.{given-as, as-given, ReadingSays, reading-says, taken-read, refused-reading}
 use Rattle.reading.proofs.LineLaws.{front-skip, front-element}
 use Rattle.reading.proofs.TextLaws.{count-ended, count-byte, lines-ended, lines-byte, lines-none, text-first}
 
@@ -36,7 +36,10 @@ pub read-exactly : ReadExactly
 read-exactly s words n = ((λ e. subst (ReadingSays s words) e (reading-says s words)), λ x. taken-read s words (x .1) ∙ ap (λ (k : ℕ). Read (record { 0 = k })) (sym (x .0)))
 
 pub refused-exactly : RefusedExactly
-refused-exactly s words r = ((λ e. subst (ReadingSays s words) e (reading-says s words)), refused-reading s words r)
+refused-exactly s words r = (
+  (λ e. as-given s words r (subst (ReadingSays s words) e (reading-says s words))),
+  λ g. refused-reading s words r (given-as s words r g),
+)
 
 -- a part of what holds no line end holds none
 inside-take : (n : ℕ) (l : List ℕ) → Inside l → Inside (take n l)

@@ -10,6 +10,7 @@ use Rattle.classes.specs.Bytes.{endsLine, separates}
 use Rattle.elements.specs.declared.Kind.{Kind}
 use Rattle.reading.specs.Rows.{Row, lineRows, linesOf, rowsOf}
 use Rattle.places.specs.declared.ElementNumber.{ElementNumber}
+use Rattle.refusals.specs.Refusals.{refusalNumber, refusalPlace}
 use Rattle.refusals.specs.declared.Refusal.{Refusal}
 use Rattle.reading.specs.Reading.{readingOf, tableOf}
 use Rattle.reading.specs.Given.{count, Taken, Given}
@@ -26,9 +27,9 @@ NoChoice =
 abbrev pub ReadExactly : Type 0
 ReadExactly = (s : List ℕ) (words : ℕ) (n : ElementNumber) → (readingOf s words ≡ Read n) ↔ ((n .0 ≡ count s) × Taken s words)
 
--- Refusals 1, 3 and 4 are given exactly when 01 says, at its place.
+-- Refusals 1, 3 and 4 are given exactly when 01 says, with its number and at its place.
 abbrev pub RefusedExactly : Type 0
-RefusedExactly = (s : List ℕ) (words : ℕ) (r : Refusal) → (readingOf s words ≡ Refused r) ↔ Given s words r
+RefusedExactly = (s : List ℕ) (words : ℕ) (r : Refusal) → (readingOf s words ≡ Refused r) ↔ Given s words (refusalNumber r) (refusalPlace r)
 
 -- no byte of these ends a line
 abbrev pub Inside : List ℕ → Type 0
