@@ -1,4 +1,5 @@
--- The third demand: two texts that differ only inside one line, and what is the same in both. proofs/Promises.antt proves each statement.
+-- The third demand: two texts that differ only inside one line, and what is the same in both. proofs/Promises.antt and, of `AlwaysCommon`,
+-- proofs/Common.antt prove the statements.
 -- Assumes nothing.
 use Prim.Native.Nat.{ℕ, _+_, _≤_, _<_}
 use mathlib.Core.Path.{_≡_}
@@ -112,7 +113,7 @@ abbrev pub OpenedBelow : ℕ → Part → Type 0
 OpenedBelow n [] = ⊥
 OpenedBelow n (x ∷ p) = (opensPart x ≡ true) × (n < x .line)
 
--- "Pieces closed by a semicolon above the line, and pieces opened below it by constant, subtype or end, are always common."
+-- 'Pieces closed by a semicolon above the line, and pieces opened below it by "constant", "subtype" or "end", are always common.'
 abbrev pub AlwaysCommon : Type 0
 AlwaysCommon =
     (s t : List ℕ) (d : OneLine s t) (p : Part) → PieceOf s p ⊎ PieceOf t p → ClosedAbove (lineNumber d) p ⊎ OpenedBelow (lineNumber d) p

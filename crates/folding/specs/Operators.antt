@@ -24,7 +24,7 @@ relationOf LessEqual a b = leZ a b
 relationOf Greater a b = ltZ b a
 relationOf GreaterEqual a b = leZ b a
 
--- "All six relations hold on two truths, false below true": a truth's place in that order
+-- all six relations hold on two truths, false below true (000, 9.2.3): a truth's place in that order
 abbrev pub placeOf : Bool → ℤ
 placeOf false = pos 0
 placeOf true = pos 1

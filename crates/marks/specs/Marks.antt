@@ -90,7 +90,7 @@ abbrev pub directed : Value → Bool → ℤ → ℤ → Value
 directed mark false x y = rangeIn mark x y
 directed mark true x y = rangeIn mark y x
 
--- "Bounds are met in text order, for downto too."
+-- the bounds are met in text order, for downto too
 abbrev pub boundsIn : Value → Bool → Folded → Folded → Value
 boundsIn mark down (F.Whole x) (F.Whole y) = directed mark down x y
 boundsIn mark down (F.Whole x) (F.Truth u) = withoutOf (F.Truth u)

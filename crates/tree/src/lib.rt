@@ -77,7 +77,7 @@ const SHALLOWER: u64 = 6;
 
 const ROW_OF: u64 = 7;
 
-// "At most 32 .. stand open."
+// How many may stand open together.
 const MOST_OPEN: usize = 32;
 
 // A tree and its rows; or 01's refusals 5, 6, 7 with their element, and 8 with the rows that the table has.

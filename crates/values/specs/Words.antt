@@ -49,7 +49,7 @@ lowOf (Range low high) = wordOf low
 lowOf Truths = truthWord false
 lowOf (Without s) = 0
 
--- word 7: the high end; "A constant's second number is 0."
+-- word 7: the high end; a constant's second number is absent, so 0
 abbrev pub highOf : Value → ℕ
 highOf (Number z) = 0
 highOf (Truth t) = 0
