@@ -1,15 +1,20 @@
 /* Kawhiluhe: a proved reader for the VHDL of 01, as a static library for x86-64 Linux.
 
    A function takes any bytes and any tables, of any length and content, and always returns; docs/PROMISES.md says what is
-   proved. Nothing is kept between calls, nothing is allocated, no file is touched; a call takes at most 2 MB of stack.
+   proved. Nothing is kept between calls, nothing is allocated, no file is touched; a call takes at most 1 MB of stack.
    A pointer may be null where its length is 0. Tables must not overlap each other or the text.
 
-   A table is lent by the caller: a pointer and the number of words behind it. It has as many rows as fit whole. After a call it
+   A table is lent by the caller: a pointer and the number of words that it has. It has as many rows as fit whole. After a call it
    holds the rows and then zeros; after a refusal it is all zeros.
 
-   Lengths are in bytes for texts and names, and in words for tables. Places and numbers count from 0. */
+   Lengths are in bytes for texts, names and buffers, and in words for tables. Places and numbers count from 0, in two countings: a byte
+   place is a place in the text, an element number a row of the element table, where its byte place stands. */
 #ifndef KAWHILUHE_H
 #define KAWHILUHE_H
+
+/* The version: the first number changes where a caller must, the second where there is more, the third where there is none of either. */
+#define KAWHILUHE_VERSION "1.1.0"
+#define KAWHILUHE_VERSION_NUMBER 10100
 
 #ifdef __cplusplus
 extern "C" {
@@ -29,7 +34,7 @@ enum {
 };
 
 /* Refusals, in the order in which they are tested; of 5, 6, 7 the first element decides. 0 is none.
-   Behind each, its place. */
+   After each, its place. */
 enum {
     KAWHILUHE_TEXT_TOO_LONG = 1,       /* 65,536 */
     KAWHILUHE_TOO_MANY_ELEMENTS = 3,   /* 8,192 */
@@ -100,11 +105,12 @@ enum {
     KAWHILUHE_UNFOLDED = 3, /* a real, character or string literal, &, form 25 or 26 */
     KAWHILUHE_UNKNOWN = 4,  /* a name used with no claim above */
     KAWHILUHE_LEANS = 5,    /* a name used that is doubled, or whose item isn't in state 0 */
-    KAWHILUHE_KIND = 6,     /* integer and truth mixed, or a type as a number */
+    KAWHILUHE_KIND = 6,     /* integer and truth mixed, arithmetic on truths, logic on integers, a type as a number, or the
+                               reverse; a range on boolean */
     KAWHILUHE_DIVISOR = 7,  /* divisor zero */
     KAWHILUHE_EXPONENT = 8, /* negative exponent */
     KAWHILUHE_SIZE = 9,     /* a literal or result beyond 2147483647 in size */
-    KAWHILUHE_RANGE = 10,   /* outside its mark's range */
+    KAWHILUHE_RANGE = 10,   /* outside its mark's range; a non-null subtype range outside its parent's */
     KAWHILUHE_STATES = 11
 };
 
@@ -156,6 +162,39 @@ kawhiluhe_word kawhiluhe_lookup(const kawhiluhe_byte *text, kawhiluhe_word text_
 kawhiluhe_word kawhiluhe_lookup_items(const kawhiluhe_byte *text, kawhiluhe_word text_length, const kawhiluhe_word *elements,
                                       kawhiluhe_word element_words, const kawhiluhe_byte *name, kawhiluhe_word name_length,
                                       const struct kawhiluhe_item *items, kawhiluhe_word item_count);
+
+/* What the programs print of an answer, line by line. Each of these takes the tables that the answer was given with and the answer itself, by
+   its words, and fills the buffer with whole lines from the line `from` on: the first line is 0. After them the buffer holds zeros, one at
+   least. A caller begins at 0, writes the bytes used, and goes on at `next` until no line is left: what it has then written is the listing.
+   Where `next` is still `from` and a line is left, that line needs a larger buffer. No line of a survey's items is longer than its text by
+   more than 100 bytes, and no other line than 300. */
+struct kawhiluhe_filled {
+    kawhiluhe_word next; /* the line to go on with */
+    kawhiluhe_word used; /* how many bytes of the buffer the lines take: always fewer than it has, unless it has none */
+    kawhiluhe_word left; /* how many lines there are from `next` on; 0 at the end */
+};
+
+/* How many words the answers have. */
+enum { KAWHILUHE_ELEMENTS_WORDS = 3, KAWHILUHE_JUDGED_WORDS = 5, KAWHILUHE_SURVEYED_WORDS = 19 };
+
+/* `elements COUNT`, and `ELEMENT KIND FIRST LENGTH` to each; or `refused NO at PLACE`, as in all of them. */
+struct kawhiluhe_filled kawhiluhe_element_lines(const kawhiluhe_word *elements, kawhiluhe_word element_words,
+                                                const struct kawhiluhe_elements *answer, kawhiluhe_word answer_words, kawhiluhe_word from,
+                                                kawhiluhe_byte *out, kawhiluhe_word out_length);
+
+/* `rows COUNT passes yes` or `rows COUNT passes no at ROW`, and `ROW FORM FIRST COUNT SUBTREE OPERATOR` to each row. */
+struct kawhiluhe_filled kawhiluhe_tree_lines(const kawhiluhe_word *tree, kawhiluhe_word tree_words, const struct kawhiluhe_judged *answer,
+                                             kawhiluhe_word answer_words, kawhiluhe_word from, kawhiluhe_byte *out, kawhiluhe_word out_length);
+
+/* `pieces COUNT whole yes` or `no`, and a line to each item: its piece's number, what it is, its name, its value or its state. */
+struct kawhiluhe_filled kawhiluhe_survey_lines(const kawhiluhe_byte *text, kawhiluhe_word text_length, const kawhiluhe_word *elements,
+                                               kawhiluhe_word element_words, const kawhiluhe_word *items, kawhiluhe_word item_words,
+                                               const struct kawhiluhe_surveyed *answer, kawhiluhe_word answer_words, kawhiluhe_word from,
+                                               kawhiluhe_byte *out, kawhiluhe_word out_length);
+
+/* `pieces COUNT frame good whole no`, the eight numbers of each piece's record, the tally and the pair. */
+struct kawhiluhe_filled kawhiluhe_record_lines(const kawhiluhe_word *items, kawhiluhe_word item_words, const struct kawhiluhe_surveyed *answer,
+                                               kawhiluhe_word answer_words, kawhiluhe_word from, kawhiluhe_byte *out, kawhiluhe_word out_length);
 
 #ifdef __cplusplus
 }

@@ -1,6 +1,6 @@
 #!/usr/bin/env python3
 """Writes the tables that follow from the rules: crates/forms/specs/code/Picks.antt (which rule at which next kind), crates/forms/proofs/Hints.antt
-(the hint tables of the computed tests), crates/tables/src/lib.rt's byte string and counts, and the numbers in crates/tree/src/lib.rt of what the
+(the hint tables of the computed tests), crates/form_table/src/lib.rt's byte string and counts, and the numbers in crates/tree/src/lib.rt of what the
 code starts at. Reads crates/forms/specs/{Kinds,Names,Rules}.antt.
 No table is trusted: the checker computes the tests. Run it from the repository's root after an edit of the rules. Python 3, standard library."""
 import os
@@ -276,7 +276,7 @@ def main():
 -- for the end of the text. In it stands the rule's number and one more, or 0. Assumes nothing: the LL(1) test is computed.
 use Prim.Native.Nat.{ℕ}
 use mathlib.Core.List.{List, [], _∷_}
-use Rattle.ll.specs.Grammar.{predictBy}
+use Rattle.grammars.specs.Grammar.{predictBy}
 
 ''' + nest('picks', 'the table', g.picks) + '''abbrev pub predict : ℕ → ℕ → ℕ
 predict = predictBy picks
@@ -301,7 +301,7 @@ use mathlib.Core.Bool.{Bool, true, false}
           + flat('weights', 'the steps that each name may take beside those its elements pay for', 'ℕ', g.weights(lead))
           + flat('heights', 'how high the stack gets while a name is read, less one', 'ℕ', [x - 1 for x in g.heights()])
           + flat('spares', 'how many rows more than elements a name may give, and one', 'ℕ', g.spares()))
-    path = 'crates/tables/src/lib.rt'
+    path = 'crates/form_table/src/lib.rt'
     if os.path.exists(path):
         s = text(path)
         table = g.kinds + [c for r in g.picks for c in r] + [len(b) for _, b in g.rules]

@@ -8,7 +8,7 @@ use Rattle.classes.specs.Bytes.{isDigit, digitValue}
 use Rattle.arguments.specs.declared.Value.{Value}
 use Rattle.arguments.specs.declared.Value.the-variants.{Is, Nothing}
 
--- digits alone, behind those that spell v; a value above the most counts as the most
+-- digits alone, after those that spell v; a value above the most counts as the most
 unfoldable pub valueFrom : ℕ → ℕ → List ℕ → Value
 valueFrom most v [] = Is v
 valueFrom most v (b ∷ s) = elim (isDigit b) [ true ↦ valueFrom most (min most (v * 10 + digitValue b)) s | false ↦ Nothing ]

@@ -1,8 +1,8 @@
 // Many texts in one run, for comparing with a second program. A case on standard input is ten bytes and then the text: the mode, then three
 // numbers of three bytes each, high byte first: element rows, other rows, length. After what a case prints stands a line with a point.
 use console::Got;
-use console::surveys;
-use console::surveys::Shown;
+use console::OUT_ROOM;
+use console::Shown;
 use libc::STDIN_FILENO;
 ghost use Prim.Native.Nat.{_≤_};
 
@@ -23,9 +23,21 @@ fn number_at(head: &[u8], at: usize) -> usize {
     wide(head[at]) * 65536 + wide(head[at + 1]) * 256 + wide(head[at + 2])
 }
 
+fn listed(
+    text: &[u8],
+    table: &mut [u64],
+    rows: usize,
+    others: &mut [u64],
+    other_rows: usize,
+    shown: Shown,
+    out: &mut [u8],
+) {
+    console::survey(b"batch", text, table, rows, others, other_rows, shown, out);
+}
+
 // What a case asks for: the mode `e` lists elements, `s` the tree, `l` a survey's items, `r` its records, `q` the first line of its listing
 // alone, so that its cost is that of the reading. One table serves for trees and items.
-fn show(head: &[u8], text: &[u8], table: &mut [u64], others: &mut [u64]) {
+fn show(head: &[u8], text: &[u8], table: &mut [u64], others: &mut [u64], out: &mut [u8]) {
     if head.len() < 10 {
         return;
     }
@@ -33,36 +45,41 @@ fn show(head: &[u8], text: &[u8], table: &mut [u64], others: &mut [u64]) {
     let other_rows = number_at(head, 4);
     let mode = head[0];
     match mode {
-        101 => console::elements(text, table, rows),
-        115 => console::tree(text, table, rows, others, other_rows),
-        113 => surveys::survey(text, table, rows, others, other_rows, Shown::Head),
-        114 => surveys::survey(text, table, rows, others, other_rows, Shown::Records),
-        _ => surveys::survey(text, table, rows, others, other_rows, Shown::Items),
+        101 => console::elements(b"batch", text, table, rows, out),
+        115 => console::tree(b"batch", text, table, rows, others, other_rows, out),
+        113 => listed(text, table, rows, others, other_rows, Shown::Head, out),
+        114 => listed(text, table, rows, others, other_rows, Shown::Records, out),
+        _ => listed(text, table, rows, others, other_rows, Shown::Items, out),
     }
 }
 
 // One case: false where there is none.
-fn one(head: &mut [u8], text: &mut [u8], table: &mut [u64], others: &mut [u64]) -> bool {
+fn one(
+    head: &mut [u8],
+    text: &mut [u8],
+    table: &mut [u64],
+    others: &mut [u64],
+    out: &mut [u8],
+) -> bool {
     let Got::Bytes(n) = console::read_text(STDIN_FILENO, head) else {
         return false;
     };
     if n < 10 {
         return false;
     }
-    let size = lent::least(number_at(head, 7), text.len());
+    let size = lent_tables::least(number_at(head, 7), text.len());
     let Got::Bytes(k) = console::read_text(STDIN_FILENO, &mut text[..size]) else {
         return false;
     };
-    show(head, lent::front(text, k), table, others);
-    console::words(b".\n");
-    true
+    show(head, lent_tables::front(text, k), table, others, out);
+    console::write_out(b"batch", b".\n")
 }
 
 // At most so many cases.
-fn cases(head: &mut [u8], text: &mut [u8], table: &mut [u64], others: &mut [u64]) {
+fn cases(head: &mut [u8], text: &mut [u8], table: &mut [u64], others: &mut [u64], out: &mut [u8]) {
     let mut left: u64 = 1000000000;
     while 0 < left {
-        if !one(head, text, table, others) {
+        if !one(head, text, table, others, out) {
             return;
         }
         left -= 1;
@@ -74,5 +91,6 @@ fn main() {
     let mut text = [0u8; 131072];
     let mut table = [0u64; places::ROW_WORDS * places::MOST_ELEMENTS];
     let mut others = [0u64; 5 * places::MOST_ELEMENTS];
-    cases(&mut head, &mut text, &mut table, &mut others);
+    let mut out = [0u8; OUT_ROOM];
+    cases(&mut head, &mut text, &mut table, &mut others, &mut out);
 }

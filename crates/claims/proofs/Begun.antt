@@ -11,10 +11,11 @@ use Rattle.laws.proofs.Laws.{both-left, both-right}
 use Rattle.pieces.specs.Kinds.{mark, isName, isHeading, behindWord, hasName, endsAt, isClosing, claimMark, markOf}
 use Rattle.pieces.specs.declared.Mark.{Mark}
 use Rattle.records.specs.Records.{isClaim}
-use Rattle.worded.specs.Elements.{Element, Piece, at, kinds}
-use Rattle.worded.specs.Names.{sameAs}
+use Rattle.meaning.specs.Elements.{Element, Piece, at, kinds}
+use Rattle.meaning.specs.Sameness.{sameAs}
 use Rattle.meaning.specs.Names.{classOf, ownName, claims}
-use Rattle.claims.specs.Claims.{Spells, Claims, basic, extended, OneRule}
+use Rattle.meaning.proofs.Claimed.{claims-one}
+use Rattle.claims.specs.Claims.{IsCalled, ClaimsName, basic, extended, OneRule}
 use Rattle.claims.proofs.Spelling.{isSpelt, is-spelt, spells-is}
 
 kinds-at : (p : Piece) (i : ℕ) → getD (kinds p) i 0 ≡ at p i .kind
@@ -77,33 +78,33 @@ at-begins : (p : Piece) → Begins (at p 0 .kind) → Begins (getD (kinds p) 0 0
 at-begins p (inl e) = inl (kinds-at p 0 ∙ e)
 at-begins p (inr e) = inr (kinds-at p 0 ∙ e)
 
-pub is-claimed : (name : List ℕ) (p : Piece) → isClaimed name p ≡ true → Claims name p
+pub is-claimed : (name : List ℕ) (p : Piece) → isClaimed name p ≡ true → ClaimsName name p
 is-claimed name p h =
     (begins-at p (class-begins (kinds p) (both-left (isClaim (classOf p)) (isSpelt name (ownName p)) h)), is-spelt name (at p 1) (both-right (isClaim (classOf p)) (isSpelt name (ownName p)) h))
 
-spells-name : (name : List ℕ) (x : Element) → Spells name x → isName (x .kind) ≡ true
+spells-name : (name : List ℕ) (x : Element) → IsCalled name x → isName (x .kind) ≡ true
 spells-name name x (inl k) = rw (k .0)
 spells-name name x (inr k) = rw (k .0)
 
-pub claims-is : (name : List ℕ) (p : Piece) → Claims name p → isClaimed name p ≡ true
+pub claims-is : (name : List ℕ) (p : Piece) → ClaimsName name p → isClaimed name p ≡ true
 claims-is name p c =
     rw (begins-class (kinds p) (at-begins p (c .0)) (ap isName (kinds-at p 1) ∙ spells-name name (at p 1) (c .1))) (spells-is name (at p 1) (c .1))
 
 -- ---- by the survey's rule
 
 pub one-rule : OneRule
-unfolding claims sameAs
+unfolding sameAs
 one-rule name p = ((λ c. there c (c .1)), back)
   where
-    class-of : Claims name p → isClaim (classOf p) ≡ true
+    class-of : ClaimsName name p → isClaim (classOf p) ≡ true
     class-of c = both-left (isClaim (classOf p)) (isSpelt name (ownName p)) (claims-is name p c)
 
-    spelt-of : Claims name p → isSpelt name (ownName p) ≡ true
+    spelt-of : ClaimsName name p → isSpelt name (ownName p) ≡ true
     spelt-of c = both-right (isClaim (classOf p)) (isSpelt name (ownName p)) (claims-is name p c)
 
-    there : Claims name p → Spells name (at p 1) → (claims (basic name) p ≡ true) ⊎ (claims (extended name) p ≡ true)
-    there c (inl k) = inl (rw (class-of c, eq-eqb (ownName p .kind) 1 (k .0)) (spelt-of c))
-    there c (inr k) = inr (rw (class-of c, eq-eqb (ownName p .kind) 2 (k .0)) (spelt-of c))
+    there : ClaimsName name p → IsCalled name (at p 1) → (claims (basic name) p ≡ true) ⊎ (claims (extended name) p ≡ true)
+    there c (inl k) = inl (claims-one (basic name) p ∙ rw (class-of c, eq-eqb (ownName p .kind) 1 (k .0)) (spelt-of c))
+    there c (inr k) = inr (claims-one (extended name) p ∙ rw (class-of c, eq-eqb (ownName p .kind) 2 (k .0)) (spelt-of c))
 
     opens : (a b : Bool) {x : Bool} → (a && cond b x false) ≡ true → (a ≡ true) × (x ≡ true)
     opens true true h = (refl, h)
@@ -113,6 +114,6 @@ one-rule name p = ((λ c. there c (c .1)), back)
     joint : (a b : Bool) → a ≡ true → b ≡ true → (a && b) ≡ true
     joint a b e f = rw (e, f)
 
-    back : (claims (basic name) p ≡ true) ⊎ (claims (extended name) p ≡ true) → Claims name p
-    back (inl h) = let z = opens (isClaim (classOf p)) (eqb (ownName p .kind) 1) h in is-claimed name p (joint (isClaim (classOf p)) (isSpelt name (ownName p)) (z .0) (z .1))
-    back (inr h) = let z = opens (isClaim (classOf p)) (eqb (ownName p .kind) 2) h in is-claimed name p (joint (isClaim (classOf p)) (isSpelt name (ownName p)) (z .0) (z .1))
+    back : (claims (basic name) p ≡ true) ⊎ (claims (extended name) p ≡ true) → ClaimsName name p
+    back (inl h) = let z = opens (isClaim (classOf p)) (eqb (ownName p .kind) 1) (sym (claims-one (basic name) p) ∙ h) in is-claimed name p (joint (isClaim (classOf p)) (isSpelt name (ownName p)) (z .0) (z .1))
+    back (inr h) = let z = opens (isClaim (classOf p)) (eqb (ownName p .kind) 2) (sym (claims-one (extended name) p) ∙ h) in is-claimed name p (joint (isClaim (classOf p)) (isSpelt name (ownName p)) (z .0) (z .1))

@@ -11,18 +11,18 @@ use Rattle.words.specs.Words.{reservedWords, delimiters, bytesOf, begins, spell
 use Rattle.numbers.specs.Numbers.{digits, digitIn, spelled, leading, exponentHead, exponent, belowBase, based, pointed, number}
 use Rattle.quoted.specs.Quoted.{closedFrom}
 use Rattle.elements.specs.Element.{unreadable, identifier, extended, delimiter, ruled, spoilsNumber, elementAt}
-use Rattle.reading.specs.Rows.{linesOf, lineRows, linesRows, rowsOf}
-use Rattle.alike.specs.Spelling.{spelt}
+use Rattle.element_reading.specs.Rows.{linesOf, lineRows, linesRows, rowsOf}
+use Rattle.same_names.specs.Spelling.{spelt}
 use Rattle.pieces.specs.Cutting.{cut}
 use Rattle.pieces.specs.Kinds.{isHeading, behindWord, hasName, endsAt, isClosing, claimMark, markOf}
 use Rattle.lookup.specs.Lookup.{foundOf}
 use Rattle.lookup.specs.declared.Found.{Found}
 use Rattle.lookup.specs.declared.Found.the-variants.{At, Nothing}
-use Rattle.worded.specs.Elements.{at, kinds, elementsOf, piecesOf}
-use Rattle.packages.specs.Survey.{surveyOf, elementsAfter, itemsAfter}
-use Rattle.packages.specs.declared.Summary.{Summary}
-use Rattle.packages.specs.declared.Outcome.the-variants.{Done}
-use Rattle.packages.proofs.Promises.{surveyed}
+use Rattle.meaning.specs.Elements.{at, kinds, elementsOf, piecesOf}
+use Rattle.survey_reading.specs.Survey.{surveyOf, elementsAfter, itemsAfter}
+use Rattle.survey_reading.specs.declared.Summary.{Summary}
+use Rattle.survey_reading.specs.declared.Outcome.the-variants.{Done}
+use Rattle.survey_reading.proofs.Promises.{surveyed}
 use Rattle.claims.proofs.Finding.{firstOf}
 use Rattle.claims.proofs.Promises.{found-after}
 

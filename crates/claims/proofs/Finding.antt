@@ -9,22 +9,22 @@ use borrow.Author.Tests.{le-leb}
 use lib.ListN.{length}
 use Rattle.laws.proofs.Laws.{clash}
 use Rattle.places.specs.Places.{cellAt}
-use Rattle.alike.specs.Spelling.{spelledAs}
-use Rattle.reading.specs.Rows.{rowsOf}
-use Rattle.reading.proofs.Promises.{stand-in-order}
+use Rattle.same_names.specs.Spelling.{spelledAs}
+use Rattle.element_reading.specs.Rows.{rowsOf}
+use Rattle.element_reading.proofs.Promises.{stand-in-order}
 use Rattle.records.specs.Records.{wordAt, isClaim}
-use Rattle.lookup.specs.Lookup.{isNamed, claimsName, firstFrom}
+use Rattle.lookup.specs.Lookup.{isNamed, claimsName, foundFrom}
 use Rattle.lookup.specs.declared.Found.{Found}
 use Rattle.lookup.specs.declared.Found.the-variants.{At, Nothing}
 use Rattle.operands.specs.Operands.{bytesAt}
-use Rattle.worded.specs.Elements.{Piece, at, piecesOf}
-use Rattle.worded.proofs.Tables.{elementAt, cell-word, element-at, row-within}
+use Rattle.meaning.specs.Elements.{Piece, at, piecesOf}
+use Rattle.meaning.proofs.Tables.{elementAt, cell-word, element-at, row-within}
 use Rattle.meaning.specs.Names.{classOf, ownName, Done}
 use Rattle.meaning.proofs.Records.{piecesDone}
 use Rattle.meaning.proofs.Places.{tableOf}
 use Rattle.meaning.proofs.Words.{pieceAt, itemTable}
 use Rattle.meaning.proofs.Claims.{claim-at, name-element, same-beside}
-use Rattle.claims.specs.Claims.{Claims, NoneClaims, FirstClaims}
+use Rattle.claims.specs.Claims.{ClaimsName, NoneClaims, FirstClaims}
 use Rattle.claims.proofs.Spelling.{isSpelt}
 use Rattle.claims.proofs.Begun.{isClaimed, is-claimed, claims-is}
 
@@ -53,7 +53,7 @@ abbrev pub firstOf : List ℕ → List Piece → ℕ → Found
 firstOf name [] j = Nothing
 firstOf name (p ∷ ps) j = elim (isClaimed name p) [ true ↦ At j | false ↦ firstOf name ps (suc j) ]
 
-empty-none : (name : List ℕ) → Claims name [] → ⊥
+empty-none : (name : List ℕ) → ClaimsName name [] → ⊥
 unfolding at
 empty-none name (inl e, h) = let z : _≡_ {A = ℕ} 0 53 = e in omega arith
 empty-none name (inr e, h) = let z : _≡_ {A = ℕ} 0 129 = e in omega arith
@@ -65,25 +65,25 @@ empty-not name = go (isClaimed name []) refl
     go true e = absurd (empty-none name (is-claimed name [] e))
     go false e = refl
 
-none-first : (f : ℕ → Bool) (j m : ℕ) → ((k : ℕ) → f (j + k) ≡ false) → firstFrom f j m ≡ Nothing
-unfolding firstFrom
+none-first : (f : ℕ → Bool) (j m : ℕ) → ((k : ℕ) → f (j + k) ≡ false) → foundFrom f j m ≡ Nothing
+unfolding foundFrom
 none-first f j zero h = refl
 none-first f j (suc m) h =
     let o : j ≡ j + 0 = omega arith in
     let e : f j ≡ false = ap f o ∙ h 0 in
-    rw (e, firstFrom) (none-first f (suc j) m (λ k. let n : suc j + k ≡ j + suc k = omega arith in ap f n ∙ h (suc k)))
+    rw (e, foundFrom) (none-first f (suc j) m (λ k. let n : suc j + k ≡ j + suc k = omega arith in ap f n ∙ h (suc k)))
 
-pub first-of : (name : List ℕ) (f : ℕ → Bool) (ps : List Piece) (j m : ℕ) → length ps ≤ m → ((k : ℕ) → f (j + k) ≡ isClaimed name (pieceAt ps k)) → firstFrom f j m ≡ firstOf name ps j
-unfolding firstFrom
+pub first-of : (name : List ℕ) (f : ℕ → Bool) (ps : List Piece) (j m : ℕ) → length ps ≤ m → ((k : ℕ) → f (j + k) ≡ isClaimed name (pieceAt ps k)) → foundFrom f j m ≡ firstOf name ps j
+unfolding foundFrom
 first-of name f [] j m l h = none-first f j m (λ k. h k ∙ empty-not name)
 first-of name f (p ∷ ps) j zero l h = absurd (omega arith)
 first-of name f (p ∷ ps) j (suc m) l h =
     let o : j ≡ j + 0 = omega arith in
     go (isClaimed name p) (ap f o ∙ h 0) (first-of name f ps (suc j) m (omega arith) (λ k. let n : suc j + k ≡ j + suc k = omega arith in ap f n ∙ h (suc k)))
   where
-    go : (b : Bool) → f j ≡ b → firstFrom f (suc j) m ≡ firstOf name ps (suc j) → firstFrom f j (suc m) ≡ elim b [ true ↦ At j | false ↦ firstOf name ps (suc j) ]
-    go true e r = rw (e, firstFrom)
-    go false e r = rw (e, firstFrom) r
+    go : (b : Bool) → f j ≡ b → foundFrom f (suc j) m ≡ firstOf name ps (suc j) → foundFrom f j (suc m) ≡ elim b [ true ↦ At j | false ↦ firstOf name ps (suc j) ]
+    go true e r = rw (e, foundFrom)
+    go false e r = rw (e, foundFrom) r
 
 -- ---- what the search says, and that it says no less
 
@@ -95,10 +95,10 @@ module _ (name : List ℕ) where
   abbrev From : List Piece → ℕ → ℕ → Type 0
   From ps j k = (i : ℕ) × (j + i ≡ k) × FirstClaims name ps i
 
-  none-front : (p : Piece) (ps : List Piece) → (Claims name p → ⊥) → NoneClaims name ps → NoneClaims name (p ∷ ps)
+  none-front : (p : Piece) (ps : List Piece) → (ClaimsName name p → ⊥) → NoneClaims name ps → NoneClaims name (p ∷ ps)
   none-front p ps un h = (un, h)
 
-  further : (p : Piece) (ps : List Piece) (j k : ℕ) → (Claims name p → ⊥) → From ps (suc j) k → From (p ∷ ps) j k
+  further : (p : Piece) (ps : List Piece) (j k : ℕ) → (ClaimsName name p → ⊥) → From ps (suc j) k → From (p ∷ ps) j k
   further p ps j k un (i, e, f) = (
     suc i,
     omega arith,
@@ -113,10 +113,10 @@ module _ (name : List ℕ) where
     },
   )
 
-  not-claimed : (p : Piece) → isClaimed name p ≡ false → Claims name p → ⊥
+  not-claimed : (p : Piece) → isClaimed name p ≡ false → ClaimsName name p → ⊥
   not-claimed p e c = false≢true (sym e ∙ claims-is name p c)
 
-  claimed-not : (p : Piece) → (Claims name p → ⊥) → isClaimed name p ≡ false
+  claimed-not : (p : Piece) → (ClaimsName name p → ⊥) → isClaimed name p ≡ false
   claimed-not p un = go (isClaimed name p) refl
     where
       go : (b : Bool) → isClaimed name p ≡ b → b ≡ false
@@ -133,7 +133,7 @@ module _ (name : List ℕ) where
           (0, omega arith, record { before = []; piece = p; after = ps; split = refl; number = refl; claimed = is-claimed name p e; unclaimed = tt })
       go false e q ih = further p ps j k (not-claimed p e) (ih q)
 
-  pub first-at : (before : List Piece) (p : Piece) (after : List Piece) (j : ℕ) → NoneClaims name before → Claims name p → firstOf name (before ++ p ∷ after) j ≡ At (j + length before)
+  pub first-at : (before : List Piece) (p : Piece) (after : List Piece) (j : ℕ) → NoneClaims name before → ClaimsName name p → firstOf name (before ++ p ∷ after) j ≡ At (j + length before)
   first-at [] p after j n c = let o : j ≡ j + 0 = omega arith in rw (claims-is name p c, firstOf) (ap At o)
   first-at (q ∷ before) p after j n c =
       let o : suc j + length before ≡ j + suc (length before) = omega arith in

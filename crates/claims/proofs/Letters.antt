@@ -29,13 +29,13 @@ use Rattle.elements.specs.declared.Kind.{Kind}
 use Rattle.elements.specs.declared.Literal.{Literal}
 use Rattle.elements.specs.declared.Found.{Found}
 use Rattle.elements.specs.declared.Found.the-variants.{Skip, Element}
-use Rattle.reading.specs.Rows.{Row, onto, linesOf, lineRows, linesRows, rowsOf}
-use Rattle.reading.specs.Promises.{InOrder}
-use Rattle.reading.proofs.TextLaws.{lines-ended, lines-byte}
-use Rattle.reading.proofs.Promises.{stand-in-order}
+use Rattle.element_reading.specs.Rows.{Row, onto, linesOf, lineRows, linesRows, rowsOf}
+use Rattle.element_reading.specs.Promises.{InOrder}
+use Rattle.element_reading.proofs.TextLaws.{lines-ended, lines-byte}
+use Rattle.element_reading.proofs.Promises.{stand-in-order}
 use Rattle.pieces.specs.Cutting.{cut, joined}
-use Rattle.worded.specs.Elements.{Piece, closes, opens, at, elementsOf, piecesOf}
-use Rattle.worded.specs.Elements as worded
+use Rattle.meaning.specs.Elements.{Piece, closes, opens, at, elementsOf, piecesOf}
+use Rattle.meaning.specs.Elements as worded
 use Rattle.claims.specs.Claims.{identifierKind, extendedKind, backslash}
 
 -- ---- one element
@@ -134,7 +134,7 @@ fits ticks s = fits-unless (getD s 0 0) s (ruled ticks s) (fits-ruled ticks s)
 
 -- ---- the rows of a text
 
--- rows that begin at the byte `from` or behind it, where the text goes on with these bytes
+-- rows that begin at the byte `from` or after it, where the text goes on with these bytes
 abbrev Begun : ℕ → List ℕ → List Row → Type 0
 Begun from s [] = Unit {0}
 Begun from s (r ∷ rs) = (from ≤ r .first) × Begins (r .kind) (getD s (r .first - from) 0) × Begun from s rs

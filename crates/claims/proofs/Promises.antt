@@ -12,13 +12,15 @@ use lib.Dec.{leb}
 use lib.ListN.{length, getD, length-append}
 use Rattle.laws.proofs.Laws.{clash}
 use Rattle.classes.specs.Bytes.{isLetter, lower}
-use Rattle.reading.specs.Rows.{rowsOf}
-use Rattle.reading.proofs.Answers.{taken-read, table-read}
+use Rattle.element_reading.specs.Rows.{rowsOf}
+use Rattle.element_reading.proofs.Answers.{taken-read, table-read}
 use Rattle.pieces.specs.Records.{recordWords}
 use Rattle.lookup.specs.Lookup.{claimsName, foundOf}
+use Rattle.lookup.specs.Finds.{Finds}
+use Rattle.lookup.proofs.Promises.{found-exactly}
 use Rattle.lookup.specs.declared.Found.{Found}
 use Rattle.lookup.specs.declared.Found.the-variants.{At, Nothing}
-use Rattle.worded.specs.Elements.{Piece, at, piecesOf}
+use Rattle.meaning.specs.Elements.{Piece, at, piecesOf}
 use Rattle.meaning.specs.Names.{Done}
 use Rattle.meaning.specs.Items.{doneOf, donesFrom, donesOf, recordsOf}
 use Rattle.meaning.proofs.Records.{piecesDone}
@@ -26,12 +28,13 @@ use Rattle.meaning.proofs.Places.{tableOf}
 use Rattle.meaning.proofs.Words.{items-length}
 use Rattle.meaning.proofs.Words as held
 use Rattle.meaning.proofs.Claims.{dones-length}
-use Rattle.packages.specs.Survey.{surveyOf, elementsAfter, itemsAfter, itemTable}
-use Rattle.packages.specs.declared.Summary.{Summary}
-use Rattle.packages.specs.declared.Outcome.the-variants as O
-use Rattle.packages.proofs.Promises.{surveyed, says-of-records}
+use Rattle.survey_reading.specs.Survey.{surveyOf, elementsAfter, itemsAfter, itemTable}
+use Rattle.survey_reading.specs.declared.Summary.{Summary}
+use Rattle.survey_reading.specs.declared.Outcome.the-variants as O
+use Rattle.survey_reading.proofs.Promises.{surveyed, says-of-records}
+use Rattle.survey_reading.proofs.Permits.{left-so}
 use Rattle.kawhiluhe.specs.Numbers.{foundNumber}
-use Rattle.claims.specs.Claims.{extendedKind, backslash, lowered, Spells, NoneClaims, FirstClaims, FindsFirst, ByBackslash, FindsInStructs, FindsNumber}
+use Rattle.claims.specs.Claims.{extendedKind, backslash, lowered, IsCalled, NoneClaims, FirstClaims, SaysFirst, FindsFirst, ByBackslash, FindsInStructs, FindsNumber}
 use Rattle.claims.proofs.Finding.{claims-at, firstOf, first-of, at-same, at-first, first-at, nothing-none, none-nothing}
 use Rattle.claims.proofs.Letters.{Named, piece-named}
 
@@ -76,22 +79,27 @@ found-after s e w x h name =
     let t = surveyed s e w .0 (x, h) in
     ap₂ (λ (a b : List ℕ). foundOf s a name b) (r .1 ∙ table-read s e (taken-read s e (t .0))) (r .0) ∙ found-held s name (e - 3 * length (rowsOf s)) w
 
-pub finds-first : FindsFirst
-finds-first s e w x h name = ((λ k. (there k, back k)), ((λ q. nothing-none name (piecesOf s) 0 (sym f ∙ q)), λ n. f ∙ none-nothing name (piecesOf s) 0 n))
+says-first : (name : List ℕ) (ps : List Piece) (x : Found) → x ≡ firstOf name ps 0 → SaysFirst name ps x
+says-first name ps x f = ((λ k. (there k, back k)), ((λ q. nothing-none name ps 0 (sym f ∙ q)), λ n. f ∙ none-nothing name ps 0 n))
   where
-    f : foundOf s (elementsAfter s e w) name (itemsAfter s e w) ≡ firstOf name (piecesOf s) 0
-    f = found-after s e w x h name
-
-    there : (k : ℕ) → foundOf s (elementsAfter s e w) name (itemsAfter s e w) ≡ At k → FirstClaims name (piecesOf s) k
+    there : (k : ℕ) → x ≡ At k → FirstClaims name ps k
     there k q =
-        let z = at-first name (piecesOf s) 0 k (sym f ∙ q) in
+        let z = at-first name ps 0 k (sym f ∙ q) in
         let o : z .0 ≡ k = sym (zero-add (z .0)) ∙ z .1 in
-        subst (FirstClaims name (piecesOf s)) o (z .2)
+        subst (FirstClaims name ps) o (z .2)
 
-    back : (k : ℕ) → FirstClaims name (piecesOf s) k → foundOf s (elementsAfter s e w) name (itemsAfter s e w) ≡ At k
+    back : (k : ℕ) → FirstClaims name ps k → x ≡ At k
     back k c =
         f ∙ ap (λ (l : List Piece). firstOf name l 0) (c .split) ∙ first-at name (c .before) (c .piece) (c .after) 0 (c .unclaimed) (c .claimed)
         ∙ ap At (zero-add (length (c .before)) ∙ c .number)
+
+pub finds-first : FindsFirst
+finds-first s t u name x l g =
+    let q = left-so s t u l in
+    says-first name (piecesOf s) x
+    (found-exactly s t name u x .0 g
+    ∙ ap₂ (λ (a b : List ℕ). foundOf s a name b) (q .elements-are) (q .items-are)
+    ∙ found-after s (q .elementWords) (q .itemWords) (q .summary) (q .done) name)
 
 at-nothing : (i : ℕ) → At i ≡ Nothing → ⊥
 at-nothing i e = let z : _≡_ {A = ℕ} 0 1 = cc in clash z
@@ -125,7 +133,7 @@ by-backslash text name k f = go (f .claimed .1)
     named : Named (at (f .piece) 1)
     named = piece-named text (f .before) (f .piece) (f .after) 1 (f .split)
 
-    go : Spells name (at (f .piece) 1) → (at (f .piece) 1 .kind ≡ extendedKind) ↔ (getD name 0 0 ≡ backslash)
+    go : IsCalled name (at (f .piece) 1) → (at (f .piece) 1 .kind ≡ extendedKind) ↔ (getD name 0 0 ≡ backslash)
     go (inl s) = (
       (λ e. absurd (omega (arith, s .0))),
       λ e. absurd
@@ -137,16 +145,21 @@ by-backslash text name k f = go (f .claimed .1)
 -- ---- over item structs, and as a number
 
 pub finds-in-structs : FindsInStructs
-finds-in-structs s e w x h name structs q = rw q (finds-first s e w x h name)
+finds-in-structs s t u name structs x l q g = finds-first s t u name x l (subst (λ (v : List ℕ). Finds s t name v x) q g)
 
 -- a piece that is found is one of them
 first-within : (name : List ℕ) (ps : List Piece) (k : ℕ) → FirstClaims name ps k → k < length ps
 first-within name ps k f = omega (arith, f .number, ap length (f .split), length-append (f .before) (f .piece ∷ f .after))
 
 pub finds-number : FindsNumber
-finds-number s e w x h name = go (foundOf s (elementsAfter s e w) name (itemsAfter s e w)) (length (itemsAfter s e w) / recordWords) (rw (says-of-records s e w x h .0) (room-held s name w)) (finds-first s e w x h name)
+finds-number s t u name x l g = go x (length u / recordWords) room (finds-first s t u name x l g)
   where
-    go : (f : Found) (none : ℕ) → length (piecesOf s) ≤ none → ((k : ℕ) → (f ≡ At k) ↔ FirstClaims name (piecesOf s) k) × ((f ≡ Nothing) ↔ NoneClaims name (piecesOf s))
+    room : length (piecesOf s) ≤ length u / recordWords
+    room =
+        let q = left-so s t u l in
+        rw (q .items-are ∙ says-of-records s (q .elementWords) (q .itemWords) (q .summary) (q .done) .0) (room-held s name (q .itemWords))
+
+    go : (f : Found) (none : ℕ) → length (piecesOf s) ≤ none → SaysFirst name (piecesOf s) f
         → ((k : ℕ) → k < length (piecesOf s) → (foundNumber f none ≡ k) ↔ FirstClaims name (piecesOf s) k) × ((length (piecesOf s) ≤ foundNumber f none) ↔ NoneClaims name (piecesOf s))
     go (At i) none room q = (
       (λ k l. ((λ z. q .0 k .0 (ap At z)), λ c. at-same i k (q .0 k .1 c))),

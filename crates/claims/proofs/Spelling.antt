@@ -8,10 +8,10 @@ use borrow.Author.Tests.{eq-eqb, eqb-true}
 use lib.Dec.{eqb}
 use Rattle.laws.proofs.Laws.{clash, both-left, both-right}
 use Rattle.classes.specs.Bytes.{lower}
-use Rattle.alike.specs.Alike.{byKind}
-use Rattle.alike.specs.Spelling.{spelt}
-use Rattle.worded.specs.Elements.{Element}
-use Rattle.claims.specs.Claims.{lowered, Spells}
+use Rattle.same_names.specs.Alike.{byKind}
+use Rattle.same_names.specs.Spelling.{spelt}
+use Rattle.meaning.specs.Elements.{Element}
+use Rattle.claims.specs.Claims.{lowered, IsCalled}
 
 pub spelt-lowered : (a b : List ℕ) → spelt true a b ≡ true → lowered a ≡ lowered b
 unfolding spelt lowered
@@ -58,13 +58,13 @@ by-kind (suc zero) a b h = inl (refl, h)
 by-kind (suc (suc zero)) a b h = inr (refl, h)
 by-kind (suc (suc (suc k))) a b h = absurd (false≢true h)
 
-pub is-spelt : (name : List ℕ) (x : Element) → isSpelt name x ≡ true → Spells name x
+pub is-spelt : (name : List ℕ) (x : Element) → isSpelt name x ≡ true → IsCalled name x
 is-spelt name x h = go (by-kind (x .kind) (spelt true (x .bytes) name) (spelt false (x .bytes) name) h)
   where
-    go : ((x .kind ≡ 1) × (spelt true (x .bytes) name ≡ true)) ⊎ ((x .kind ≡ 2) × (spelt false (x .bytes) name ≡ true)) → Spells name x
+    go : ((x .kind ≡ 1) × (spelt true (x .bytes) name ≡ true)) ⊎ ((x .kind ≡ 2) × (spelt false (x .bytes) name ≡ true)) → IsCalled name x
     go (inl k) = inl (k .0, spelt-lowered (x .bytes) name (k .1))
     go (inr k) = inr (k .0, spelt-same (x .bytes) name (k .1))
 
-pub spells-is : (name : List ℕ) (x : Element) → Spells name x → isSpelt name x ≡ true
+pub spells-is : (name : List ℕ) (x : Element) → IsCalled name x → isSpelt name x ≡ true
 spells-is name x (inl k) = rw (k .0) (lowered-spelt (x .bytes) name (k .1))
 spells-is name x (inr k) = rw (k .0) (same-spelt (x .bytes) name (k .1))

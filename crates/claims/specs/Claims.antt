@@ -11,15 +11,14 @@ use Rattle.elements.specs.Kinds.{kindNumber}
 use Rattle.elements.specs.declared.Kind.{Kind}
 use Rattle.pieces.specs.Kinds.{word-constant, word-subtype}
 use Rattle.pieces.specs.Records.{recordWords}
-use Rattle.worded.specs.Elements.{Element, Piece, at, piecesOf}
+use Rattle.meaning.specs.Elements.{Element, Piece, at, piecesOf}
 use Rattle.meaning.specs.Names.{claims}
-use Rattle.lookup.specs.Lookup.{foundOf}
+use Rattle.lookup.specs.Finds.{Finds}
 use Rattle.lookup.specs.Structs.{wordsOf}
 use Rattle.lookup.specs.declared.Item.{Item}
+use Rattle.lookup.specs.declared.Found.{Found}
 use Rattle.lookup.specs.declared.Found.the-variants.{At, Nothing}
-use Rattle.packages.specs.Survey.{surveyOf, elementsAfter, itemsAfter}
-use Rattle.packages.specs.declared.Summary.{Summary}
-use Rattle.packages.specs.declared.Outcome.the-variants.{Done}
+use Rattle.survey_reading.specs.Permitted.{Leaves}
 use Rattle.kawhiluhe.specs.Numbers.{foundNumber}
 
 -- the kinds of elements that are names, and the byte at both ends of an extended one
@@ -39,17 +38,17 @@ lowered (b ∷ l) = lower b ∷ lowered l
 
 -- an element is the name that the bytes spell: an identifier has these bytes, case aside; an extended one has just these, its two backslashes
 -- among them; any other element is no name
-abbrev pub Spells : List ℕ → Element → Type 0
-Spells name x = ((x .kind ≡ identifierKind) × (lowered (x .bytes) ≡ lowered name)) ⊎ ((x .kind ≡ extendedKind) × (x .bytes ≡ name))
+abbrev pub IsCalled : List ℕ → Element → Type 0
+IsCalled name x = ((x .kind ≡ identifierKind) × (lowered (x .bytes) ≡ lowered name)) ⊎ ((x .kind ≡ extendedKind) × (x .bytes ≡ name))
 
 -- "A piece claims a name if it begins with constant or subtype and then a name, broken or not."
-abbrev pub Claims : List ℕ → Piece → Type 0
-Claims name p = ((at p 0 .kind ≡ word-constant) ⊎ (at p 0 .kind ≡ word-subtype)) × Spells name (at p 1)
+abbrev pub ClaimsName : List ℕ → Piece → Type 0
+ClaimsName name p = ((at p 0 .kind ≡ word-constant) ⊎ (at p 0 .kind ≡ word-subtype)) × IsCalled name (at p 1)
 
 -- none of these does
 abbrev pub NoneClaims : List ℕ → List Piece → Type 0
 NoneClaims name [] = Unit {0}
-NoneClaims name (p ∷ ps) = (Claims name p → ⊥) × NoneClaims name ps
+NoneClaims name (p ∷ ps) = (ClaimsName name p → ⊥) × NoneClaims name ps
 
 -- number k of the pieces, from 0, does, and none before it
 pub record FirstClaims (name : List ℕ) (ps : List Piece) (k : ℕ) : Type 0 where
@@ -58,16 +57,17 @@ pub record FirstClaims (name : List ℕ) (ps : List Piece) (k : ℕ) : Type 0 wh
   pub after : List Piece
   pub split : ps ≡ before ++ piece ∷ after
   pub number : length before ≡ k
-  pub claimed : Claims name piece
+  pub claimed : ClaimsName name piece
   pub unclaimed : NoneClaims name before
 
+-- An answer of a lookup says this of pieces: the first that claims the name, or that none does.
+abbrev pub SaysFirst : List ℕ → List Piece → Found → Type 0
+SaysFirst name ps f = ((k : ℕ) → (f ≡ At k) ↔ FirstClaims name ps k) × ((f ≡ Nothing) ↔ NoneClaims name ps)
+
 -- "a lookup by name gives the first item that claims it, or none": over the tables that a survey leaves, for every text that is surveyed with
--- tables of any size, and for every name
+-- tables of any size, for every name, and for every answer that the lookup's contract permits
 abbrev pub FindsFirst : Type 0
-FindsFirst =
-    (text : List ℕ) (elements items : ℕ) (x : Summary) → surveyOf text elements items .outcome ≡ Done x → (name : List ℕ)
-    → ((k : ℕ) → (foundOf text (elementsAfter text elements items) name (itemsAfter text elements items) ≡ At k) ↔ FirstClaims name (piecesOf text) k)
-    × ((foundOf text (elementsAfter text elements items) name (itemsAfter text elements items) ≡ Nothing) ↔ NoneClaims name (piecesOf text))
+FindsFirst = (text elements items name : List ℕ) (f : Found) → Leaves text elements items → Finds text elements name items f → SaysFirst name (piecesOf text) f
 
 -- "Extended identifiers .. equal no basic identifier": what is found is an extended identifier exactly where the name that is looked up begins
 -- with a backslash
@@ -77,22 +77,16 @@ ByBackslash = (text name : List ℕ) (k : ℕ) (f : FirstClaims name (piecesOf t
 -- The same of `lookup_items`: item structs that hold the words of that table.
 abbrev pub FindsInStructs : Type 0
 FindsInStructs =
-    (text : List ℕ) (elements items : ℕ) (x : Summary) → surveyOf text elements items .outcome ≡ Done x → (name : List ℕ)
-    → (structs : List Item) → wordsOf structs ≡ itemsAfter text elements items
-    → ((k : ℕ) → (foundOf text (elementsAfter text elements items) name (wordsOf structs) ≡ At k) ↔ FirstClaims name (piecesOf text) k)
-    × ((foundOf text (elementsAfter text elements items) name (wordsOf structs) ≡ Nothing) ↔ NoneClaims name (piecesOf text))
+    (text elements items name : List ℕ) (structs : List Item) (f : Found) → Leaves text elements items → wordsOf structs ≡ items
+    → Finds text elements name (wordsOf structs) f → SaysFirst name (piecesOf text) f
 
--- what the library answers: the number of a record, or how many records the table has
-abbrev pub numberFound : List ℕ → ℕ → ℕ → List ℕ → ℕ
-numberFound text elements items name =
-    foundNumber (foundOf text (elementsAfter text elements items) name (itemsAfter text elements items)) (length (itemsAfter text elements items) / recordWords)
-
--- The same of the library: its answer is the number of the first piece that claims the name, or past them all.
+-- The same of the library, which answers the number of a record, or how many records the table has: the first piece that claims the name, or past
+-- them all.
 abbrev pub FindsNumber : Type 0
 FindsNumber =
-    (text : List ℕ) (elements items : ℕ) (x : Summary) → surveyOf text elements items .outcome ≡ Done x → (name : List ℕ)
-    → ((k : ℕ) → k < length (piecesOf text) → (numberFound text elements items name ≡ k) ↔ FirstClaims name (piecesOf text) k)
-    × ((length (piecesOf text) ≤ numberFound text elements items name) ↔ NoneClaims name (piecesOf text))
+    (text elements items name : List ℕ) (f : Found) → Leaves text elements items → Finds text elements name items f
+    → ((k : ℕ) → k < length (piecesOf text) → (foundNumber f (length items / recordWords) ≡ k) ↔ FirstClaims name (piecesOf text) k)
+    × ((length (piecesOf text) ≤ foundNumber f (length items / recordWords)) ↔ NoneClaims name (piecesOf text))
 
 -- the name that bytes spell, as an element: basic, and extended
 abbrev pub basic : List ℕ → Element
@@ -104,4 +98,4 @@ extended name = record { kind = extendedKind; bytes = name }
 -- A piece claims a name given as bytes exactly when, by the survey's own rule on claims, it claims the identifier or the extended identifier
 -- of these bytes.
 abbrev pub OneRule : Type 0
-OneRule = (name : List ℕ) (p : Piece) → Claims name p ↔ ((claims (basic name) p ≡ true) ⊎ (claims (extended name) p ≡ true))
+OneRule = (name : List ℕ) (p : Piece) → ClaimsName name p ↔ ((claims (basic name) p ≡ true) ⊎ (claims (extended name) p ≡ true))

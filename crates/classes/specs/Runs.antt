@@ -19,7 +19,7 @@ unfoldable pub count : (List ℕ → Bool) → List ℕ → ℕ
 count q [] = 0
 count q (b ∷ s) = elim (q (b ∷ s)) [ true ↦ suc (count q s) | false ↦ 0 ]
 
--- at the front stands a byte of the run, or an underscore with one behind it
+-- at the front stands a byte of the run, or an underscore with one after it
 unfoldable pub goesOn : Run → List ℕ → Bool
 goesOn c s = inRun c (getD s 0 0) || eqb (getD s 0 0) underscore && inRun c (getD s 1 0)
 

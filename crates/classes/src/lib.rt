@@ -4,6 +4,24 @@ ghost use lib.ListN.{getD};
 ghost use Rattle.classes.specs.Bytes.{endsLine, separates, isLetter, lower, isDigit, isGraphic, digitValue};
 ghost use Rattle.classes.specs.Runs.{inRun, goesOn, run};
 
+// 01's bytes that no sign stands for: those that end a line, the separator 160, the last byte.
+const FIRST_LINE_END: u8 = 10;
+
+const LAST_LINE_END: u8 = 13;
+
+const NO_BREAK_SPACE: u8 = 160;
+
+const LAST_BYTE: u8 = 255;
+
+// How far a letter's lower case is from it; where the letters that are digits begin, less the ten digits before them; what no digit is below.
+const LOWER_BY: u8 = 32;
+
+const LARGE_TEN: u8 = 55;
+
+const SMALL_TEN: u8 = 87;
+
+const NO_DIGIT: u8 = 16;
+
 // Which bytes a run holds: letters and digits, or digits below a base.
 pub enum Run {
     Word,
@@ -13,27 +31,27 @@ pub enum Run {
 pub fn ends_line(b: u8) -> bool
     ensures { λ r. ⌜ r ≡ endsLine b ⌝ }
 {
-    (10 <= b) & (b <= 13)
+    (FIRST_LINE_END <= b) & (b <= LAST_LINE_END)
 }
 
 pub fn separator(b: u8) -> bool
     ensures { λ r. ⌜ r ≡ separates b ⌝ }
 {
-    (b == 9) | (b == 32) | (b == 160)
+    (b == b'\t') | (b == b' ') | (b == NO_BREAK_SPACE)
 }
 
 pub fn is_letter(b: u8) -> bool
     ensures { λ r. ⌜ r ≡ isLetter b ⌝ }
 {
-    ((65 <= b) & (b <= 90)) | ((97 <= b) & (b <= 122))
+    ((b'A' <= b) & (b <= b'Z')) | ((b'a' <= b) & (b <= b'z'))
 }
 
 pub fn lower_case(b: u8) -> u8
     ensures { λ r. ⌜ r ≡ lower b ⌝ }
 {
-    if 65 <= b {
-        if b <= 90 {
-            return b + 32;
+    if b'A' <= b {
+        if b <= b'Z' {
+            return b + LOWER_BY;
         }
     }
     b
@@ -42,28 +60,28 @@ pub fn lower_case(b: u8) -> u8
 pub fn is_digit(b: u8) -> bool
     ensures { λ r. ⌜ r ≡ isDigit b ⌝ }
 {
-    (48 <= b) & (b <= 57)
+    (b'0' <= b) & (b <= b'9')
 }
 
 pub fn is_graphic(b: u8) -> bool
     ensures { λ r. ⌜ r ≡ isGraphic b ⌝ }
 {
-    ((32 <= b) & (b <= 126)) | ((160 <= b) & (b <= 255))
+    ((b' ' <= b) & (b <= b'~')) | ((NO_BREAK_SPACE <= b) & (b <= LAST_BYTE))
 }
 
 pub fn digit_value(b: u8) -> u8
     ensures { λ r. ⌜ r ≡ digitValue b ⌝ }
 {
     if is_digit(b) {
-        return b - 48;
+        return b - b'0';
     }
-    if (65 <= b) & (b <= 70) {
-        return b - 55;
+    if (b'A' <= b) & (b <= b'F') {
+        return b - LARGE_TEN;
     }
-    if (97 <= b) & (b <= 102) {
-        return b - 87;
+    if (b'a' <= b) & (b <= b'f') {
+        return b - SMALL_TEN;
     }
-    16
+    NO_DIGIT
 }
 
 pub fn in_run(c: Run, b: u8) -> bool

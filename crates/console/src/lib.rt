@@ -1,13 +1,18 @@
-// What the programs read and write. What is written here is tested, not proved: no contract can speak of a file.
-use files::Strict;
+// What the programs read and write. Each line is put into a buffer by the library, whose bytes are proved, and the buffer goes out in one
+// write: what is left here, reading and writing, is tested, not proved, since no contract can speak of a file.
+use kawhiluhe::Surveyed;
 use libc::STDERR_FILENO;
 use libc::STDOUT_FILENO;
-use places::BytePlace;
-use places::ElementNumber;
-use reading::Reading;
-use verdict::Verdict;
+use puts::Filled;
 
-pub mod surveys; // what is printed of a survey
+// Room for every line of any text, which is never longer than the text by more than 100 bytes, and for many short ones.
+pub const OUT_ROOM: usize = 81920;
+
+// How many numbers a row of the tree has.
+const ROW_NUMBERS: usize = 5;
+
+// A listing has fewer lines than this.
+const MOST_TURNS: u64 = 100000;
 
 // How many bytes were read, or that a read failed.
 pub enum Got {
@@ -32,157 +37,194 @@ pub fn read_text(fd: i32, text: &mut [u8]) -> Got {
     Got::Bytes(n)
 }
 
-// One line on standard error that names what is wrong.
-pub fn complain(what: &[u8], name: &[u8]) {
+// One line on standard error: the program's name, what is wrong, and of what.
+pub fn complain(program: &[u8], what: &[u8], name: &[u8]) {
+    io::write_all(STDERR_FILENO, program);
+    io::write_all(STDERR_FILENO, b": ");
     io::write_all(STDERR_FILENO, what);
     io::write_all(STDERR_FILENO, b": ");
     io::write_all(STDERR_FILENO, name);
     io::write_all(STDERR_FILENO, b"\n");
 }
 
-fn number(n: u64) {
-    io::print_decimal(STDOUT_FILENO, n);
+// The same of what the system refused, with its reason.
+pub fn fail(program: &[u8], name: &[u8]) {
+    io::write_all(STDERR_FILENO, program);
+    io::write_all(STDERR_FILENO, b": ");
+    os::fail(name);
 }
 
-pub fn words(text: &[u8]) {
-    io::write_all(STDOUT_FILENO, text);
-}
-
-// "a refusal as `refused NO at PLACE`"
-fn refused(no: u64, place: usize) {
-    words(b"refused ");
-    number(no);
-    words(b" at ");
-    number(place as u64);
-    words(b"\n");
-}
-
-// The word for a kind's number.
-fn kind_word(kind: u64) {
-    match kind {
-        1 => words(b"identifier"),
-        2 => words(b"extended"),
-        3 => words(b"integer"),
-        4 => words(b"real"),
-        5 => words(b"character"),
-        6 => words(b"string"),
-        7 => words(b"unreadable"),
-        _ => {
-            if kind < 33 {
-                words(b"delimiter");
-            } else {
-                words(b"reserved");
-            }
-        },
+// Writes bytes; where they can't be written says so.
+pub fn write_out(program: &[u8], bytes: &[u8]) -> bool {
+    if io::write_all(STDOUT_FILENO, bytes) {
+        return true;
     }
+    fail(program, b"standard output");
+    false
 }
 
-fn element_line(i: usize, kind: u64, first: BytePlace, size: u64) {
-    number(i as u64);
-    words(b" ");
-    kind_word(kind);
-    words(b" ");
-    number(first.0 as u64);
-    words(b" ");
-    number(size);
-    words(b"\n");
-}
-
-fn element_lines(t: &[u64], count: usize) {
-    let mut i = 0;
-    while i < count {
-        if places::rows_in(t) <= i {
-            return;
+// Writes a part of a listing that began at a line: false where it can't be written, or the next line has no room.
+fn write_part(program: &[u8], from: usize, f: Filled, out: &[u8]) -> bool {
+    if f.next == from {
+        if 0 < f.left {
+            complain(program, b"listing", b"a line is longer than the buffer");
+            return false;
         }
-        element_line(
-            i,
-            places::kind_of(t, i),
-            places::place_of(t, ElementNumber(i)),
-            places::size_of(t, i),
-        );
-        i += 1;
     }
+    write_out(program, lent_tables::front(out, f.used))
 }
 
 // The listing of a text's elements, or the refusal, with so many rows of a table lent.
-pub fn elements(text: &[u8], table: &mut [u64], rows: usize) {
-    let size = lent::least(
-        lent::least(rows, places::MOST_ELEMENTS) * places::ROW_WORDS,
+pub fn elements(program: &[u8], text: &[u8], table: &mut [u64], rows: usize, out: &mut [u8]) {
+    let size = lent_tables::least(
+        lent_tables::least(rows, places::MOST_ELEMENTS) * places::ROW_WORDS,
         table.len(),
     );
-    match reading::read_elements(text, &mut table[..size]) {
-        Reading::Read(e) => {
-            let count = e.0;
-            words(b"elements ");
-            number(count as u64);
-            words(b"\n");
-            element_lines(table, count);
-        },
-        Reading::Refused(r) => {
-            refused(refusals::refusal_number(r), refusals::refusal_place(r));
-        },
-    }
+    let answer = kawhiluhe::element_words(kawhiluhe::kawhiluhe_elements(text, &mut table[..size]));
+    print_elements(program, table, &answer, out);
 }
 
-// A row of a tree: its number and its five numbers.
-fn row_line(i: usize, t: &[u64], at: usize) {
-    number(i as u64);
-    let mut j = 0;
-    while j < 5 {
-        if t.len() <= j {
+fn print_elements(program: &[u8], table: &[u64], answer: &[u64], out: &mut [u8]) {
+    let mut from: usize = 0;
+    let mut turns = MOST_TURNS;
+    while 0 < turns {
+        let f = kawhiluhe::kawhiluhe_element_lines(table, answer, from, out);
+        if !write_part(program, from, f, out) {
             return;
         }
-        if t.len() - j <= at {
+        if f.left == 0 {
             return;
         }
-        words(b" ");
-        number(t[at + j]);
-        j += 1;
-    }
-    words(b"\n");
-}
-
-fn row_lines(t: &[u64], count: usize) {
-    let mut i = 0;
-    while i < count {
-        if t.len() / 5 <= i {
-            return;
-        }
-        row_line(i, t, i * 5);
-        i += 1;
-    }
-}
-
-fn tree_head(count: usize, v: Verdict) {
-    words(b"rows ");
-    number(count as u64);
-    match v {
-        Verdict::Passes => words(b" passes yes\n"),
-        Verdict::NotSupported(row) => {
-            words(b" passes no at ");
-            number(row as u64);
-            words(b"\n");
-        },
+        from = f.next;
+        turns -= 1;
     }
 }
 
 // The listing of a text's tree, or the refusal, with so many rows of each table lent.
-pub fn tree(text: &[u8], table: &mut [u64], rows: usize, trees: &mut [u64], tree_rows: usize) {
-    let size = lent::least(
-        lent::least(rows, places::MOST_ELEMENTS) * places::ROW_WORDS,
+pub fn tree(
+    program: &[u8],
+    text: &[u8],
+    table: &mut [u64],
+    rows: usize,
+    trees: &mut [u64],
+    tree_rows: usize,
+    out: &mut [u8],
+) {
+    let size = lent_tables::least(
+        lent_tables::least(rows, places::MOST_ELEMENTS) * places::ROW_WORDS,
         table.len(),
     );
-    let room = lent::least(
-        lent::least(tree_rows, places::MOST_ELEMENTS) * 5,
+    let room = lent_tables::least(
+        lent_tables::least(tree_rows, places::MOST_ELEMENTS) * ROW_NUMBERS,
         trees.len(),
     );
-    match files::read_strict(text, &mut table[..size], &mut trees[..room]) {
-        Strict::Read(count, v) => {
-            tree_head(count, v);
-            row_lines(trees, count);
-        },
-        Strict::Refused(r) => {
-            refused(refusals::strict_number(r), refusals::strict_place(r));
-        },
+    let answer = kawhiluhe::judged_words(kawhiluhe::kawhiluhe_strict(
+        text,
+        &mut table[..size],
+        &mut trees[..room],
+    ));
+    print_tree(program, trees, &answer, out);
+}
+
+fn print_tree(program: &[u8], trees: &[u64], answer: &[u64], out: &mut [u8]) {
+    let mut from: usize = 0;
+    let mut turns = MOST_TURNS;
+    while 0 < turns {
+        let f = kawhiluhe::kawhiluhe_tree_lines(trees, answer, from, out);
+        if !write_part(program, from, f, out) {
+            return;
+        }
+        if f.left == 0 {
+            return;
+        }
+        from = f.next;
+        turns -= 1;
+    }
+}
+
+// What is shown of a survey: its items, its records, or the listing's first line alone.
+pub enum Shown {
+    Items,
+    Records,
+    Head,
+}
+
+// What the survey of a package says, or the refusal, with so many rows of each table lent.
+pub fn survey(
+    program: &[u8],
+    text: &[u8],
+    table: &mut [u64],
+    rows: usize,
+    items: &mut [u64],
+    item_rows: usize,
+    shown: Shown,
+    out: &mut [u8],
+) {
+    let size = lent_tables::least(
+        lent_tables::least(rows, places::MOST_ELEMENTS) * places::ROW_WORDS,
+        table.len(),
+    );
+    let room = lent_tables::least(
+        lent_tables::least(item_rows, places::MOST_PIECES) * pieces::RECORD_WORDS,
+        items.len(),
+    );
+    let s = kawhiluhe::kawhiluhe_survey(text, &mut table[..size], &mut items[..room]);
+    show(program, text, table, items, s, shown, out);
+}
+
+fn show(
+    program: &[u8],
+    text: &[u8],
+    table: &[u64],
+    items: &[u64],
+    s: Surveyed,
+    shown: Shown,
+    out: &mut [u8],
+) {
+    let answer = kawhiluhe::surveyed_words(s);
+    match shown {
+        Shown::Items => print_items(program, text, table, items, &answer, out),
+        Shown::Records => print_records(program, items, &answer, out),
+        // no more records are listed than the table has: of an empty one, none
+        Shown::Head => print_items(program, text, table, &[], &answer, out),
+    }
+}
+
+fn print_items(
+    program: &[u8],
+    text: &[u8],
+    table: &[u64],
+    items: &[u64],
+    answer: &[u64],
+    out: &mut [u8],
+) {
+    let mut from: usize = 0;
+    let mut turns = MOST_TURNS;
+    while 0 < turns {
+        let f = kawhiluhe::kawhiluhe_survey_lines(text, table, items, answer, from, out);
+        if !write_part(program, from, f, out) {
+            return;
+        }
+        if f.left == 0 {
+            return;
+        }
+        from = f.next;
+        turns -= 1;
+    }
+}
+
+fn print_records(program: &[u8], items: &[u64], answer: &[u64], out: &mut [u8]) {
+    let mut from: usize = 0;
+    let mut turns = MOST_TURNS;
+    while 0 < turns {
+        let f = kawhiluhe::kawhiluhe_record_lines(items, answer, from, out);
+        if !write_part(program, from, f, out) {
+            return;
+        }
+        if f.left == 0 {
+            return;
+        }
+        from = f.next;
+        turns -= 1;
     }
 }

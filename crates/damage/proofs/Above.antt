@@ -9,7 +9,7 @@ use lib.Dec.{eqb}
 use lib.ListN.{length}
 use Rattle.records.specs.Tallies.{oneIf}
 use Rattle.values.specs.Values.{languageValue}
-use Rattle.worded.specs.Elements.{Element, Piece}
+use Rattle.meaning.specs.Elements.{Element, Piece}
 use Rattle.meaning.specs.Names.{claims, language, claimsIn, Done, claimedAbove, firstAbove, useOf}
 use Rattle.meaning.specs.Items.{valueOf, doneOf, donesFrom}
 use Rattle.damage.specs.Places.{Part, bare, bareEach}

@@ -9,39 +9,35 @@ use native.Mathlib.Omega.{arith}
 use borrow.Author.Tests.{eqb-true}
 use lib.Dec.{eqb}
 use lib.ListN.{length}
-use Rattle.laws.proofs.Laws.{both-left, both-right}
 use Rattle.forms.specs.Tree.{Row}
 use Rattle.tree.specs.Items.{rowsOfPiece}
 use Rattle.tree.proofs.Items.{piece-forest}
 use Rattle.folding.specs.declared.Outcome.{Outcome}
 use Rattle.operands.specs.Operands.{literalBy}
-use Rattle.folds.specs.Expressions.{behind, rowOutcome, outcomeIn, outcomeOf}
+use Rattle.expressions.specs.Expressions.{behind, rowOutcome, outcomeIn, outcomeOf}
 use Rattle.pieces.specs.Kinds.{anyDown}
-use Rattle.records.specs.Records.{isClaim}
 use Rattle.marks.specs.Marks.{operandOf, constantOf, rangedOf}
 use Rattle.values.specs.declared.Value.{Value}
-use Rattle.worded.specs.Elements.{Element, Piece, at, kinds}
-use Rattle.worded.specs.Names.{sameAs}
+use Rattle.meaning.specs.Elements.{Element, Piece, at, kinds}
 use Rattle.meaning.specs.Names.{classOf, ownName, claims, ownDoubled, Done, useOf}
 use Rattle.meaning.specs.Items.{valued, bounded, marked, formed, unlessDoubled, valueOf}
 use Rattle.meaning.proofs.Sameness.{same-on}
+use Rattle.meaning.proofs.Trees.{tree-is}
+use Rattle.meaning.proofs.Claimed.{claims-class, claims-name, claims-by}
 use Rattle.damage.specs.Damage.{NotWithin, UsesName}
 use Rattle.damage.proofs.Nesting.{not-append, Nests, nests-rest, nests-behind}
 use Rattle.damage.proofs.Ranges.{item-forms, third-form}
 
 -- who claims the name of a piece that claims x claims x
 pub claims-on : (x : Element) (q r : Piece) → claims x q ≡ true → claims (ownName q) r ≡ true → claims x r ≡ true
-unfolding claims
-claims-on x q r h k =
-    rw (both-left (isClaim (classOf r)) (sameAs (ownName r) (ownName q)) k)
-    (same-on (ownName r) (ownName q) x (both-right (isClaim (classOf r)) (sameAs (ownName r) (ownName q)) k) (both-right (isClaim (classOf q)) (sameAs (ownName q) x) h))
+claims-on x q r h k = claims-by x r (claims-class (ownName q) r k) (same-on (ownName r) (ownName q) x (claims-name (ownName q) r k) (claims-name x q h))
 
 -- an expression: what the names in it come to that are inside no form 25 or 26 is all that counts
 module _ (name name′ literal : ℕ → Outcome) (kind : ℕ → ℕ) where
   abbrev Agree : List Row → Type 0
   Agree rs = (c : List Row) (r : Row) (d : List Row) → rs ≡ c ++ r ∷ d → NotWithin c → r .form ≡ 24 → name (r .first) ≡ name′ (r .first)
 
-  -- behind a row that is no form 25 or 26, and behind a subtree
+  -- after a row that is no form 25 or 26, and after a subtree
   agree-rest : (r : Row) (rs : List Row) → ((r .form ≡ 25) ⊎ (r .form ≡ 26) → ⊥) → Agree (r ∷ rs) → Agree rs
   agree-rest r rs n h c q d e w f = h (r ∷ c) q d (ap (λ (l : List Row). r ∷ l) e) ((λ k. absurd (n k)), w) f
 
@@ -122,12 +118,12 @@ module _ (p : Piece) (used used′ : Element → Value) where
   formed-on (item ∷ []) e h = refl
   formed-on (item ∷ mark ∷ rs) e h =
       ap (λ (v : Value). marked p used v rs)
-      (h (at p (mark .first)) (record { above = item ∷ []; row = mark; below = rs; split = e; looked-up = inr (firsts .1); named = refl }))
+      (h (at p (mark .first)) (record { above = item ∷ []; row = mark; below = rs; tree = tree-is p item (mark ∷ rs) e; looked-up = inr (firsts .1); named = refl }))
       ∙ marked-on (used′ (at p (mark .first))) rs
       (λ n range more q. third-form (kinds p) n item mark range more (e ∙ ap (λ (l : List Row). item ∷ mark ∷ l) q))
       (nests-rest mark rs (nests-rest item (mark ∷ rs) (subst Nests e (0, length (kinds p), piece-forest (kinds p)))))
       (λ c r d q w f. h (at p (r .first))
-      (record { above = item ∷ mark ∷ c; row = r; below = d; split = e ∙ ap (λ (l : List Row). item ∷ mark ∷ l) q; looked-up = inl (f, ((λ k. absurd (no-item (firsts .0) k)), ((λ k. absurd (no-mark k)), w))); named = refl }))
+      (record { above = item ∷ mark ∷ c; row = r; below = d; tree = tree-is p item (mark ∷ (c ++ r ∷ d)) (e ∙ ap (λ (l : List Row). item ∷ mark ∷ l) q); looked-up = inl (f, ((λ k. absurd (no-item (firsts .0) k)), ((λ k. absurd (no-mark k)), w))); named = refl }))
     where
       firsts : ((item .form ≡ 4) ⊎ (item .form ≡ 5)) × (mark .form ≡ 31)
       firsts = item-forms (kinds p) item mark rs e

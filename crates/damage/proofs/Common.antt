@@ -251,9 +251,6 @@ same-each (x ∷ p) = ((refl, refl, refl), same-each p)
 pub piece-of : (pieces : List Part) (p : Part) → In p pieces → PieceOf pieces p
 piece-of pieces p h = let z = in-split p pieces h in record { above = z .0; below = z .1; split = z .2 }
 
-pub of-piece : (pieces : List Part) (p : Part) → PieceOf pieces p → In p pieces
-of-piece pieces p i = subst (λ l. In p l) (sym (i .split)) (in-middle p (i .above) (i .below))
-
 has : (pieces : List Part) (p : Part) → In p pieces → Has pieces p
 has pieces p h = (p, h, same-each p)
 

@@ -6,16 +6,16 @@ use mathlib.Core.Logic.{inl, inr}
 use mathlib.Core.Bool.{true, not}
 use mathlib.Core.List.{List, [], _∷_, _++_}
 use native.Mathlib.Omega.{arith}
-use lib.ListN.{length, take}
+use lib.ListN.{length, getD, take}
 use Rattle.classes.specs.Bytes.{endsLine, separates, isLetter, lower, isDigit, isGraphic, digitValue}
 use Rattle.classes.specs.Runs.{inRun, count, goesOn, run}
 use Rattle.words.specs.Words.{reservedWords, delimiters, bytesOf, begins, spells, placeFrom}
 use Rattle.numbers.specs.Numbers.{digits, digitIn, spelled, leading, exponentHead, exponent, belowBase, based, pointed, number}
 use Rattle.elements.specs.Element.{unreadable, identifier, delimiter, ruled, spoilsNumber, elementAt}
-use Rattle.reading.specs.Rows.{linesOf, lineRows, linesRows, rowsOf}
-use Rattle.reading.specs.Promises.{Ended}
-use Rattle.alike.specs.Spelling.{spelt}
-use Rattle.ll.specs.Actions.{runs}
+use Rattle.element_reading.specs.Rows.{linesOf, lineRows, linesRows, rowsOf}
+use Rattle.element_reading.specs.Promises.{Ended, Starts}
+use Rattle.same_names.specs.Spelling.{spelt}
+use Rattle.grammars.specs.Actions.{runs}
 use Rattle.forms.specs.Kinds.{terminalOf}
 use Rattle.forms.specs.Tree.{Row, does}
 use Rattle.forms.specs.Reading.{readingFrom}
@@ -30,21 +30,23 @@ use Rattle.spelled.specs.Spelled.{kindOf}
 use Rattle.operands.specs.Operands.{operatorOf, signOf, literalBy}
 use Rattle.values.specs.Values.{languageValue}
 use Rattle.marks.specs.Marks.{constantOf, rangedOf}
-use Rattle.folds.specs.Expressions.{rowOutcome, outcomeIn}
-use Rattle.worded.specs.Elements.{Element, at, kinds, elementsOf, piecesOf}
-use Rattle.worded.specs.Names.{sameAs}
-use Rattle.meaning.specs.Names.{claims, claimsIn, claimedAbove, firstAbove, useOf}
+use Rattle.expressions.specs.Expressions.{rowOutcome, outcomeIn}
+use Rattle.meaning.specs.Elements.{Element, at, kinds, elementsOf, piecesOf}
+use Rattle.meaning.specs.Sameness.{sameAs}
+use Rattle.meaning.specs.Names.{namesClaimed, claims, claimsIn, claimedAbove, firstAbove, useOf}
 use Rattle.meaning.specs.Items.{valued, valueOf, donesFrom, donesOf, recordOf, recordsFrom, recordsOf}
-use Rattle.packages.specs.Survey.{surveyOf, itemsAfter}
-use Rattle.packages.specs.declared.Summary.{Summary}
-use Rattle.packages.specs.declared.Outcome.the-variants.{Done}
-use Rattle.packages.proofs.Promises.{surveyed}
+use Rattle.meaning.proofs.Trees.{tree-is}
+use Rattle.survey_reading.specs.Survey.{surveyOf, elementsAfter, itemsAfter}
+use Rattle.survey_reading.specs.declared.Summary.{Summary}
+use Rattle.survey_reading.specs.declared.Outcome.the-variants.{Done}
+use Rattle.survey_reading.proofs.Promises.{surveyed}
+use Rattle.survey_reading.proofs.Permits.{leaves-so}
 use Rattle.damage.specs.Places.{Part, placedRows, placedLines, placed, partsOf, bare}
-use Rattle.damage.specs.Damage.{Begun, OneLine, olds, news, itself, Undisturbed}
+use Rattle.damage.specs.Damage.{OneLine, olds, news, itself, Undisturbed}
 use Rattle.damage.proofs.Testing.{every, all-inside, is-outside, partAt, Kept, Keeps, kept, answered}
 
 -- two texts that differ in one line, by tests
-abbrev pub struck : (before middle changed after : List ℕ) → Begun before → every (λ b. not (endsLine b)) middle ≡ true → every (λ b. not (endsLine b)) changed ≡ true → Ended after
+abbrev pub struck : (before middle changed after : List ℕ) → Starts before → every (λ b. not (endsLine b)) middle ≡ true → every (λ b. not (endsLine b)) changed ≡ true → Ended after
     → OneLine (before ++ (middle ++ after)) (before ++ (changed ++ after))
 struck before middle changed after g i j e =
     record {
@@ -85,7 +87,7 @@ pieces before middle after = partsOf (placed before middle after)
 
 -- what pieces claim and use, computed
 unfoldable rowsIn : Part → List Row
-unfolding pieces spelt runs terminalOf does readingFrom isHeading behindWord hasName endsAt isClosing claimMark markOf readingOfPiece rowsOfPiece at kinds sameAs claims bare
+unfolding pieces spelt runs terminalOf does readingFrom isHeading behindWord hasName endsAt isClosing claimMark markOf readingOfPiece rowsOfPiece at kinds sameAs claims namesClaimed bare
 rowsIn p = rowsOfPiece (kinds (bare p))
 
 abbrev pub damaged : OneLine good bad
@@ -169,12 +171,12 @@ pub total-disturbed : Undisturbed (olds damaged) (news damaged) total → ⊥
 unfolding rowsIn
 total-disturbed u =
     u co2
-    (inr (total, itself, record { above = co2-above; row = co2-used; below = []; split = refl; looked-up = inl (refl, is-outside co2-above refl); named = refl }))
+    (inr (total, itself, record { above = co2-above; row = co2-used; below = []; tree = tree-is (bare total) (getD (rowsOfPiece (kinds (bare total))) 0 co2-used) _ refl; looked-up = inl (refl, is-outside co2-above refl); named = refl }))
     (partAt (olds damaged) 2) (inl (inr (inr (inl refl)))) refl .2 .0 0 refl
 
 -- what the items come to, computed
 unfoldable answers : List ℕ → List ℕ
-unfolding rowsIn claimsIn claimedAbove firstAbove useOf valued valueOf donesFrom donesOf recordOf recordsFrom recordsOf elementsOf piecesOf constantOf rangedOf languageValue kindOf operatorOf signOf literalBy rowOutcome outcomeIn literals.exponentOf literals.numberIn literals.isBased literals.valueOf literals.literalOf sizedOf dividedOf toSign powerOf nameOf wordAt
+unfolding rowsIn claimsIn claimedAbove firstAbove useOf valued valueOf donesFrom donesOf recordOf recordsFrom recordsOf elementsOf piecesOf constantOf rangedOf languageValue kindOf operatorOf signOf literalBy rowOutcome outcomeIn literals.exponentOf literals.numberIn literals.isBased literals.literalNumber literals.literalOf sizedOf dividedOf toSign powerOf nameOf wordAt
 answers text = recordsOf text
 
 -- state 0 and 10,000, then state 5, "leans"
@@ -216,7 +218,9 @@ pub bad-surveyed : (x : Summary) × (surveyOf bad 24576 8192 .outcome ≡ Done x
 bad-surveyed = surveyed bad 24576 8192 .1 ((omega (arith, bytes-bad), omega (arith, rows-bad), omega (arith, rows-bad)), omega (arith, pieces-bad), omega (arith, pieces-bad))
 
 pub idle-answered : (k : ℕ) → state ≤ k → k ≤ high → wordAt (itemsAfter good 24576 8192) 4 k ≡ wordAt (itemsAfter bad 24576 8192) 4 k
-idle-answered = answered good bad damaged 4 4 idle-premises 24576 8192 24576 8192 (good-surveyed .0) (bad-surveyed .0) (good-surveyed .1) (bad-surveyed .1)
+idle-answered =
+    answered good bad damaged 4 4 idle-premises (elementsAfter good 24576 8192) (itemsAfter good 24576 8192) (elementsAfter bad 24576 8192) (itemsAfter bad 24576 8192)
+    (leaves-so good 24576 8192 (good-surveyed .0) (good-surveyed .1)) (leaves-so bad 24576 8192 (bad-surveyed .0) (bad-surveyed .1))
 
 -- ---- a name inside a form 25 is not looked up: co2, which the damaged line claims, is no name that odd uses
 

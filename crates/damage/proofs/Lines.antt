@@ -6,9 +6,9 @@ use mathlib.Core.Logic.{_⊎_, inl, inr}
 use mathlib.Core.List.{List, [], _∷_, _++_}
 use native.Mathlib.Omega.{arith}
 use lib.ListN.{length}
-use Rattle.reading.specs.Rows.{Row, linesOf, rowsOf}
-use Rattle.reading.specs.Promises.{InOrder}
-use Rattle.reading.proofs.Promises.{stand-in-order}
+use Rattle.element_reading.specs.Rows.{Row, linesOf, rowsOf}
+use Rattle.element_reading.specs.Promises.{InOrder}
+use Rattle.element_reading.proofs.Promises.{stand-in-order}
 use Rattle.damage.specs.Places.{In, Line, Above, Changed, Below, Placed, placedRows, placedLines, placed, Part}
 use Rattle.damage.proofs.Order.{First, Rising, Apart, first-append, rising-append}
 

@@ -1,4 +1,4 @@
--- Rows nest: what a row with its rows holds ends where the row behind it begins, so that a row is inside no form 25 or 26 that stands in the
+-- Rows nest: what a row with its rows holds ends where the row after it begins, so that a row is inside no form 25 or 26 that stands in the
 -- subtree before it. Assumes nothing.
 use Prim.Native.Nat.{ℕ, _+_}
 use mathlib.Core.Path.{_≡_, refl, sym, ap, subst}
@@ -9,14 +9,14 @@ use lib.Seq.{drop-at}
 use Rattle.forms.specs.Tree.{Row}
 use Rattle.forms.specs.Forest.{Forest, bare, tree}
 use Rattle.forms.proofs.Growing.{forest-append}
-use Rattle.folds.specs.Expressions.{behind}
+use Rattle.expressions.specs.Expressions.{behind}
 use Rattle.damage.specs.Damage.{NotWithin}
 
 pub not-append : (a b : List Row) → NotWithin a → NotWithin b → NotWithin (a ++ b)
 not-append [] b f g = g
 not-append (r ∷ a) b f g = ((λ k. omega (arith, f .0 k, length-append a b)), not-append a b (f .1) g)
 
--- rows that are trees, one after the other: nothing behind them is inside one of them
+-- rows that are trees, one after the other: nothing after them is inside one of them
 pub forest-not : {lo hi : ℕ} {l : List Row} → Forest lo hi l → NotWithin l
 forest-not (bare h) = tt
 forest-not (tree {r = r} {inside = x} {after = y} a f e g j) =
@@ -25,7 +25,7 @@ forest-not (tree {r = r} {inside = x} {after = y} a f e g j) =
 abbrev pub Nests : List Row → Type 0
 Nests l = (lo : ℕ) × (hi : ℕ) × Forest lo hi l
 
--- the rows behind the first, and those behind its subtree
+-- the rows after the first, and those after its subtree
 abbrev Rest : List Row → Type 0
 Rest [] = Unit {0}
 Rest (r ∷ rs) = Nests rs

@@ -1,4 +1,4 @@
--- Lists whose members stand in order, each before all behind it. Assumes nothing.
+-- Lists whose members stand in order, each before all after it. Assumes nothing.
 use mathlib.Core.Path.{_≡_, refl, sym, ap, subst, _∙_}
 use mathlib.Core.Logic.{_⊎_, inl, inr}
 use mathlib.Core.Bool.{Bool, true, false, cond}

@@ -12,8 +12,8 @@ use lib.ListN.{length, getD, length-append}
 use Rattle.records.specs.Records.{isClaim, wordAt, state, high}
 use Rattle.records.specs.Tallies.{oneIf}
 use Rattle.values.specs.declared.Value.{Value}
-use Rattle.worded.specs.Elements.{Element, Piece, piecesOf}
-use Rattle.worded.proofs.Cutting.{total}
+use Rattle.meaning.specs.Elements.{Element, Piece, piecesOf}
+use Rattle.meaning.proofs.Cutting.{total}
 use Rattle.meaning.specs.Names.{classOf, ownName, claims, language, claimsIn, ownDoubled, Done, claimedAbove, firstAbove, useOf}
 use Rattle.meaning.specs.Items.{valueOf, doneOf, donesFrom, donesOf, recordOf, recordsFrom, recordsOf}
 use Rattle.meaning.proofs.Records.{piecesDone, word-at-record}

@@ -9,11 +9,11 @@ use borrow.Author.Tests.{eq-eqb, ne-eqb, eqb-true, ltb-true, ltb-false}
 use lib.Dec.{T, eqb, ltb, eqb→eq}
 use lib.ListN.{length, getD, List·getD-eq-default}
 use Rattle.laws.proofs.Laws.{clash}
-use Rattle.ll.specs.Grammar.{Sym, tok, nt, act}
-use Rattle.ll.specs.Actions.{go, Reads, done, eat, acts, grow, End, read, bad, stopped, spent}
-use Rattle.ll.proofs.Theory.{and-right}
-use Rattle.ll.proofs.Check.{below, below-at, imp, imp-at}
-use Rattle.ll.proofs.Room as room
+use Rattle.grammars.specs.Grammar.{Sym, tok, nt, act}
+use Rattle.grammars.specs.Actions.{go, Reads, done, eat, acts, grow, End, read, bad, stopped, spent}
+use Rattle.grammars.proofs.Theory.{and-right}
+use Rattle.grammars.proofs.Check.{below, below-at, imp, imp-at}
+use Rattle.grammars.proofs.Room as room
 use Rattle.forms.specs.Kinds.{terminalOf}
 use Rattle.forms.specs.Kinds as words
 use Rattle.forms.specs.Names.{constant, subtype}
@@ -31,7 +31,7 @@ use Rattle.tree.specs.Items.{unlike, readingBy, readingOfPiece, rowsRead, rowsO
 
 -- ---- a subtype's range
 
--- what is left behind a range's row: it is put among the item's, the semicolon is read, and the item's own row is made
+-- what is left after a range's row: it is put among the item's, the semicolon is read, and the item's own row is made
 abbrev ending : List Sym
 ending = act 1 ∷ tok 63 ∷ act 12 ∷ act 1 ∷ []
 

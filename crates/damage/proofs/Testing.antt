@@ -11,21 +11,21 @@ use lib.ListN.{length, getD, take, drop, take-append-drop}
 use lib.Seq.{drop-cons, length-take-le}
 use Rattle.laws.proofs.Laws.{both-left, both-right}
 use Rattle.classes.specs.Bytes.{endsLine}
-use Rattle.reading.specs.Promises.{Inside}
+use Rattle.element_reading.specs.Promises.{Inside}
 use Rattle.forms.specs.Tree.{Row}
-use Rattle.records.specs.Records.{isClaim, wordAt, state, high}
+use Rattle.records.specs.Records.{wordAt, state, high}
 use Rattle.tree.specs.Items.{rowsOfPiece}
-use Rattle.worded.specs.Elements.{Element, Piece, at, kinds}
-use Rattle.worded.specs.Names.{sameAs}
-use Rattle.meaning.specs.Names.{classOf, ownName, claims}
+use Rattle.meaning.specs.Elements.{Element, Piece, at, kinds}
+use Rattle.meaning.specs.Sameness.{sameAs}
+use Rattle.meaning.specs.Names.{ownName, claims}
 use Rattle.meaning.specs.Items.{recordsOf}
+use Rattle.meaning.proofs.Claimed.{claims-class, claims-name, claims-by}
 use Rattle.damage.specs.Places.{In, Line, Above, Changed, Below, Part, closesPart, opensPart, bare, SameEach, PieceOf}
 use Rattle.damage.specs.Damage.{OneLine, olds, news, NoneOf, NotWithin, UsesName, NoClaim, LeadsTo, itself, through, Concerns, Undisturbed, ClosedAbove, OpenedBelow}
 use Rattle.damage.proofs.Common.{same-each, always-common}
 use Rattle.meaning.proofs.Sameness.{same-on, same-flips}
-use Rattle.packages.specs.Survey.{surveyOf, itemsAfter}
-use Rattle.packages.specs.declared.Summary.{Summary}
-use Rattle.packages.specs.declared.Outcome.the-variants.{Done}
+use Rattle.meaning.proofs.Trees.{rows-are}
+use Rattle.survey_reading.specs.Permitted.{Leaves}
 use Rattle.damage.proofs.Promises.{same-answer}
 use Rattle.damage.proofs.Answers.{third-demand}
 
@@ -76,10 +76,6 @@ either-or : (a b : Bool) → (a || b) ≡ true → (a ≡ true) ⊎ (b ≡ true)
 either-or true b h = inl refl
 either-or false b h = inr h
 
-second-or : (a : Bool) {b : Bool} → b ≡ true → (a || b) ≡ true
-second-or true m = refl
-second-or false m = m
-
 in-cond : {A : Type 0} (b : Bool) (x y : A) (l : List A) → In x l → In x (cond b (y ∷ l) l)
 in-cond true x y l h = inr h
 in-cond false x y l h = h
@@ -117,13 +113,13 @@ module _ (p : Piece) where
       go false ih = in-cond (eqb (q .form) 24 || eqb (q .form) 31) (at p (r .first)) (at p (q .first)) (usedFrom p zero (c ++ r ∷ d)) (ih zero)
 
   used-in : (x : Element) → UsesName p x → In x (usedIn p (rowsOfPiece (kinds p)))
-  used-in x u = subst (λ (z : Element). In z (usedIn p (rowsOfPiece (kinds p)))) (sym (u .named)) (subst (λ (l : List Row). In (at p (u .row .first)) (usedIn p l)) (sym (u .split)) (go (u .looked-up)))
+  used-in x u = subst (λ (z : Element). In z (usedIn p (rowsOfPiece (kinds p)))) (sym (u .named)) (subst (λ (l : List Row). In (at p (u .row .first)) (usedIn p l)) (sym (rows-are p _ (u .tree))) (go (u .looked-up)))
     where
       go : ((u .row .form ≡ 24) × NotWithin (u .above)) ⊎ (u .row .form ≡ 31) → In (at p (u .row .first)) (usedIn p (u .above ++ u .row ∷ u .below))
       go (inl k) = used-name (u .above) (u .row) (u .below) zero (k .0) (k .1) (omega arith)
       go (inr k) = used-mark (u .above) (u .row) (u .below) zero k
 
--- no form 25 or 26 among these rows holds what stands behind them
+-- no form 25 or 26 among these rows holds what stands after them
 abbrev pub outside : List Row → Bool
 outside [] = true
 outside (r ∷ rs) = (not (eqb (r .form) 25 || eqb (r .form) 26) || leb (r .rows) (suc (length rs))) && outside rs
@@ -221,15 +217,9 @@ is-either p h = go (closedAbove p) refl h
     go false e k = inr (is-opened p k)
 
 claims-as : (x y : Element) (r : Piece) → claims x r ≡ true → sameAs x y ≡ true → claims y r ≡ true
-unfolding claims
-claims-as x y r h e =
-    rw (both-left (isClaim (classOf r)) (sameAs (ownName r) x) h) (same-on (ownName r) x y (both-right (isClaim (classOf r)) (sameAs (ownName r) x) h) e)
+claims-as x y r h e = claims-by y r (claims-class x r h) (same-on (ownName r) x y (claims-name x r h) e)
 
-claims-own : (y : Element) (r : Piece) → claims y r ≡ true → sameAs (ownName r) y ≡ true
-unfolding claims
-claims-own y r h = both-right (isClaim (classOf r)) (sameAs (ownName r) y) h
-
--- a piece behind others to which one of the names resolves
+-- a piece after others to which one of the names resolves
 closed-at : (names : List Element) (before a : List Part) (r : Part) (c : List Part) → closed names before (a ++ r ∷ c) ≡ true → resolves names (before ++ a) r ≡ true → usesOnly names r ≡ true
 closed-at names before [] r c h k =
     implied (resolves names before r) (usesOnly names r) (both-left _ (closed names (before ++ r ∷ []) c) h) (subst (λ l. resolves names l r ≡ true) (append-nil before) k)
@@ -265,7 +255,7 @@ module _ (s t : List ℕ) (d : OneLine s t) (p : Part) (names : List Element) (o
   concerns-any : (x : Element) → Concerns (olds d) p x → isAny names x ≡ true
   concerns-any x (inl h) =
       let y = any-in (λ y. claims y (bare p)) names own in
-      in-any (λ y. sameAs x y) names (y .0) (y .1) (subst (λ z. sameAs z (y .0) ≡ true) (sym (h .1)) (claims-own (y .0) (bare p) (y .2)))
+      in-any (λ y. sameAs x y) names (y .0) (y .1) (subst (λ z. sameAs z (y .0) ≡ true) (sym (h .1)) (claims-name (y .0) (bare p) (y .2)))
   concerns-any x (inr (q, l, u)) = uses-any q x (leads-any q l) u
 
   pub undisturbed : apart names (olds d) ≡ true → apart names (news d) ≡ true → Undisturbed (olds d) (news d) p
@@ -344,9 +334,9 @@ module _ (s t : List ℕ) (d : OneLine s t) (i j : ℕ) (h : Kept d i j) where
       ∙ ap (λ (m : ℕ). wordAt (recordsOf t ++ others) m k) (length-take-le j (news d) (omega (arith, h .new)))
 
   -- and over the tables that the surveys of both leave
-  pub answered : (e w e′ w′ : ℕ) (x y : Summary) → surveyOf s e w .outcome ≡ Done x → surveyOf t e′ w′ .outcome ≡ Done y
-      → (k : ℕ) → state ≤ k → k ≤ high → wordAt (itemsAfter s e w) i k ≡ wordAt (itemsAfter t e′ w′) j k
-  answered e w e′ w′ x y f g k low high =
-      ap (λ (m : ℕ). wordAt (itemsAfter s e w) m k) (sym (length-take-le i (olds d) (omega (arith, h .old))))
-      ∙ third-demand s t e w e′ w′ x y f g d this (partAt (news d) j) (part-of (olds d) i (h .old)) (part-of (news d) j (h .new)) each (none-of this (h .none)) calm k low high
-      ∙ ap (λ (m : ℕ). wordAt (itemsAfter t e′ w′) m k) (length-take-le j (news d) (omega (arith, h .new)))
+  pub answered : (elements items elements′ items′ : List ℕ) → Leaves s elements items → Leaves t elements′ items′
+      → (k : ℕ) → state ≤ k → k ≤ high → wordAt items i k ≡ wordAt items′ j k
+  answered elements items elements′ items′ f g k low high =
+      ap (λ (m : ℕ). wordAt items m k) (sym (length-take-le i (olds d) (omega (arith, h .old))))
+      ∙ third-demand s t elements items elements′ items′ f g d this (partAt (news d) j) (part-of (olds d) i (h .old)) (part-of (news d) j (h .new)) each (none-of this (h .none)) calm k low high
+      ∙ ap (λ (m : ℕ). wordAt items′ m k) (length-take-le j (news d) (omega (arith, h .new)))

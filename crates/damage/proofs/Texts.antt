@@ -10,14 +10,14 @@ use lib.ListN.{length, take, drop, length-drop, length-append}
 use lib.Seq.{take-append-le, drop-append-le}
 use Rattle.classes.specs.Bytes.{endsLine}
 use Rattle.elements.specs.Kinds.{kindNumber}
-use Rattle.reading.specs.Rows.{Row, onto, linesOf, lineRows, linesRows, rowsOf}
-use Rattle.reading.specs.Promises.{Inside, Ended, InOrder, moved}
-use Rattle.reading.proofs.TextLaws.{lines-ended, lines-byte}
-use Rattle.reading.proofs.Promises.{lines-apart, stand-in-order}
+use Rattle.element_reading.specs.Rows.{Row, onto, linesOf, lineRows, linesRows, rowsOf}
+use Rattle.element_reading.specs.Promises.{Inside, Ended, Starts, InOrder, moved}
+use Rattle.element_reading.proofs.TextLaws.{lines-ended, lines-byte}
+use Rattle.element_reading.proofs.Promises.{lines-apart, stand-in-order}
 use Rattle.pieces.specs.Cutting.{cut, joined}
-use Rattle.worded.specs.Elements.{Element, Piece, closes, opens, elementsOf, piecesOf}
+use Rattle.meaning.specs.Elements.{Element, Piece, closes, opens, elementsOf, piecesOf}
 use Rattle.damage.specs.Places.{In, Line, Above, Changed, Below, Placed, placedRows, placedLines, placed, Part, closesPart, opensPart, partsOf, bare, bareEach, linesAbove, lineNumber, startOf, firstsIn, firstsOf}
-use Rattle.damage.specs.Damage.{Begun, PlacesAdded, LinesAgree}
+use Rattle.damage.specs.Damage.{PlacesAdded, LinesAgree}
 use Rattle.damage.proofs.Lines.{uppers, middles, lowers}
 
 -- ---- how a text is made of lines
@@ -39,13 +39,13 @@ made (b ∷ s) = go (endsLine b) refl (made s)
     go true e m = subst (λ ls. Made (b ∷ s) ls) (sym (lines-ended b s e)) (more [] b s e m)
     go false e m = subst (λ ls. Made (b ∷ s) ls) (sym (lines-byte b s e)) (made-onto b m)
 
--- the lines that bytes are, with a line end behind each
+-- the lines that bytes are, with a line end after each
 record Whole (before : List ℕ) : Type 0 where
   lines : List (List ℕ)
   some : before ≡ [] ⊎ ((l : List ℕ) × (ls : List (List ℕ)) × (lines ≡ l ∷ ls))
   apart : (rest : List ℕ) → linesOf (before ++ rest) ≡ lines ++ linesOf rest
 
-whole : (before : List ℕ) → Begun before → Whole before
+whole : (before : List ℕ) → Starts before → Whole before
 whole [] g = record { lines = []; some = inl refl; apart = λ rest. refl }
 whole (b ∷ []) g = record { lines = [] ∷ []; some = inr ([], [], refl); apart = λ rest. lines-ended b rest g }
 whole (b ∷ c ∷ l) g = go (endsLine b) refl (whole (c ∷ l) g)
@@ -64,7 +64,7 @@ whole (b ∷ c ∷ l) g = go (endsLine b) refl (whole (c ∷ l) g)
               apart = λ rest. lines-byte b (c ∷ l ++ rest) e ∙ ap (onto b) (w .apart rest ∙ ap (λ (m : List (List ℕ)). m ++ linesOf rest) z);
             }
 
--- the lines behind a line
+-- the lines after a line
 abbrev linesBehind : List ℕ → List (List ℕ)
 linesBehind [] = []
 linesBehind (b ∷ u) = linesOf u
@@ -83,7 +83,7 @@ record Split (before middle after : List ℕ) : Type 0 where
   back : linesOf after ≡ [] ∷ linesBehind after
   all : linesOf (before ++ (middle ++ after)) ≡ upper ++ middle ∷ linesBehind after
 
-splits : (before middle after : List ℕ) → Begun before → Inside middle → Ended after → Split before middle after
+splits : (before middle after : List ℕ) → Starts before → Inside middle → Ended after → Split before middle after
 unfolding linesOf
 splits before middle after g i e =
     let w : Whole before = whole before g in
@@ -156,7 +156,7 @@ drop-over : (l : List ℕ) (b : ℕ) (u : List ℕ) (i : ℕ) → drop (suc (len
 drop-over [] b u i = ap (λ (n : ℕ). drop n (b ∷ u)) (suc-add 0 i ∙ ap suc (zero-add i))
 drop-over (c ∷ l) b u i = ap (λ (n : ℕ). drop n (c ∷ (l ++ b ∷ u))) (suc-add (suc (length l)) i) ∙ drop-over l b u i
 
--- rows behind a line end
+-- rows after a line end
 elements-behind : (l : List ℕ) (b : ℕ) (u : List ℕ) (rs : List Row) → elementsOf (l ++ b ∷ u) (moved (suc (length l)) rs) ≡ elementsOf u rs
 unfolding elementsOf
 elements-behind l b u [] = refl

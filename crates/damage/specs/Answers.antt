@@ -4,20 +4,18 @@ use mathlib.Core.Path.{_≡_}
 use mathlib.Core.List.{List}
 use lib.ListN.{length}
 use Rattle.records.specs.Records.{wordAt, state, high}
-use Rattle.packages.specs.Survey.{surveyOf, itemsAfter}
-use Rattle.packages.specs.declared.Summary.{Summary}
-use Rattle.packages.specs.declared.Outcome.the-variants.{Done}
+use Rattle.survey_reading.specs.Permitted.{Leaves}
 use Rattle.damage.specs.Places.{Part, SameEach, PieceOf}
 use Rattle.damage.specs.Damage.{OneLine, olds, news, NoneOf, Undisturbed}
 
 -- "Take two package texts that the survey doesn't refuse and that differ only inside one line, line ends kept. Consider an item made of the
 -- same elements, none of that line, in both texts. If neither its own name nor any name it uses, directly or through other items, is claimed
--- in either text by a piece not common to both, it has the same state, kind and number in both." The tables that are lent may differ in size;
--- the item is the piece behind `above` others, and the words of a record from its state to its high end are state, kind and the two numbers.
+-- in either text by a piece not common to both, it has the same state, kind and number in both." The surveys are any two that the contract
+-- permits, with lent tables of any sizes; the item is the piece after `above` others, and the words of a record from its state to its high end
+-- are state, kind and the two numbers.
 abbrev pub ThirdDemand : Type 0
 ThirdDemand =
-    (s t : List ℕ) (elements items elements′ items′ : ℕ) (x y : Summary)
-    → surveyOf s elements items .outcome ≡ Done x → surveyOf t elements′ items′ .outcome ≡ Done y
+    (s t elements items elements′ items′ : List ℕ) → Leaves s elements items → Leaves t elements′ items′
     → (d : OneLine s t) (p q : Part) (i : PieceOf (olds d) p) (j : PieceOf (news d) q) → SameEach p q → NoneOf p
     → Undisturbed (olds d) (news d) p
-    → (k : ℕ) → state ≤ k → k ≤ high → wordAt (itemsAfter s elements items) (length (i .above)) k ≡ wordAt (itemsAfter t elements′ items′) (length (j .above)) k
+    → (k : ℕ) → state ≤ k → k ≤ high → wordAt items (length (i .above)) k ≡ wordAt items′ (length (j .above)) k

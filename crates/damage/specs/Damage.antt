@@ -7,22 +7,15 @@ use mathlib.Core.Logic.{_⊎_, _↔_}
 use mathlib.Core.Bool.{true, false}
 use mathlib.Core.List.{List, [], _∷_, _++_}
 use lib.ListN.{length}
-use Rattle.classes.specs.Bytes.{endsLine}
 use Rattle.records.specs.Records.{isClaim, wordAt, state, high}
-use Rattle.reading.specs.Rows.{linesOf, rowsOf}
-use Rattle.reading.specs.Promises.{Inside, Ended}
+use Rattle.element_reading.specs.Rows.{linesOf, rowsOf}
+use Rattle.element_reading.specs.Promises.{Inside, Ended, Starts}
 use Rattle.forms.specs.Tree.{Row}
-use Rattle.tree.specs.Items.{rowsOfPiece}
-use Rattle.worded.specs.Elements.{Element, Piece, at, kinds, elementsOf, piecesOf}
+use Rattle.meaning.specs.Elements.{Element, Piece, at, elementsOf, piecesOf}
 use Rattle.meaning.specs.Names.{classOf, ownName, claims}
+use Rattle.meaning.specs.Forms.{ItemTree}
 use Rattle.meaning.specs.Items.{recordsOf}
 use Rattle.damage.specs.Places.{In, Above, Changed, Below, Placed, placed, Part, closesPart, opensPart, partsOf, bare, bareEach, SameEach, PieceOf, linesAbove, lineNumber, firstsIn, firstsOf}
-
--- a line begins behind these bytes: there are none, or the last one ends a line
-abbrev pub Begun : List ℕ → Type 0
-Begun [] = Unit {0}
-Begun (b ∷ []) = endsLine b ≡ true
-Begun (b ∷ c ∷ l) = Begun (c ∷ l)
 
 -- "two package texts .. that differ only inside one line, line ends kept"
 pub record OneLine (s t : List ℕ) : Type 0 where
@@ -32,7 +25,7 @@ pub record OneLine (s t : List ℕ) : Type 0 where
   pub after : List ℕ
   pub first : s ≡ before ++ (middle ++ after)
   pub second : t ≡ before ++ (changed ++ after)
-  pub begun : Begun before
+  pub begun : Starts before
   pub inside : Inside middle
   pub inside-changed : Inside changed
   pub ended : Ended after
@@ -47,7 +40,7 @@ news d = partsOf (placed (d .before) (d .changed) (d .after))
 -- The elements and the pieces with their places are those of the text, and each element's first byte is its line's and its place in the line.
 abbrev pub PlacesAdded : Type 0
 PlacesAdded =
-    (before middle after : List ℕ) → Begun before → Inside middle → Ended after
+    (before middle after : List ℕ) → Starts before → Inside middle → Ended after
     → (bare (placed before middle after) ≡ elementsOf (before ++ (middle ++ after)) (rowsOf (before ++ (middle ++ after))))
     × (bareEach (partsOf (placed before middle after)) ≡ piecesOf (before ++ (middle ++ after)))
     × (firstsIn (linesAbove before) (linesOf (before ++ (middle ++ after))) (placed before middle after) ≡ firstsOf (rowsOf (before ++ (middle ++ after))))
@@ -55,7 +48,7 @@ PlacesAdded =
 -- In two texts that differ inside one line, elements agree in their line exactly when they agree in its number from the text's start.
 abbrev pub LinesAgree : Type 0
 LinesAgree =
-    (before middle changed after : List ℕ) → Begun before → Inside middle → Inside changed → Ended after
+    (before middle changed after : List ℕ) → Starts before → Inside middle → Inside changed → Ended after
     → (x y : Placed) → In x (placed before middle after) → In y (placed before changed after)
     → (x .line ≡ y .line) ↔ (lineNumber (linesAbove before) (x .line) ≡ lineNumber (linesAbove before) (y .line))
 
@@ -77,13 +70,13 @@ abbrev pub NotWithin : List Row → Type 0
 NotWithin [] = Unit {0}
 NotWithin (r ∷ rs) = ((r .form ≡ 25) ⊎ (r .form ≡ 26) → r .rows ≤ suc (length rs)) × NotWithin rs
 
--- "any name it uses, directly": the names of its forms, 24, but for those inside a form 25 or 26, which is in state 3 whatever its names are;
--- and its type mark, 31
+-- "any name it uses, directly": of its tree, the names, 24, but for those inside a form 25 or 26, which is in state 3 whatever its names are; and
+-- its type mark, 31
 pub record UsesName (p : Piece) (x : Element) : Type 0 where
   pub above : List Row
   pub row : Row
   pub below : List Row
-  pub split : rowsOfPiece (kinds p) ≡ above ++ row ∷ below
+  pub tree : ItemTree p (above ++ row ∷ below)
   pub looked-up : ((row .form ≡ 24) × NotWithin above) ⊎ (row .form ≡ 31)
   pub named : x ≡ at p (row .first)
 
@@ -113,7 +106,7 @@ Concerns pieces p x = OwnName (bare p) x ⊎ ((q : Part) × LeadsTo pieces p q �
 abbrev pub Undisturbed : List Part → List Part → Part → Type 0
 Undisturbed old new p = (x : Element) → Concerns old p x → (q : Part) → In q old ⊎ In q new → claims x (bare q) ≡ true → Common old new q
 
--- "it has the same state, kind and number in both": the last four words of its record in each of the two item tables, whatever stands behind
+-- "it has the same state, kind and number in both": the last four words of its record in each of the two item tables, whatever stands after
 -- the records
 abbrev pub SameAnswer : Type 0
 SameAnswer =

@@ -7,9 +7,9 @@ use mathlib.Core.Bool.{Bool}
 use mathlib.Core.List.{List, [], _∷_, _++_}
 use lib.ListN.{length, take, drop}
 use Rattle.elements.specs.Kinds.{kindNumber}
-use Rattle.reading.specs.Rows.{Row, linesOf, rowsOf}
+use Rattle.element_reading.specs.Rows.{Row, linesOf, rowsOf}
 use Rattle.pieces.specs.Cutting.{cut}
-use Rattle.worded.specs.Elements.{Element, Piece, closes, opens}
+use Rattle.meaning.specs.Elements.{Element, Piece, closes, opens}
 
 -- one of a list
 abbrev pub In : {A : Type 0} → A → List A → Type 0
@@ -40,7 +40,7 @@ unfoldable pub placedLines : (ℕ → Line) → ℕ → List (List ℕ) → List
 placedLines of n [] = []
 placedLines of n (l ∷ ls) = placedRows (of n) l (rowsOf l) ++ placedLines of (suc n) ls
 
--- the elements of a text: those of the bytes before the change, of the change, and behind it
+-- the elements of a text: those of the bytes before the change, of the change, and after it
 unfoldable pub placed : List ℕ → List ℕ → List ℕ → List Placed
 placed before middle after = placedLines Above 0 (linesOf before) ++ (placedLines Changed 0 (linesOf middle) ++ placedLines Below 0 (linesOf after))
 

@@ -11,11 +11,11 @@ use Rattle.laws.proofs.Laws.{both-left, both-right}
 use Rattle.places.specs.Sizes.{mostBytes, mostElements, mostPieces}
 use Rattle.places.specs.Places.{rowWords}
 use Rattle.pieces.specs.Records.{recordWords}
-use Rattle.reading.specs.Rows.{rowsOf}
-use Rattle.worded.specs.Elements.{piecesOf}
+use Rattle.element_reading.specs.Rows.{rowsOf}
+use Rattle.meaning.specs.Elements.{piecesOf}
 use Rattle.meaning.specs.Items.{recordsOf}
-use Rattle.packages.specs.Survey.{itemTable}
-use Rattle.packages.proofs.Promises.{surveyed, says-of-records}
+use Rattle.survey_reading.specs.Survey.{itemTable}
+use Rattle.survey_reading.proofs.Promises.{surveyed, says-of-records}
 use Rattle.edges.specs.Left.{itemsLeft, lastsFrom, Line, packageOf, wordsOf, Leaves, LeavesEach}
 
 -- none of 1, 3 and 9 refuses the text

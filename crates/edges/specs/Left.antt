@@ -9,7 +9,7 @@ use Rattle.words.specs.Words.{bytesOf}
 use Rattle.places.specs.Sizes.{mostElements, mostPieces}
 use Rattle.places.specs.Places.{rowWords}
 use Rattle.pieces.specs.Records.{recordWords}
-use Rattle.packages.specs.Survey.{itemsAfter}
+use Rattle.survey_reading.specs.Survey.{itemsAfter}
 
 -- the item table after the survey, with tables lent that have a row to each element and a record to each piece of any text
 abbrev pub itemsLeft : List ℕ → List ℕ
@@ -52,7 +52,7 @@ abbrev pub wordsOf : List Line → List ℕ
 wordsOf [] = []
 wordsOf (l ∷ ls) = l .words ++ wordsOf ls
 
--- A survey of the package leaves these words in the records of its items, which stand behind the heading's.
+-- A survey of the package leaves these words in the records of its items, which stand after the heading's.
 abbrev pub Leaves : List Line → Type 0
 Leaves ls = lastsFrom 1 (length ls) (itemsLeft (packageOf ls)) ≡ wordsOf ls
 

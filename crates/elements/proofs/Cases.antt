@@ -26,7 +26,7 @@ use Rattle.quoted.specs.declared.Closed.{Closed}
 use Rattle.quoted.specs.declared.Closed.the-variants.{After, Never}
 use Rattle.elements.specs.Element.{unreadable, string, stringBy, apostrophe, spoilsNumber, delimiter, ruled, elementAt}
 use Rattle.elements.proofs.Rules.{found-ruled}
-use Rattle.elements.specs.Ways.{nameAt, wordAt, extendedAt, extendedFrom, numeralAt, numeralFrom, singleAt, delimiterAt, otherAt, opensOf, foundAt, openedBy}
+use Rattle.elements.specs.code.Ways.{nameAt, wordAt, extendedAt, extendedFrom, numeralAt, numeralFrom, singleAt, delimiterAt, otherAt, opensOf, foundAt, openedBy}
 use Rattle.elements.specs.declared.Kind.{Kind}
 use Rattle.elements.specs.declared.Literal.{Literal}
 use Rattle.elements.specs.declared.Opens.{Opens}
@@ -46,7 +46,7 @@ delimiter-fits p w k e m = omega (arith, place-below delimiters 0 k w (sym e ∙
 pub closed-fits : (q : ℕ) (s : List ℕ) (cl : Closed) (n : ℕ) → cl ≡ closedFrom q 0 (take (length s - 1) (drop 1 s)) → cl ≡ After n → 0 < length s → length s < 2 ^ 64 → Fits w64 (n + 1)
 closed-fits q s cl n e m l h = omega (arith, closed-in q (drop 1 s) 0 n (sym (rw (part-rest s 1) at e) ∙ m), length-drop 1 s)
 
--- identifiers and reserved words: n bytes, and `next` behind them
+-- identifiers and reserved words: n bytes, and `next` after them
 module _ (s : List ℕ) (n next : ℕ) (h : n ≡ run Word s) (q : next ≡ getD s n 0) where
   pub word-part : n ≤ length s
   word-part = omega (arith, h, run-le Word s)
@@ -95,7 +95,7 @@ module _ (s : List ℕ) (cl : Closed) (e : cl ≡ closedFrom 34 0 (take (length 
   pub string-whole : (n : ℕ) → cl ≡ After n → Element (Kind.Literal Literal.String) (n + 1) ≡ string s
   string-whole n m = sym (rw m at string-is)
 
--- numbers, and what stands behind them
+-- numbers, and what stands after them
 module _ (s : List ℕ) (r : Number) (e : r ≡ number s) where
   numeral-is : numeralAt s ≡ numeralFrom r s
   unfolding numeralAt

@@ -20,7 +20,7 @@ use Rattle.quoted.specs.Quoted.{closed}
 use Rattle.quoted.specs.declared.Closed.{Closed}
 use Rattle.quoted.specs.declared.Closed.the-variants.{After, Never}
 use Rattle.elements.specs.Element.{unreadable, identifierBy, identifier, extendedBy, extended, numeralBy, stringBy, string, apostrophe, delimiterBy, delimiter, ruled, unlessSpoilt, elementAt}
-use Rattle.elements.specs.Ways.{nameAt, wordBy, wordAt, extendedFrom, extendedAt, numeralFrom, numeralAt, singleAt, delimiterAt, otherAt, opensOf, openedBy, foundAt}
+use Rattle.elements.specs.code.Ways.{nameAt, wordBy, wordAt, extendedFrom, extendedAt, numeralFrom, numeralAt, singleAt, delimiterAt, otherAt, opensOf, openedBy, foundAt}
 use Rattle.elements.specs.declared.Opens.{Opens}
 use Rattle.elements.specs.declared.Found.{Found}
 use Rattle.elements.specs.declared.Found.the-variants.{Skip}
@@ -37,7 +37,7 @@ either : (x y : Bool) (u v : Found) → cond x u (cond y u v) ≡ cond (x || y) 
 either true y u v = refl
 either false y u v = refl
 
--- each rule with the byte behind its element
+-- each rule with the byte after its element
 module _ (s : List ℕ) where
   unreadable-as : unreadable s ≡ unlessSpoilt s (unreadable s)
   unfolding unreadable

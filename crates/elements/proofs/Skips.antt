@@ -23,7 +23,7 @@ use Rattle.quoted.specs.declared.Closed.{Closed}
 use Rattle.quoted.specs.declared.Closed.the-variants.{After, Never}
 use Rattle.elements.specs.Element.{unreadable, string, stringBy, apostrophe, delimiterBy, spoilsNumber, elementAt}
 use Rattle.elements.proofs.Rules.{found-ruled}
-use Rattle.elements.specs.Ways.{nameAt, wordAt, wordBy, extendedAt, extendedFrom, numeralAt, numeralFrom, singleAt, delimiterAt, otherAt, opensOf, foundAt, openedBy}
+use Rattle.elements.specs.code.Ways.{nameAt, wordAt, wordBy, extendedAt, extendedFrom, numeralAt, numeralFrom, singleAt, delimiterAt, otherAt, opensOf, foundAt, openedBy}
 use Rattle.elements.specs.declared.Opens.{Opens}
 use Rattle.elements.specs.declared.Found.{Found}
 use Rattle.elements.specs.declared.Found.the-variants.{Skip, Element}

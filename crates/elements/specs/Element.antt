@@ -44,7 +44,7 @@ identifierBy Nowhere n = Element Kind.Identifier n
 unfoldable pub identifier : List ℕ → Found
 identifier s = identifierBy (placeIn (take (run Word s) s) reservedWords) (run Word s)
 
--- "Extended identifiers (between backslashes, a doubled backslash for one)": n bytes behind the first backslash, the last of them a
+-- "Extended identifiers (between backslashes, a doubled backslash for one)": n bytes after the first backslash, the last of them a
 -- backslash; where it is the only one, nothing stands between
 abbrev pub extendedBy : Closed → List ℕ → Found
 extendedBy (After n) s = cond (eqb n 1) (unreadable s) (Element Kind.Extended (n + 1))
@@ -100,7 +100,7 @@ ruled ticks s =
     (delimiter s))))))))
 
 -- "So are: a number followed directly by a letter, digit, underscore, point or `#`; a non-reserved identifier or a number directly before a
--- quote; ..; an identifier followed directly by an underscore.": an element of this kind with this byte behind it
+-- quote; ..; an identifier followed directly by an underscore.": an element of this kind with this byte after it
 unfoldable pub spoilsNumber : ℕ → Bool
 spoilsNumber b = isLetter b || isDigit b || eqb b byte.underscore || eqb b byte.point || eqb b byte.hash || eqb b byte.quote
 

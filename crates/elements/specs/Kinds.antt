@@ -25,7 +25,7 @@ tick = 8
 abbrev pub closeParenthesis : ℕ
 closeParenthesis = 10
 
--- "neither a non-reserved identifier nor `)`": behind an element of which kinds an apostrophe on its line is a tick
+-- "neither a non-reserved identifier nor `)`": after an element of which kinds an apostrophe on its line is a tick
 abbrev pub ticksAfter : Kind → Bool
 ticksAfter Kind.Identifier = true
 ticksAfter Kind.Extended = true

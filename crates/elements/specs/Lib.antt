@@ -1,3 +1,3 @@
 pub mod Kinds
 pub mod Element
-pub mod Ways
+pub mod code

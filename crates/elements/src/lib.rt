@@ -8,9 +8,10 @@ ghost use mathlib.Core.Bool.{_||_};
 ghost use Prim.Native.Nat.{_<_};
 ghost use lib.Dec.{eqb};
 ghost use lib.ListN.{length};
+ghost use Rattle.classes.specs.Bytes.{quote, underscore};
 ghost use Rattle.elements.specs.Kinds.{kindNumber, ticksAfter};
 ghost use Rattle.elements.specs.Element.{unreadable, string, apostrophe, spoilsNumber, elementAt};
-ghost use Rattle.elements.specs.Ways.{wordAt, extendedAt, numeralAt, singleAt, delimiterAt, otherAt, opensOf};
+ghost use Rattle.elements.specs.code.Ways.{wordAt, extendedAt, numeralAt, singleAt, delimiterAt, otherAt, opensOf};
 
 pub enum Literal {
     Integer,
@@ -45,25 +46,35 @@ pub enum Opens {
     Other,
 }
 
+// From which numbers the kinds of delimiters and of reserved words are counted.
+const FIRST_DELIMITER: u64 = 8;
+
+const FIRST_WORD: u64 = 33;
+
+// The numbers of `'` and `)` among the delimiters.
+const TICK: u8 = 8;
+
+const CLOSE_PARENTHESIS: u8 = 10;
+
 pub fn kind_number(k: Kind) -> u64
     ensures { λ r. ⌜ r ≡ kindNumber k ⌝ }
 {
     match k {
-        Kind::Identifier => 1,
-        Kind::Extended => 2,
+        Kind::Identifier => places::IDENTIFIER,
+        Kind::Extended => places::EXTENDED,
         Kind::Literal(l) => match l {
-            Literal::Integer => 3,
-            Literal::Real => 4,
-            Literal::Character => 5,
-            Literal::String => 6,
+            Literal::Integer => places::INTEGER_LITERAL,
+            Literal::Real => places::REAL,
+            Literal::Character => places::CHARACTER,
+            Literal::String => places::STRING,
         },
-        Kind::Unreadable => 7,
-        Kind::Delimiter(n) => 8 + (n as u64),
-        Kind::Reserved(n) => 33 + (n as u64),
+        Kind::Unreadable => places::UNREADABLE,
+        Kind::Delimiter(n) => FIRST_DELIMITER + (n as u64),
+        Kind::Reserved(n) => FIRST_WORD + (n as u64),
     }
 }
 
-// Whether an apostrophe behind an element of this kind, on its line, is a tick.
+// Whether an apostrophe after an element of this kind, on its line, is a tick.
 pub fn ticks_after(k: Kind) -> bool
     ensures { λ r. ⌜ r ≡ ticksAfter k ⌝ }
 {
@@ -72,7 +83,7 @@ pub fn ticks_after(k: Kind) -> bool
         Kind::Extended => true,
         Kind::Literal(_) => false,
         Kind::Unreadable => false,
-        Kind::Delimiter(n) => n == 10,
+        Kind::Delimiter(n) => n == CLOSE_PARENTHESIS,
         Kind::Reserved(_) => false,
     }
 }
@@ -102,9 +113,9 @@ fn word_at(s: &[u8]) -> Found
     }
 }
 
-// Whether nothing stands between the backslashes, or what stands behind them makes the whole unreadable.
+// Whether nothing stands between the backslashes, or what stands after them makes the whole unreadable.
 fn spoils_extended(n: usize, next: u8) -> bool
-    ensures { λ r. ⌜ r ≡ (eqb n 1 || eqb next 95 || eqb next 34) ⌝ }
+    ensures { λ r. ⌜ r ≡ (eqb n 1 || eqb next underscore || eqb next quote) ⌝ }
 {
     (n == 1) | (next == b'_') | (next == b'"')
 }
@@ -170,10 +181,10 @@ fn apostrophe_at(s: &[u8], ticks: bool) -> Found
     ensures { λ r. ⌜ r ≡ apostrophe ticks (now (s .entry)) ⌝ }
 {
     if ticks {
-        return Found::Element(Kind::Delimiter(8), 1);
+        return Found::Element(Kind::Delimiter(TICK), 1);
     }
     if classes::byte_or(s, 2) != b'\'' {
-        return Found::Element(Kind::Delimiter(8), 1);
+        return Found::Element(Kind::Delimiter(TICK), 1);
     }
     if classes::is_graphic(classes::byte_or(s, 1)) {
         return Found::Element(Kind::Literal(Literal::Character), 3);

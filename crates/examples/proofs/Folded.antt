@@ -2,13 +2,13 @@
 use mathlib.Core.Path.{refl}
 use Rattle.places.specs.Places.{cellAt}
 use Rattle.records.specs.Records.{wordAt}
-use Rattle.reading.specs.Table.{cells}
+use Rattle.element_reading.specs.Table.{cells}
 use Rattle.operands.specs.Operands.{bytesAt, literalIn}
-use Rattle.folds.specs.Rows.{rowsIn}
-use Rattle.folds.specs.Folds.{elementIn, literalAt, kindIn, foldOf, foldedOf}
+use Rattle.forms.specs.Words.{rowsIn}
+use Rattle.expressions.specs.Folds.{elementIn, literalAt, kindInPiece, foldOf, foldedOf}
 use Rattle.edges.proofs.Computing.{computing}
 use Rattle.examples.specs.Folded.{ThreeCases}
 
 pub three-cases : ThreeCases
-unfolding computing cellAt wordAt cells bytesAt literalIn rowsIn elementIn literalAt kindIn foldOf foldedOf
+unfolding computing cellAt wordAt cells bytesAt literalIn rowsIn elementIn literalAt kindInPiece foldOf foldedOf
 three-cases = (refl, refl, refl)

@@ -1,4 +1,4 @@
--- Expressions worked out by hand, and what `folds::folded` answers of each by its contract, in 01's numbers: proofs/Folded.antt computes it.
+-- Expressions worked out by hand, and what `expressions::folded` answers of each by its contract, in 01's numbers: proofs/Folded.antt computes it.
 -- Assumes nothing: these are definitions.
 use Prim.Native.Nat.{ℕ}
 use Prim.Native.String.{String}
@@ -6,11 +6,11 @@ use mathlib.Core.Path.{_≡_}
 use mathlib.Core.List.{List, [], _∷_, _++_}
 use lib.IntN.{pos, negℤ}
 use Rattle.words.specs.Words.{bytesOf}
-use Rattle.reading.specs.Rows.{rowsOf}
-use Rattle.reading.specs.Table.{cells}
+use Rattle.element_reading.specs.Rows.{rowsOf}
+use Rattle.element_reading.specs.Table.{cells}
 use Rattle.meaning.specs.Items.{recordsOf}
 use Rattle.integers.specs.Numbers.{Numbers, numbersOf}
-use Rattle.folds.specs.Folds.{foldedOf}
+use Rattle.expressions.specs.Folds.{foldedOf}
 
 -- a package whose one item is a constant with this expression, which is its piece 1
 abbrev pub constantWith : String → List ℕ

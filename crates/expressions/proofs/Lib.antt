@@ -1,1 +1,4 @@
-pub mod Literal
+pub mod Expressions
+pub mod Rows
+pub mod Stored
+pub mod Turns

@@ -1,1 +1,4 @@
-pub mod Leaves
+pub mod Forms
+pub mod Expressions
+pub mod Folds
+pub mod code

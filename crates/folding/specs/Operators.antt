@@ -6,6 +6,7 @@ use lib.Signed.{ltZ, leZ}
 use Rattle.integers.specs.Integers.{sizedOf, arithmeticOf}
 use Rattle.integers.specs.declared.Folded.{Folded}
 use Rattle.integers.specs.declared.Folded.the-variants.{Whole, Truth, Stopped}
+use Rattle.states.specs.States as state
 use Rattle.folding.specs.declared.Relation.{Relation}
 use Rattle.folding.specs.declared.Relation.the-variants.{Equal, Unequal, Less, LessEqual, Greater, GreaterEqual}
 use Rattle.folding.specs.declared.Logic.{Logic}
@@ -51,25 +52,25 @@ decides Xnor t = false
 abbrev pub onWholes : Operator → ℤ → ℤ → Folded
 onWholes (O.Arithmetic o) a b = arithmeticOf o a b
 onWholes (O.Relation o) a b = Truth (relationOf o a b)
-onWholes (O.Logic o) a b = Stopped 6
-onWholes O.Join a b = Stopped 3
+onWholes (O.Logic o) a b = Stopped state.kind
+onWholes O.Join a b = Stopped state.unfolded
 
 -- an operator on two truths; state 6, "arithmetic on truths"
 abbrev pub onTruths : Operator → Bool → Bool → Folded
-onTruths (O.Arithmetic o) t u = Stopped 6
+onTruths (O.Arithmetic o) t u = Stopped state.kind
 onTruths (O.Relation o) t u = Truth (relationOf o (placeOf t) (placeOf u))
 onTruths (O.Logic o) t u = Truth (logicOf o t u)
-onTruths O.Join t u = Stopped 3
+onTruths O.Join t u = Stopped state.unfolded
 
--- the right side behind an integer; state 6, "integer and truth mixed"
+-- the right side after an integer; state 6, "integer and truth mixed"
 abbrev pub afterWhole : Operator → ℤ → Folded → Folded
 afterWhole op a (Whole b) = onWholes op a b
-afterWhole op a (Truth u) = Stopped 6
+afterWhole op a (Truth u) = Stopped state.kind
 afterWhole op a (Stopped s) = Stopped s
 
--- the right side behind a truth that does not decide
+-- the right side after a truth that does not decide
 abbrev pub afterTruth : Operator → Bool → Folded → Folded
-afterTruth op t (Whole b) = Stopped 6
+afterTruth op t (Whole b) = Stopped state.kind
 afterTruth op t (Truth u) = onTruths op t u
 afterTruth op t (Stopped s) = Stopped s
 
@@ -90,19 +91,19 @@ binaryOf op (Truth t) y = besideTruth op t y
 binaryOf op (Stopped s) y = Stopped s
 
 -- a sign or `abs` on an integer, `not` on a truth
-abbrev pub signOf : Sign → ℤ → Folded
-signOf Plus a = sizedOf a
-signOf Minus a = sizedOf (negℤ a)
-signOf Absolute a = sizedOf (pos (natAbs a))
-signOf Not a = Stopped 6
+abbrev pub signedWhole : Sign → ℤ → Folded
+signedWhole Plus a = sizedOf a
+signedWhole Minus a = sizedOf (negℤ a)
+signedWhole Absolute a = sizedOf (pos (natAbs a))
+signedWhole Not a = Stopped state.kind
 
 abbrev pub notOf : Sign → Bool → Folded
-notOf Plus t = Stopped 6
-notOf Minus t = Stopped 6
-notOf Absolute t = Stopped 6
+notOf Plus t = Stopped state.kind
+notOf Minus t = Stopped state.kind
+notOf Absolute t = Stopped state.kind
 notOf Not t = Truth (not t)
 
 abbrev pub unaryOf : Sign → Folded → Folded
-unaryOf op (Whole a) = signOf op a
+unaryOf op (Whole a) = signedWhole op a
 unaryOf op (Truth t) = notOf op t
 unaryOf op (Stopped s) = Stopped s

@@ -1,10 +1,11 @@
 // Folding: what an operator makes of folded operands, and which state stops an expression. Every function takes any operands.
 use integers::Arithmetic;
 use integers::Folded;
+use integers::Kind;
 ghost use mathlib.Core.Path.{_≡_};
 ghost use Prim.Native.Nat.{min};
-ghost use Rattle.folding.specs.Operators.{relationOf, placeOf, logicOf, decides, onWholes, onTruths, afterWhole, afterTruth, shortCircuit, besideTruth, binaryOf, signOf, notOf, unaryOf};
-ghost use Rattle.folding.specs.Outcomes.{numberSort, booleanSort, wrongSort, sortOf, signSort, combinedOf, signedOf, settledOf};
+ghost use Rattle.folding.specs.Operators.{relationOf, placeOf, logicOf, decides, onWholes, onTruths, afterWhole, afterTruth, shortCircuit, besideTruth, binaryOf, signedWhole, notOf, unaryOf};
+ghost use Rattle.folding.specs.Outcomes.{numberSort, booleanSort, wrongSort, besideInteger, besideBoolean, kindsSort, operatorSort, integerSigned, booleanSigned, kindSigned, signSort, combinedOf, signedOf, settledOf};
 
 pub enum Relation {
     Equal,
@@ -39,10 +40,9 @@ pub enum Sign {
     Not,
 }
 
-// What every element of an expression says of it: an integer, a truth, or the smallest of the states 3 to 6 in it.
+// What every element of an expression says of it: the kind of its value, or the smallest of the states 3 to 6 in it.
 pub enum Sort {
-    Number,
-    Boolean,
+    Of(Kind),
     Wrong(u8),
 }
 
@@ -104,8 +104,8 @@ fn on_wholes(op: Operator, a: i32, b: i32) -> Folded
     match op {
         Operator::Arithmetic(o) => integers::computed(o, a, b),
         Operator::Relation(o) => Folded::Truth(relates(o, a, b)),
-        Operator::Logic(_) => Folded::Stopped(6),
-        Operator::Join => Folded::Stopped(3),
+        Operator::Logic(_) => Folded::Stopped(states::KIND),
+        Operator::Join => Folded::Stopped(states::UNFOLDED),
     }
 }
 
@@ -113,10 +113,10 @@ fn on_truths(op: Operator, t: bool, u: bool) -> Folded
     ensures { λ r. ⌜ r ≡ onTruths op t u ⌝ }
 {
     match op {
-        Operator::Arithmetic(_) => Folded::Stopped(6),
+        Operator::Arithmetic(_) => Folded::Stopped(states::KIND),
         Operator::Relation(o) => Folded::Truth(relates(o, place(t), place(u))),
         Operator::Logic(o) => Folded::Truth(connected(o, t, u)),
-        Operator::Join => Folded::Stopped(3),
+        Operator::Join => Folded::Stopped(states::UNFOLDED),
     }
 }
 
@@ -125,7 +125,7 @@ fn after_whole(op: Operator, a: i32, y: Folded) -> Folded
 {
     match y {
         Folded::Whole(b) => on_wholes(op, a, b),
-        Folded::Truth(_) => Folded::Stopped(6),
+        Folded::Truth(_) => Folded::Stopped(states::KIND),
         Folded::Stopped(s) => Folded::Stopped(s),
     }
 }
@@ -134,7 +134,7 @@ fn after_truth(op: Operator, t: bool, y: Folded) -> Folded
     ensures { λ r. ⌜ r ≡ afterTruth op t y ⌝ }
 {
     match y {
-        Folded::Whole(_) => Folded::Stopped(6),
+        Folded::Whole(_) => Folded::Stopped(states::KIND),
         Folded::Truth(u) => on_truths(op, t, u),
         Folded::Stopped(s) => Folded::Stopped(s),
     }
@@ -173,13 +173,13 @@ fn binary(op: Operator, x: Folded, y: Folded) -> Folded
 }
 
 fn sign_whole(op: Sign, a: i32) -> Folded
-    ensures { λ r. ⌜ r ≡ signOf op a ⌝ }
+    ensures { λ r. ⌜ r ≡ signedWhole op a ⌝ }
 {
     match op {
         Sign::Plus => integers::kept(a),
         Sign::Minus => integers::negated(a),
         Sign::Absolute => integers::absolute(a),
-        Sign::Not => Folded::Stopped(6),
+        Sign::Not => Folded::Stopped(states::KIND),
     }
 }
 
@@ -187,9 +187,9 @@ fn sign_truth(op: Sign, t: bool) -> Folded
     ensures { λ r. ⌜ r ≡ notOf op t ⌝ }
 {
     match op {
-        Sign::Plus => Folded::Stopped(6),
-        Sign::Minus => Folded::Stopped(6),
-        Sign::Absolute => Folded::Stopped(6),
+        Sign::Plus => Folded::Stopped(states::KIND),
+        Sign::Minus => Folded::Stopped(states::KIND),
+        Sign::Absolute => Folded::Stopped(states::KIND),
         Sign::Not => Folded::Truth(!t),
     }
 }
@@ -209,10 +209,10 @@ fn number_sort(op: Operator) -> Sort
     ensures { λ r. ⌜ r ≡ numberSort op ⌝ }
 {
     match op {
-        Operator::Arithmetic(_) => Sort::Number,
-        Operator::Relation(_) => Sort::Boolean,
-        Operator::Logic(_) => Sort::Wrong(6),
-        Operator::Join => Sort::Wrong(3),
+        Operator::Arithmetic(_) => Sort::Of(Kind::Integer),
+        Operator::Relation(_) => Sort::Of(Kind::Truth),
+        Operator::Logic(_) => Sort::Wrong(states::KIND),
+        Operator::Join => Sort::Wrong(states::UNFOLDED),
     }
 }
 
@@ -220,10 +220,10 @@ fn boolean_sort(op: Operator) -> Sort
     ensures { λ r. ⌜ r ≡ booleanSort op ⌝ }
 {
     match op {
-        Operator::Arithmetic(_) => Sort::Wrong(6),
-        Operator::Relation(_) => Sort::Boolean,
-        Operator::Logic(_) => Sort::Boolean,
-        Operator::Join => Sort::Wrong(3),
+        Operator::Arithmetic(_) => Sort::Wrong(states::KIND),
+        Operator::Relation(_) => Sort::Of(Kind::Truth),
+        Operator::Logic(_) => Sort::Of(Kind::Truth),
+        Operator::Join => Sort::Wrong(states::UNFOLDED),
     }
 }
 
@@ -233,7 +233,7 @@ fn smaller(s: u8, t: u8) -> u8
     if s <= t { s } else { t }
 }
 
-// Where a state stands beside the operator; the 3 of `&` may be smaller.
+// Where a state stands beside the operator; the state of `&` may be smaller.
 fn wrong_sort(op: Operator, s: u8) -> Sort
     ensures { λ r. ⌜ r ≡ wrongSort op s ⌝ }
 {
@@ -241,47 +241,94 @@ fn wrong_sort(op: Operator, s: u8) -> Sort
         Operator::Arithmetic(_) => Sort::Wrong(s),
         Operator::Relation(_) => Sort::Wrong(s),
         Operator::Logic(_) => Sort::Wrong(s),
-        Operator::Join => Sort::Wrong(smaller(3, s)),
+        Operator::Join => Sort::Wrong(smaller(states::UNFOLDED, s)),
     }
 }
 
-fn sort_beside_number(op: Operator, y: Sort) -> Sort
-    ensures { λ r. ⌜ r ≡ sortOf op Sort.Number y ⌝ }
+fn sort_beside_number(op: Operator, l: Kind) -> Sort
+    ensures { λ r. ⌜ r ≡ besideInteger op l ⌝ }
 {
-    match y {
-        Sort::Number => number_sort(op),
-        Sort::Boolean => wrong_sort(op, 6),
-        Sort::Wrong(t) => wrong_sort(op, t),
+    match l {
+        Kind::Integer => number_sort(op),
+        Kind::Truth => wrong_sort(op, states::KIND),
     }
 }
 
-fn sort_beside_boolean(op: Operator, y: Sort) -> Sort
-    ensures { λ r. ⌜ r ≡ sortOf op Sort.Boolean y ⌝ }
+fn sort_beside_boolean(op: Operator, l: Kind) -> Sort
+    ensures { λ r. ⌜ r ≡ besideBoolean op l ⌝ }
+{
+    match l {
+        Kind::Integer => wrong_sort(op, states::KIND),
+        Kind::Truth => boolean_sort(op),
+    }
+}
+
+// What an operator makes of two kinds.
+fn kinds_sort(op: Operator, k: Kind, l: Kind) -> Sort
+    ensures { λ r. ⌜ r ≡ kindsSort op k l ⌝ }
+{
+    match k {
+        Kind::Integer => sort_beside_number(op, l),
+        Kind::Truth => sort_beside_boolean(op, l),
+    }
+}
+
+fn sort_beside_kind(op: Operator, k: Kind, y: Sort) -> Sort
+    ensures { λ r. ⌜ r ≡ operatorSort op (Sort.Of k) y ⌝ }
 {
     match y {
-        Sort::Number => wrong_sort(op, 6),
-        Sort::Boolean => boolean_sort(op),
+        Sort::Of(l) => kinds_sort(op, k, l),
         Sort::Wrong(t) => wrong_sort(op, t),
     }
 }
 
 fn sort_beside_wrong(op: Operator, s: u8, y: Sort) -> Sort
-    ensures { λ r. ⌜ r ≡ sortOf op (Sort.Wrong s) y ⌝ }
+    ensures { λ r. ⌜ r ≡ operatorSort op (Sort.Wrong s) y ⌝ }
 {
     match y {
-        Sort::Number => wrong_sort(op, s),
-        Sort::Boolean => wrong_sort(op, s),
+        Sort::Of(_) => wrong_sort(op, s),
         Sort::Wrong(t) => wrong_sort(op, smaller(s, t)),
     }
 }
 
 pub fn sorted(op: Operator, x: Sort, y: Sort) -> Sort
-    ensures { λ r. ⌜ r ≡ sortOf op x y ⌝ }
+    ensures { λ r. ⌜ r ≡ operatorSort op x y ⌝ }
 {
     match x {
-        Sort::Number => sort_beside_number(op, y),
-        Sort::Boolean => sort_beside_boolean(op, y),
+        Sort::Of(k) => sort_beside_kind(op, k, y),
         Sort::Wrong(s) => sort_beside_wrong(op, s, y),
+    }
+}
+
+fn number_signed(op: Sign) -> Sort
+    ensures { λ r. ⌜ r ≡ integerSigned op ⌝ }
+{
+    match op {
+        Sign::Plus => Sort::Of(Kind::Integer),
+        Sign::Minus => Sort::Of(Kind::Integer),
+        Sign::Absolute => Sort::Of(Kind::Integer),
+        Sign::Not => Sort::Wrong(states::KIND),
+    }
+}
+
+fn boolean_signed(op: Sign) -> Sort
+    ensures { λ r. ⌜ r ≡ booleanSigned op ⌝ }
+{
+    match op {
+        Sign::Plus => Sort::Wrong(states::KIND),
+        Sign::Minus => Sort::Wrong(states::KIND),
+        Sign::Absolute => Sort::Wrong(states::KIND),
+        Sign::Not => Sort::Of(Kind::Truth),
+    }
+}
+
+// What a sign, `abs` or `not` makes of a kind.
+fn kind_signed(op: Sign, k: Kind) -> Sort
+    ensures { λ r. ⌜ r ≡ kindSigned op k ⌝ }
+{
+    match k {
+        Kind::Integer => number_signed(op),
+        Kind::Truth => boolean_signed(op),
     }
 }
 
@@ -289,31 +336,8 @@ fn sign_sort(op: Sign, x: Sort) -> Sort
     ensures { λ r. ⌜ r ≡ signSort op x ⌝ }
 {
     match x {
-        Sort::Number => number_signed(op),
-        Sort::Boolean => boolean_signed(op),
+        Sort::Of(k) => kind_signed(op, k),
         Sort::Wrong(s) => Sort::Wrong(s),
-    }
-}
-
-fn number_signed(op: Sign) -> Sort
-    ensures { λ r. ⌜ r ≡ signSort op Sort.Number ⌝ }
-{
-    match op {
-        Sign::Plus => Sort::Number,
-        Sign::Minus => Sort::Number,
-        Sign::Absolute => Sort::Number,
-        Sign::Not => Sort::Wrong(6),
-    }
-}
-
-fn boolean_signed(op: Sign) -> Sort
-    ensures { λ r. ⌜ r ≡ signSort op Sort.Boolean ⌝ }
-{
-    match op {
-        Sign::Plus => Sort::Wrong(6),
-        Sign::Minus => Sort::Wrong(6),
-        Sign::Absolute => Sort::Wrong(6),
-        Sign::Not => Sort::Boolean,
     }
 }
 
@@ -353,8 +377,7 @@ pub fn settled(x: Outcome) -> Folded
 {
     let sort = x.sort;
     match sort {
-        Sort::Number => x.folded,
-        Sort::Boolean => x.folded,
+        Sort::Of(_) => x.folded,
         Sort::Wrong(s) => Folded::Stopped(s),
     }
 }

@@ -9,9 +9,9 @@ use native.Mathlib.Omega.{arith}
 use lib.Dec.{ltb}
 use lib.ListN.{getD}
 use Rattle.laws.proofs.Laws.{clash}
-use Rattle.ll.specs.Grammar.{Sym, act}
-use Rattle.ll.specs.Actions.{go, stop, End, read, bad, stopped, spent}
-use Rattle.ll.proofs.Trail.{Trail, whole, more, other, none, refuses, eats, acts, grows}
+use Rattle.grammars.specs.Grammar.{Sym, act}
+use Rattle.grammars.specs.Actions.{go, stop, End, read, bad, stopped, spent}
+use Rattle.grammars.proofs.Trail.{Trail, whole, more, other, none, refuses, eats, acts, grows}
 use Rattle.forms.specs.Names.{file}
 use Rattle.forms.specs.Rules.{forms}
 use Rattle.forms.specs.Tree.{Frame, State, Refusal, name-differs, too-deep, fresh, top, onTop, joined, marked, rowed, isNamed, does}

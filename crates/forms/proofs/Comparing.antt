@@ -7,9 +7,9 @@ use mathlib.Core.List.{List, [], _∷_, _++_}
 use native.Mathlib.Omega.{arith}
 use lib.Dec.{T}
 use lib.ListN.{getD}
-use Rattle.ll.specs.Grammar.{Sym, tok, nt, act}
-use Rattle.ll.proofs.Theory.{mem, keep, and-left, and-right, and-both, mem-append, mem-left, mem-right, mem-keep, keep-mem, one-of, is-one}
-use Rattle.ll.proofs.Check.{every, every-at}
+use Rattle.grammars.specs.Grammar.{Sym, tok, nt, act}
+use Rattle.grammars.proofs.Theory.{mem, keep, and-left, and-right, and-both, mem-append, mem-left, mem-right, mem-keep, keep-mem, one-of, is-one}
+use Rattle.grammars.proofs.Check.{every, every-at}
 use Rattle.forms.specs.Kinds.{colon}
 use Rattle.forms.specs.Rules.{forms, body}
 use Rattle.forms.specs.Open.{among}
@@ -236,7 +236,7 @@ module _ (n : ℕ) (x₀ : Walk) (g₀ : ℕ) (G₀ : List ℕ) (α : List Sym) 
       mem-right t S (keep z (before n)) (keep-mem z t (before n) (r .0) (subst (λ (y : ℕ). T (mem y (before n))) (sym (one-of t (x₀ .last) (r .1))) stood)))
       (mem-append t S (keep z (x₀ .last ∷ [])) m)
 
-  -- past a name that began behind an element of kind q
+  -- past a name that began after an element of kind q
   past : (m : ℕ) (z : Bool) (S : List ℕ) (q t : ℕ) → T (mem q (S ++ keep z (x₀ .last ∷ []))) → T (mem t (after m (q ∷ []))) → T (mem t (after m S ++ keep (z && null m) (x₀ .last ∷ [])))
   past m z S q t h l =
       ⊎-elim (λ k. mem-left t (after m S) (keep (z && null m) (x₀ .last ∷ [])) (mem-left t (getD hints.lasts m []) (keep (null m) S) k))

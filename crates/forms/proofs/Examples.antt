@@ -3,8 +3,8 @@ use Prim.Native.Nat.{ℕ}
 use mathlib.Core.Path.{_≡_, refl}
 use mathlib.Core.Bool.{true, false}
 use mathlib.Core.List.{List, [], _∷_}
-use Rattle.ll.specs.Grammar.{Sym}
-use Rattle.ll.specs.Actions.{End, read, bad, stopped, spent, runs}
+use Rattle.grammars.specs.Grammar.{Sym}
+use Rattle.grammars.specs.Actions.{End, read, bad, stopped, spent, runs}
 use Rattle.forms.specs.Kinds.{numberOf, becomes, colon, identifier, integer, left-paren, minus, right-paren, semicolon, tick, word-architecture, word-begin, word-constant, word-end, word-is, word-loop, word-mod, word-of, word-package, word-process, word-range, word-subtype}
 use Rattle.forms.specs.Names.{constant, subtype}
 use Rattle.forms.specs.Tree.{Row, State, Refusal, name-differs, too-deep, rowsOf, does}

@@ -7,8 +7,8 @@ use native.Mathlib.Omega.{arith}
 use lib.Dec.{ltb}
 use lib.ListN.{length}
 use Rattle.laws.proofs.Laws.{clash}
-use Rattle.ll.specs.Grammar.{Sym, nt}
-use Rattle.ll.specs.Actions.{go, stop, Reads, done, eat, acts, grow}
+use Rattle.grammars.specs.Grammar.{Sym, nt}
+use Rattle.grammars.specs.Actions.{go, stop, Reads, done, eat, acts, grow}
 use Rattle.forms.specs.Rules.{forms}
 use Rattle.forms.specs.Tree.{Row, Frame, State, Refusal, name-differs, too-deep, fresh, top, onTop, joined, marked, named, rowOf, rowed, does, start, isNamed, rowsOf, Reading}
 use Rattle.forms.specs.Forest.{Forest, bare, tree}

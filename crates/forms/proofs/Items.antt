@@ -9,15 +9,15 @@ use native.Mathlib.Omega.{arith}
 use lib.Dec.{T, eqb, ltb}
 use lib.ListN.{length, length-append}
 use borrow.Author.Tests.{le-leb}
-use Rattle.ll.specs.Grammar.{Sym, tok, nt, act, look}
-use Rattle.ll.proofs.Running.{run}
-use Rattle.ll.specs.Actions.{Step, go, stop, Reads, done, eat, acts, grow, End, read, bad, spent, chooseEnd, goOn, runs}
-use Rattle.ll.proofs.Theory as theory
-use Rattle.ll.proofs.Theory.{mem, and-left, and-right}
-use Rattle.ll.proofs.Check.{below-at, imp, imp-at}
-use Rattle.ll.proofs.Budget as budget
-use Rattle.ll.proofs.Acting as acting
-use Rattle.ll.proofs.Spare.{Fewer, credit, debit, fewer-grow, fewer-done}
+use Rattle.grammars.specs.Grammar.{Sym, tok, nt, act, look}
+use Rattle.grammars.proofs.Running.{run}
+use Rattle.grammars.specs.Actions.{Step, go, stop, Reads, done, eat, acts, grow, End, read, bad, spent, chooseEnd, goOn, runs}
+use Rattle.grammars.proofs.Theory as theory
+use Rattle.grammars.proofs.Theory.{mem, and-left, and-right}
+use Rattle.grammars.proofs.Check.{below-at, imp, imp-at}
+use Rattle.grammars.proofs.Budget as budget
+use Rattle.grammars.proofs.Acting as acting
+use Rattle.grammars.proofs.Spare.{Fewer, credit, debit, fewer-grow, fewer-done}
 use Rattle.forms.specs.Names.{constant, subtype, subtype-range, range, direction, name, name-rest, attribute, expression, logic, and-chain, or-chain, xor-chain, xnor-chain, relation, compared, relational, simple, first-term, sign, added, adding, term, multiplied, multiplying, factor, raised, primary, literal, mark, nameCount, nameNumber, nameNumbers, firstRow}
 use Rattle.forms.specs.Rules.{forms, body}
 use Rattle.forms.specs.code.Picks.{predict}
@@ -27,7 +27,7 @@ use Rattle.forms.specs.Items.{IsItem, ItemReading, ReadsItems, ItemsAnsw
 use Rattle.forms.proofs.Positive.{picked}
 use Rattle.forms.proofs.Tests.{tables, forms-ll, weight, leads, steps-paid, isRow, spare, rows-spare}
 
--- from a name that costs less than an element pays for, and behind which the text may end
+-- from a name that costs less than an element pays for, and after which the text may end
 module _ (m : ℕ) (light : weight m < 128) (known : m < nameCount) (last : T (mem 0 (theory.Tables.follow tables m))) where
   begun : theory.Fol forms predict tables forms-ll (nt m ∷ [])
   begun = ((λ t h. at-end t h), known, tt)
@@ -56,9 +56,6 @@ by-item : (P : Sym → Type 0) → P constant → P subtype → (from : Sym) →
 by-item P a b from (inl e) = subst P (sym e) a
 by-item P a b from (inr e) = subst P (sym e) b
 
-pub items-answer : ItemsAnswer
-items-answer = by-item (λ from. (alike : ℕ → ℕ → Bool) (w : List ℕ) → readingFrom from alike w ≡ spent → ⊥) (answers (nameNumber constant) (omega arith) (omega arith) tt) (answers (nameNumber subtype) (omega arith) (omega arith) tt)
-
 reads-one : (from : Sym) → IsItem from → (alike : ℕ → ℕ → Bool) (w : List ℕ) (s : State) → readingFrom from alike w ≡ read s → ItemReading from alike w s
 reads-one =
     by-item (λ from. (alike : ℕ → ℕ → Bool) (w : List ℕ) (s : State) → readingFrom from alike w ≡ read s → ItemReading from alike w s)
@@ -73,7 +70,7 @@ pub reads-items : ReadsItems
 reads-items from i alike w s = (reads-one from i alike w s, reads-all from i alike w s)
 
 -- the names that the two reach: none of their rules compares names
-abbrev reached : List ℕ
+abbrev pub reached : List ℕ
 reached =
     nameNumbers
     (constant ∷ subtype ∷ subtype-range ∷ range ∷ direction ∷ name ∷ name-rest ∷ attribute ∷ expression ∷ logic ∷ and-chain ∷ or-chain ∷ xor-chain ∷ xnor-chain ∷ relation ∷

@@ -7,7 +7,7 @@ use mathlib.Core.List.{List, [], _∷_, _++_, append-assoc, append-nil}
 use native.Mathlib.Omega.{arith}
 use lib.Dec.{T}
 use lib.ListN.{length, getD, take}
-use Rattle.ll.proofs.Theory.{and-left, and-right}
+use Rattle.grammars.proofs.Theory.{and-left, and-right}
 use Rattle.forms.specs.Tree.{Row, State, rowsOf, Reading}
 use Rattle.forms.specs.Forest.{Forest, bare, tree}
 use Rattle.forms.specs.Lines.{Item, at, row, isIn, sort, Pattern, nothing, one, operand, both, either, many, lines, Fits, none, this, inside, then, left, right, no-more, more, elements, sortOf, itemsIn, operatorOf, RowsFit}

@@ -1,5 +1,5 @@
 -- The leaves of the rows, read in order, are the elements in order, each once and each on its owner: by what stands before a row, in it and
--- behind it. Assumes nothing.
+-- after it. Assumes nothing.
 use Prim.Native.Nat.{ℕ, zero, suc, _+_, _-_, _≤_, _<_}
 use mathlib.Core.Path.{_≡_, refl, sym, _∙_, ap, ap₂}
 use mathlib.Core.Logic.{inl, inr}
@@ -72,7 +72,7 @@ module _ (row next : ℕ) {lo hi : ℕ} (r : Row) (x y : List Row) (a : lo ≤ r
   abbrev whole : ℕ → ℕ
   whole i = ownerFrom next row i (r ∷ (x ++ y))
 
-  -- an element before the row, in it and behind it
+  -- an element before the row, in it and after it
   before : (i : ℕ) → lo ≤ i → i < lo + (r .first - lo) → row ≡ whole i
   before i b c =
       let n : NoneSpans i (r ∷ (x ++ y)) = (not-spans i r (inl (omega arith)), none-append i x y (none-out i f (inl (omega arith))) (none-out i g (inl (omega (arith, forest-le f))))) in

@@ -10,13 +10,13 @@ use lib.Dec.{T, lit<}
 use lib.ListN.{length, take, drop, take-append-drop}
 use lib.Seq.{take-take}
 use Rattle.laws.proofs.Laws.{clash}
-use Rattle.ll.proofs.Running.{Out, good, run}
-use Rattle.ll.proofs.Running as plain
-use Rattle.ll.specs.Actions.{End, bad, stopped, spent}
-use Rattle.ll.proofs.Theory as theory
-use Rattle.ll.proofs.Budget as budget
-use Rattle.ll.proofs.Acting as acting
-use Rattle.ll.proofs.Trail.{Trail, trail}
+use Rattle.grammars.proofs.Running.{Out, good, run}
+use Rattle.grammars.proofs.Running as plain
+use Rattle.grammars.specs.Actions.{End, bad, stopped, spent}
+use Rattle.grammars.proofs.Theory as theory
+use Rattle.grammars.proofs.Budget as budget
+use Rattle.grammars.proofs.Acting as acting
+use Rattle.grammars.proofs.Trail.{Trail, trail}
 use Rattle.forms.specs.Names.{file}
 use Rattle.forms.specs.Rules.{forms, body}
 use Rattle.forms.specs.code.Picks.{predict}

@@ -10,11 +10,11 @@ use lib.Dec.{T, eqb, ltb, eqb→eq}
 use lib.ListN.{getD}
 use borrow.Author.Tests.{ne-eqb, ltb-true, ltb-false}
 use Rattle.laws.proofs.Laws.{clash}
-use Rattle.ll.specs.Grammar.{Sym, tok, nt, act}
-use Rattle.ll.specs.Actions.{Step, go, stop, End, read, bad, stopped, spent}
-use Rattle.ll.proofs.Theory.{mem, keep, nullb, and-left, and-right, and-both, or-cases, mem-append, mem-left, mem-right, mem-keep, keep-mem, is-one}
-use Rattle.ll.proofs.Check.{below-at, every, every-at}
-use Rattle.ll.proofs.Trail.{Trail, whole, more, other, none, refuses, eats, acts, grows}
+use Rattle.grammars.specs.Grammar.{Sym, tok, nt, act}
+use Rattle.grammars.specs.Actions.{Step, go, stop, End, read, bad, stopped, spent}
+use Rattle.grammars.proofs.Theory.{mem, keep, nullb, and-left, and-right, and-both, or-cases, mem-append, mem-left, mem-right, mem-keep, keep-mem, is-one}
+use Rattle.grammars.proofs.Check.{below-at, every, every-at}
+use Rattle.grammars.proofs.Trail.{Trail, whole, more, other, none, refuses, eats, acts, grows}
 use Rattle.forms.specs.Names.{file}
 use Rattle.forms.specs.Rules.{forms, body}
 use Rattle.forms.specs.Tree.{State, Refusal, name-differs, too-deep, fresh, top, onTop, joined, marked, named, rowed, isNamed, does, Reading}
@@ -33,7 +33,7 @@ before n = getD hints.befores n []
 abbrev null : ℕ → Bool
 null n = tests.tables .null n
 
-abbrev sameRole : Role → Role → Bool
+abbrev pub sameRole : Role → Role → Bool
 sameRole opening opening = true
 sameRole opening closing = false
 sameRole opening neither = false
@@ -44,7 +44,7 @@ sameRole neither opening = false
 sameRole neither closing = false
 sameRole neither neither = true
 
-same-role : (a b : Role) → T (sameRole a b) → a ≡ b
+pub same-role : (a b : Role) → T (sameRole a b) → a ≡ b
 same-role opening opening h = refl
 same-role opening closing h = absurd h
 same-role opening neither h = absurd h
@@ -56,25 +56,25 @@ same-role neither closing h = absurd h
 same-role neither neither h = refl
 
 -- what the next action does to the count
-abbrev headRole : List Sym → Role
+abbrev pub headRole : List Sym → Role
 headRole [] = neither
 headRole (tok a ∷ α) = neither
 headRole (nt n ∷ α) = neither
 headRole (act a ∷ α) = cond (eqb a 5) opening (cond (eqb a 6) closing neither)
 
-abbrev plain : List Sym → Bool
+abbrev pub plain : List Sym → Bool
 plain α = sameRole (headRole α) neither
 
-head-append : (β α : List Sym) → T (plain α) → headRole (β ++ α) ≡ headRole β
+pub head-append : (β α : List Sym) → T (plain α) → headRole (β ++ α) ≡ headRole β
 head-append [] α h = same-role (headRole α) neither h
 head-append (tok a ∷ β) α h = refl
 head-append (nt n ∷ β) α h = refl
 head-append (act a ∷ β) α h = refl
 
-plain-append : (β α : List Sym) → T (plain α) → T (plain β) → T (plain (β ++ α))
+pub plain-append : (β α : List Sym) → T (plain α) → T (plain β) → T (plain (β ++ α))
 plain-append β α h g = subst (λ (x : Role). T (sameRole x neither)) (sym (head-append β α h)) g
 
--- the kinds that may stand behind β, if those of S may stand before it
+-- the kinds that may stand after β, if those of S may stand before it
 abbrev ends : List ℕ → List Sym → List ℕ
 ends S [] = S
 ends S (tok a ∷ β) = ends (a ∷ []) β
@@ -116,7 +116,7 @@ ends-from (nt n ∷ β) S t m =
     (mem-append t (last n) (keep (null n) S) (r .1)))
     (ends-from β (last n ++ keep (null n) S) t m)
 
--- With a kind of S before it: every element of α does by its kind and the one before what the action behind it does, and no other action
+-- With a kind of S before it: every element of α does by its kind and the one before what the action after it does, and no other action
 -- touches the count.
 abbrev Fine : List ℕ → List Sym → Type 0
 Fine S [] = Unit {0}
@@ -261,10 +261,10 @@ compares alike k s (suc (suc (suc (suc (suc zero))))) e = absurd (deep-not-named
 compares alike k s (suc (suc (suc (suc (suc (suc zero)))))) e = let z : _≡_ {A = ℕ} 0 1 = cc in clash z
 compares alike k s (suc (suc (suc (suc (suc (suc (suc f))))))) e = let z : _≡_ {A = ℕ} 0 1 = cc in clash z
 
-grown-role : (q : ℕ) → q < forms .count → (α : List Sym) → T (plain α) → headRole (body q ++ α) ≡ neither
+pub grown-role : (q : ℕ) → q < forms .count → (α : List Sym) → T (plain α) → headRole (body q ++ α) ≡ neither
 grown-role q l α h = head-append (body q) α h ∙ same-role (headRole (body q)) neither (rule-plain q l)
 
--- a reading that ends so found no more than 32 open behind its first m elements
+-- a reading that ends so found no more than 32 open after its first m elements
 abbrev pub Within : End State Refusal → ℕ → Type 0
 Within (read s) m = Unit {0}
 Within (bad j) m = m ≤ j
@@ -276,7 +276,7 @@ module _ (alike : ℕ → ℕ → Bool) where
   abbrev Way : List Sym → ℕ → State → List ℕ → End State Refusal → Type 0
   Way = Trail State Refusal forms (does alike)
 
-  -- with d open behind an element of kind p, what stands open further on
+  -- with d open after an element of kind p, what stands open further on
   low : {α : List Sym} {k : ℕ} {s : State} {w : List ℕ} {o : End State Refusal} (p d : ℕ) → Way α k s w o → Fine (one p) α → after (headRole α) (s .depth) ≡ d → s .depth ≤ 32
       → (i : ℕ) → Within o (k + i) → openFrom p d w i ≤ 32
   unfolding openFrom
@@ -334,7 +334,7 @@ module _ (alike : ℕ → ℕ → Bool) where
 begun : Fine (one 0) (file ∷ [])
 begun = (tt, (λ t m. ⊎-elim (λ e. subst (λ (x : ℕ). T (mem x (before 0))) (sym (eqb→eq t 0 e)) tt) (λ z. absurd z) (or-cases (eqb t 0) false m)), tt)
 
--- behind every element that the reading got past, no more than 32 stand open
+-- after every element that the reading got past, no more than 32 stand open
 pub within : (alike : ℕ → ℕ → Bool) (w : List ℕ) (o : End State Refusal) → readingOf alike w ≡ o → (i : ℕ) → Within o i → openAfter w i ≤ 32
 within alike w o e i m =
     let z : i ≡ 0 + i = omega arith in
@@ -347,6 +347,3 @@ too-deep-at alike w j e =
     let l = r .1 .0 in
     let z : r .0 ≡ j = omega arith in
     (subst (λ (x : ℕ). openAfter w x ≡ 33) z (r .1 .1), within alike w (stopped j too-deep) e)
-
-pub never-deep : (alike : ℕ → ℕ → Bool) (w : List ℕ) (s : State) → Reading alike w s → (i : ℕ) → openAfter w i ≤ 32
-never-deep alike w s r i = within alike w (read s) (reads-files alike w s .1 r) i tt

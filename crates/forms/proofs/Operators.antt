@@ -8,10 +8,10 @@ use native.Mathlib.Omega.{arith}
 use lib.Dec.{T, eqb, ltb, eqb→eq}
 use lib.ListN.{getD, drop}
 use Rattle.laws.proofs.Laws.{clash}
-use Rattle.ll.specs.Grammar.{Sym, tok, nt, act}
-use Rattle.ll.specs.Actions.{go, stop, Reads, done, eat, acts, grow}
-use Rattle.ll.proofs.Theory.{mem, and-left, and-right, one-of, is-one}
-use Rattle.ll.proofs.Check.{below-at, every, every-at}
+use Rattle.grammars.specs.Grammar.{Sym, tok, nt, act}
+use Rattle.grammars.specs.Actions.{go, stop, Reads, done, eat, acts, grow}
+use Rattle.grammars.proofs.Theory.{mem, and-left, and-right, one-of, is-one}
+use Rattle.grammars.proofs.Check.{below-at, every, every-at}
 use Rattle.forms.specs.Rules.{forms, body}
 use Rattle.forms.specs.Tree.{Row, Frame, State, Refusal, name-differs, too-deep, fresh, top, onTop, joined, marked, named, rowOf, rowed, isNamed, does, rowsOf, Reading}
 use Rattle.forms.specs.Open.{among}

@@ -8,13 +8,14 @@ use mathlib.Core.List.{List, [], _∷_, _++_}
 use native.Mathlib.Omega.{arith}
 use lib.Dec.{T, eqb, eqb→eq}
 use lib.ListN.{getD}
-use Rattle.ll.specs.Grammar.{Sym}
-use Rattle.ll.proofs.Theory.{and-left, and-right, or-cases}
+use Rattle.grammars.specs.Grammar.{Sym}
+use Rattle.grammars.proofs.Theory.{and-left, and-right, or-cases}
 use Rattle.forms.specs.Tree.{Row, State, rowsOf, Reading}
 use Rattle.forms.specs.Kinds.{numberOf}
 use Rattle.forms.specs.Open.{among}
 use Rattle.forms.specs.Operators.{unaryOperators, binaryOperators, HasOperator, OperatorRight, OperatorsRight, EachRow}
-use Rattle.forms.specs.Lines.{Item, at, row, isIn, operates, kindsOf, Pattern, nothing, one, operand, both, either, many, line, IsOf, codeOf, Fits, none, this, bare, inside, then, left, right, no-more, more, ownItems, IsAmong, childrenIn, operatorOf, RowsFit}
+use Rattle.forms.specs.Lines.{Item, at, row, isIn, operates, Pattern, nothing, one, operand, both, either, many, line, IsOf, codeOf, Fits, none, this, bare, inside, then, left, right, no-more, more, ownItems, IsAmong, childrenIn, operatorOf, RowsFit}
+use Rattle.forms.specs.code.Shapes.{kindsOf}
 use Rattle.forms.proofs.Patterns.{subset, subset-at}
 use Rattle.forms.proofs.Operators.{Within, MarkRight, operators-marked}
 use Rattle.forms.proofs.Fitting.{rows-fit}

@@ -9,7 +9,7 @@ use lib.Dec.{T, leb, ltb, leb→le}
 use lib.ListN.{length, take, length-append}
 use borrow.Author.Tests.{le-leb}
 use Rattle.laws.proofs.Laws.{clash}
-use Rattle.ll.proofs.Theory.{and-left, and-right}
+use Rattle.grammars.proofs.Theory.{and-left, and-right}
 use Rattle.forms.specs.Tree.{Row, State, rowsOf, Reading}
 use Rattle.forms.specs.Forest.{Forest, bare, tree, Tiled, none, unit}
 use Rattle.forms.specs.Operators.{EachRow}
@@ -163,7 +163,7 @@ abbrev Contain : ℕ → ℕ → List Row → Type 0
 Contain i hi [] = Unit {0}
 Contain i hi (r ∷ l) = (r .first + r .count ≤ hi) × (T (spans i r) → EachRow (λ o. T (spans i o) → Holds r o) l) × Contain i hi l
 
--- a row behind that spans no element before
+-- a row after that spans no element before
 beyond : (i mid : ℕ) (r : Row) (m : List Row) → i < mid → EachRow (λ o. mid ≤ o .first) m → EachRow (λ o. T (spans i o) → Holds r o) m
 beyond i mid r [] h e = tt
 beyond i mid r (o ∷ m) h e = ((λ t. absurd (omega (arith, spans-is i o t .0, e .0))), beyond i mid r m h (e .1))
@@ -212,7 +212,7 @@ all-owned alike w s r i h = by (find i 0 (length (rowsOf s)) (rowsOf s))
         }
     by (inr n) = absurd (not-none i (rows-tiled alike w s r) (omega arith) h n)
 
--- the other way: an own item is spanned by no row behind its own
+-- the other way: an own item is spanned by no row after its own
 pub not-spans : (i : ℕ) (r : Row) → (i < r .first) ⊎ (r .first + r .count ≤ i) → spans i r ≡ false
 not-spans i r h = by (spans i r) (spans-is i r) h
   where

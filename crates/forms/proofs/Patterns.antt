@@ -7,9 +7,10 @@ use mathlib.Core.Bool.{Bool, true, false, not, _&&_, _||_}
 use mathlib.Core.List.{List, [], _∷_, _++_, append-assoc, append-nil}
 use lib.Dec.{T, eqb, eqb→eq}
 use lib.ListN.{getD}
-use Rattle.ll.proofs.Theory.{and-left, and-right, or-cases}
+use Rattle.grammars.proofs.Theory.{and-left, and-right, or-cases}
 use Rattle.forms.specs.Kinds.{numberOf, left-paren, right-paren}
-use Rattle.forms.specs.Lines.{Item, at, row, isIn, Pattern, nothing, one, operand, both, either, many, e, expressions, anExpression, IsOf, codeOf, Fits, none, this, bare, inside, then, left, right, no-more, more}
+use Rattle.forms.specs.Lines.{Item, at, row, isIn, Pattern, nothing, one, operand, both, either, many, expressions, anExpression, IsOf, codeOf, Fits, none, this, bare, inside, then, left, right, no-more, more}
+use Rattle.forms.specs.code.Shapes.{e}
 
 -- a list of items cut in two
 pub record Cut (A B : List Item → Type 0) (x : List Item) : Type 0 where

@@ -1,4 +1,4 @@
--- How the rows of a constant or a subtype begin: its own row, over all its elements, and its type mark's. What is read behind the mark
+-- How the rows of a constant or a subtype begin: its own row, over all its elements, and its type mark's. What is read after the mark
 -- puts its rows into frames of its own. Assumes nothing.
 use Prim.Native.Nat.{ℕ, zero, suc, _+_, _-_, _<_}
 use mathlib.Core.Path.{_≡_, refl, sym as flip, _∙_, ap, subst}
@@ -9,11 +9,11 @@ use lib.Dec.{T, eqb, ltb, eqb→eq}
 use lib.ListN.{length}
 use borrow.Author.Tests.{eq-eqb, ne-eqb}
 use Rattle.laws.proofs.Laws.{clash}
-use Rattle.ll.specs.Grammar.{Sym, tok, nt, act}
-use Rattle.ll.specs.Actions.{go, Reads, done, eat, acts, grow}
-use Rattle.ll.proofs.Theory.{mem, and-left, and-right}
-use Rattle.ll.proofs.Check.{below, below-at, imp, imp-at}
-use Rattle.ll.proofs.Room as room
+use Rattle.grammars.specs.Grammar.{Sym, tok, nt, act}
+use Rattle.grammars.specs.Actions.{go, Reads, done, eat, acts, grow}
+use Rattle.grammars.proofs.Theory.{mem, and-left, and-right}
+use Rattle.grammars.proofs.Check.{below, below-at, imp, imp-at}
+use Rattle.grammars.proofs.Room as room
 use Rattle.forms.specs.Kinds.{numberOf, identifier, word-constant, word-is, word-subtype, colon}
 use Rattle.forms.specs.Names.{constant, subtype, subtype-range, range, expression, mark, nameNumber, nameNumbers}
 use Rattle.forms.specs.Rules.{forms, body, ruleOf}
@@ -22,7 +22,7 @@ use Rattle.forms.specs.Items.{ItemReading, itemRow, markRow, BeginWithMa
 use Rattle.forms.proofs.Positive.{picked}
 use Rattle.forms.proofs.Tests as tests
 
--- the names behind the mark whose rows stand in frames of their own
+-- the names after the mark whose rows stand in frames of their own
 abbrev framed : List ℕ
 framed = nameNumbers (subtype-range ∷ range ∷ expression ∷ [])
 

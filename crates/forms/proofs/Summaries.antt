@@ -7,18 +7,19 @@ use mathlib.Core.Bool.{Bool, true, false, _&&_, _||_, cond}
 use mathlib.Core.List.{List, [], _∷_, _++_, append-assoc, append-nil}
 use lib.Dec.{T, eqb, eqb→eq}
 use lib.ListN.{getD}
-use Rattle.ll.specs.Grammar.{Sym, tok, nt, act}
+use Rattle.grammars.specs.Grammar.{Sym, tok, nt, act}
 use borrow.Author.Tests.{eq-eqb}
-use Rattle.ll.proofs.Theory.{and-left, and-right, or-cases, or-left}
-use Rattle.ll.proofs.Check.{below-at, imp}
+use Rattle.grammars.proofs.Theory.{and-left, and-right, or-cases, or-left}
+use Rattle.grammars.proofs.Check.{below-at, imp}
 use Rattle.forms.specs.Kinds.{identifier, word-and, word-architecture, word-downto, word-else, word-elsif, word-entity, word-in, word-inout, word-is, word-mod, word-or, word-out, word-package, word-range, word-rem, word-to, word-when, word-xnor, word-xor, not-equal, at-least, at-most, ampersand, star, plus, comma, minus, slash, colon, semicolon, less, equal, greater}
 use Rattle.forms.specs.Names.{nameNumber}
 use Rattle.forms.specs.Names as name
 use Rattle.forms.specs.Rules.{forms, body}
-use Rattle.forms.specs.Lines.{Item, at, row, isIn, operates, branches, sort, Pattern, nothing, one, operand, both, either, many, with, e, oneOf, rows, branch, opt, seq, primaries, factors, terms, simples, relations, anExpression, labelled, closing, bounded, declared, concurrent, sequential, target, portList, nameList, line, Fits, this}
+use Rattle.forms.specs.Lines.{Item, at, row, isIn, operates, branches, sort, Pattern, nothing, one, operand, both, either, many, rows, opt, seq, primaries, factors, terms, simples, relations, anExpression, labelled, closing, bounded, declared, concurrent, sequential, target, portList, nameList, line, Fits, this}
+use Rattle.forms.specs.code.Shapes.{with, e, oneOf, branch}
 use Rattle.forms.proofs.Patterns.{FitsAll, sub, sub-sound, single, alone, plain, plains, replain, replains, fits-append}
 
--- A name puts items behind those of the frame that it finds, or turns all of the frame's items into others.
+-- A name puts items after those of the frame that it finds, or turns all of the frame's items into others.
 pub data Summary : Type 0 where
   adds : Pattern → Summary
   turns : Pattern → Pattern → Summary
@@ -383,7 +384,7 @@ module _ (W : List ℕ) (End : List Item → Type 0) where
       by false true u = first-sound q P x u g .1
       by false false u = is-in-one 0
 
-  -- A frame: its items behind those that were there before, as the test has them.
+  -- A frame: its items after those that were there before, as the test has them.
   record Topped (base x : List Item) (q : ℕ) (P : List Pattern) (K : List ℕ) (Rest : Type 0) : Type 0 where
     pub items : List Item
     pub is : x ≡ base ++ items

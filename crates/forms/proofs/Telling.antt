@@ -6,9 +6,9 @@ use mathlib.Core.Bool.{Bool, true, false, _&&_, _||_, cond}
 use mathlib.Core.List.{List, [], _∷_, _++_}
 use lib.Dec.{T, eqb}
 use lib.ListN.{getD}
-use Rattle.ll.specs.Grammar.{Sym, tok, nt, act}
-use Rattle.ll.proofs.Theory.{mem, keep}
-use Rattle.ll.proofs.Check.{below-at, every}
+use Rattle.grammars.specs.Grammar.{Sym, tok, nt, act}
+use Rattle.grammars.proofs.Theory.{mem, keep}
+use Rattle.grammars.proofs.Check.{below-at, every}
 use Rattle.forms.specs.Kinds.{colon}
 use Rattle.forms.specs.Names.{package-word, entity-word, architecture-word, closing, after-name, labelled-concurrent, block, process, after-first, labelled, loop, label}
 use Rattle.forms.specs.Rules.{forms, body}
@@ -17,7 +17,7 @@ use Rattle.forms.specs.Closing.{isIdentifier, isEnd, behindUnit, opensOn
 use Rattle.forms.proofs.Walking.{Closed, nothing, named, Walk, innermost, labelOf, walked, closedBy}
 use Rattle.forms.proofs.Hints as hints
 
--- what is told of the end behind which the last element stands: there is none, so that nothing is closed; it closes what the innermost frame names
+-- what is told of the end after which the last element stands: there is none, so that nothing is closed; it closes what the innermost frame names
 pub data Ends : Type 0 where
   clear : Ends
   frame : Ends
@@ -161,7 +161,7 @@ onward clear = clear
 onward frame = any
 onward any = any
 
--- behind a name
+-- after a name
 abbrev pub through : Out → Known → Known
 through labelling i = labels
 through lost i = unknown
@@ -172,7 +172,7 @@ through kept labels = unknown
 through kept pushed = unknown
 through kept owns = owns
 
--- behind an element of kind a that neither opens nor closes
+-- after an element of kind a that neither opens nor closes
 abbrev pub stays : ℕ → Known → Known
 stays a unknown = unknown
 stays a unnamed = unnamed
@@ -184,7 +184,7 @@ stays a owns = owns
 abbrev pub noColon : List ℕ → Bool
 noColon S = every (λ p. isFalse (among p (colon ∷ []))) S
 
--- behind a word that opens, one of S before it
+-- after a word that opens, one of S before it
 abbrev pub opened : List ℕ → Known → Known
 opened S unknown = unknown
 opened S unnamed = cond (noColon S) owns unknown
@@ -193,7 +193,7 @@ opened S labels = owns
 opened S pushed = unknown
 opened S owns = unknown
 
--- behind end
+-- after end
 abbrev pub ended : Known → Ends
 ended unknown = any
 ended unnamed = any
@@ -244,7 +244,7 @@ abbrev pub stillKept : ℕ → Bool → Out → Bool
 stillKept zero k o = k && isKept o
 stillKept (suc f) k o = k
 
--- what an element does by its kind is the same behind each of S
+-- what an element does by its kind is the same after each of S
 abbrev pub sure : ℕ → List ℕ → Ends → Bool
 sure a S e =
     (isFrame e || every (λ p. sameBool (behindUnit p a) (behindUnit (headOf S) a)) S)

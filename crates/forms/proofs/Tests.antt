@@ -7,12 +7,12 @@ use mathlib.Core.Bool.{Bool, false}
 use native.Mathlib.Omega.{arith}
 use lib.Dec.{T, leb, leb→le}
 use lib.ListN.{getD}
-use Rattle.ll.proofs.Running.{run}
-use Rattle.ll.proofs.Theory.{Tables, LL}
-use Rattle.ll.proofs.Check.{below-at, ll}
-use Rattle.ll.proofs.Budget.{Paid, paid}
-use Rattle.ll.proofs.Room.{nested, near, part, parts}
-use Rattle.ll.proofs.Spare.{spares, credit, debit}
+use Rattle.grammars.proofs.Running.{run}
+use Rattle.grammars.proofs.Theory.{Tables, LL}
+use Rattle.grammars.proofs.Check.{below-at, ll}
+use Rattle.grammars.proofs.Budget.{Paid, paid}
+use Rattle.grammars.proofs.Room.{nested, near, part, parts}
+use Rattle.grammars.proofs.Spare.{spares, credit, debit}
 use Rattle.forms.specs.Names.{nameCount, firstRow}
 use Rattle.forms.specs.Rules.{forms, body}
 use Rattle.forms.specs.code.Picks.{picks, predict}

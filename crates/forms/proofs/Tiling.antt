@@ -9,11 +9,11 @@ use lib.Dec.{T, eqb, ltb, eqb→eq, leb→le}
 use lib.ListN.{length}
 use borrow.Author.Tests.{eq-eqb, ne-eqb, le-leb}
 use Rattle.laws.proofs.Laws.{clash}
-use Rattle.ll.specs.Grammar.{Sym, tok, nt, act}
-use Rattle.ll.specs.Actions.{go, stop, Reads, done, eat, acts, grow}
-use Rattle.ll.proofs.Theory.{mem, and-left, and-right}
-use Rattle.ll.proofs.Check.{below-at, imp, imp-at}
-use Rattle.ll.proofs.Room.{pickT, pickB, nested, nest-down}
+use Rattle.grammars.specs.Grammar.{Sym, tok, nt, act}
+use Rattle.grammars.specs.Actions.{go, stop, Reads, done, eat, acts, grow}
+use Rattle.grammars.proofs.Theory.{mem, and-left, and-right}
+use Rattle.grammars.proofs.Check.{below-at, imp, imp-at}
+use Rattle.grammars.proofs.Room.{pickT, pickB, nested, nest-down}
 use Rattle.forms.specs.Names.{file, units, unit, package-unit, entity-unit, architecture-unit, nameNumbers, firstRow}
 use Rattle.forms.specs.Rules.{forms, body}
 use Rattle.forms.specs.Tree.{Row, Frame, State, Refusal, name-differs, too-deep, fresh, top, onTop, joined, marked, named, rowOf, rowed, does, isNamed, rowsOf, Reading}

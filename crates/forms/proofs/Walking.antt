@@ -34,11 +34,11 @@ abbrev pub isNothing : Closed → Bool
 isNothing nothing = true
 isNothing (named n) = false
 
--- the label of what opens behind an element of kind p, k elements having been read: the identifier before the colon
+-- the label of what opens after an element of kind p, k elements having been read: the identifier before the colon
 abbrev pub labelOf : ℕ → ℕ → ℕ
 labelOf p k = cond (isColon p) (k - 1) 0
 
--- the names of what stands open behind one more element, of kind t
+-- the names of what stands open after one more element, of kind t
 abbrev pub namesAfter : Walk → ℕ → List ℕ
 namesAfter x t =
     cond (isEnd t) (around (x .names))
@@ -46,14 +46,14 @@ namesAfter x t =
     (cond (opensOne (x .last) t) (labelOf (x .last) (x .count) ∷ x .names)
     (x .names)))
 
--- what the end closes behind which that element stands, with nothing but its word between
+-- what the end closes after which that element stands, with nothing but its word between
 abbrev pub endsAfter : Walk → ℕ → Closed
 endsAfter x t = cond (isEnd t) (named (innermost (x .names))) (cond (behindEnd (x .last) t) (x .ends) nothing)
 
 abbrev pub walked : Walk → ℕ → Walk
 walked x t = record { count = suc (x .count); last = t; names = namesAfter x t; ends = endsAfter x t }
 
--- behind k more elements of w
+-- after k more elements of w
 unfoldable pub walkOver : Walk → List ℕ → ℕ → Walk
 walkOver x w zero = x
 walkOver x [] (suc k) = x
@@ -63,7 +63,7 @@ walkOver x (t ∷ w) (suc k) = walkOver (walked x t) w k
 abbrev pub unwalked : Walk
 unwalked = record { count = 0; last = 0; names = []; ends = nothing }
 
--- what an element of kind t closes by name: a closing name is an identifier right behind end, or behind end and its word
+-- what an element of kind t closes by name: a closing name is an identifier right after end, or after end and its word
 abbrev pub closedBy : Walk → ℕ → Closed
 closedBy x t = cond (isIdentifier t) (x .ends) nothing
 

@@ -5,7 +5,7 @@ use Prim.Native.Nat.{ℕ, zero, suc}
 use mathlib.Core.Bool.{Bool, true, false, _&&_, cond}
 use mathlib.Core.List.{List, [], _∷_}
 use lib.ListN.{getD}
-use Rattle.ll.specs.Grammar.{Sym}
+use Rattle.grammars.specs.Grammar.{Sym}
 use Rattle.forms.specs.Kinds.{identifier, word-architecture, word-block, word-end, word-entity, word-loop, word-package, word-process, left-paren, colon}
 use Rattle.forms.specs.Open.{Role, opening, closing, neither, among, role}
 
@@ -20,7 +20,7 @@ pub data Closed : Type 0 where
   named : Name → Closed
 
 -- What is known when some elements were read: how many; the kind of the last, 0 if there is none; the names of what stands open, the
--- innermost first; and behind end, or behind end and its word, what that end closes.
+-- innermost first; and after end, or after end and its word, what that end closes.
 pub record Walk : Type 0 where
   pub count : ℕ
   pub last : ℕ
@@ -36,7 +36,7 @@ isOpening opening = true
 isOpening closing = false
 isOpening neither = false
 
--- a unit has the name right behind its word
+-- a unit has the name right after its word
 abbrev pub unitWords : List Sym
 unitWords = word-package ∷ word-entity ∷ word-architecture ∷ []
 
@@ -53,7 +53,7 @@ isEnd t = among t (word-end ∷ [])
 abbrev pub isColon : ℕ → Bool
 isColon t = among t (colon ∷ [])
 
--- an identifier behind a unit's word
+-- an identifier after a unit's word
 abbrev pub behindUnit : ℕ → ℕ → Bool
 behindUnit p t = isIdentifier t && among p unitWords
 
@@ -61,7 +61,7 @@ behindUnit p t = isIdentifier t && among p unitWords
 abbrev pub opensOne : ℕ → ℕ → Bool
 opensOne p t = isOpening (cond (among t (left-paren ∷ [])) neither (role p t))
 
--- a word right behind end, of what may be closed by name
+-- a word right after end, of what may be closed by name
 abbrev pub behindEnd : ℕ → ℕ → Bool
 behindEnd p t = isEnd p && among t closedWords
 
@@ -75,7 +75,7 @@ beforeLast zero = no-name
 beforeLast (suc zero) = no-name
 beforeLast (suc (suc k)) = element k
 
--- A block, process, loop or if opens behind the last of k elements, of kind p: with its label, the identifier before the colon, or with none.
+-- A block, process, loop or if opens after the last of k elements, of kind p: with its label, the identifier before the colon, or with none.
 abbrev pub opensLabelled : ℕ → ℕ → List Name → List Name
 opensLabelled p k names = cond (isColon p) (beforeLast k) no-name ∷ names
 
@@ -88,7 +88,7 @@ abbrev pub closesInnermost : List Name → List Name
 closesInnermost [] = []
 closesInnermost (n ∷ names) = names
 
--- the names of what stands open behind one more element, of kind t; behind end and its word an identifier is no unit's name
+-- the names of what stands open after one more element, of kind t; after end and its word an identifier is no unit's name
 abbrev pub namesAfter : Walk → ℕ → List Name
 namesAfter x t =
     cond (isEnd t) (closesInnermost (x .names))
@@ -96,14 +96,14 @@ namesAfter x t =
     (cond (opensOne (x .last) t) (opensLabelled (x .last) (x .count) (x .names))
     (x .names)))
 
--- what the end closes behind which that element stands, with nothing but its word between
+-- what the end closes after which that element stands, with nothing but its word between
 abbrev pub endsAfter : Walk → ℕ → Closed
 endsAfter x t = cond (isEnd t) (named (innermost (x .names))) (cond (behindEnd (x .last) t) (x .ends) nothing)
 
 abbrev pub walked : Walk → ℕ → Walk
 walked x t = record { count = suc (x .count); last = t; names = namesAfter x t; ends = endsAfter x t }
 
--- behind k more elements of w
+-- after k more elements of w
 unfoldable pub walkOver : Walk → List ℕ → ℕ → Walk
 walkOver x w zero = x
 walkOver x [] (suc k) = x
@@ -113,7 +113,7 @@ walkOver x (t ∷ w) (suc k) = walkOver (walked x t) w k
 abbrev pub unwalked : Walk
 unwalked = record { count = 0; last = 0; names = []; ends = nothing }
 
--- what an element of kind t closes by name: a closing name is an identifier right behind end, or behind end and its word
+-- what an element of kind t closes by name: a closing name is an identifier right after end, or after end and its word
 abbrev pub closedBy : Walk → ℕ → Closed
 closedBy x t = cond (isIdentifier t) (x .ends) nothing
 

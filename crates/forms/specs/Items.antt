@@ -7,8 +7,8 @@ use mathlib.Core.Logic.{_⊎_, _↔_}
 use mathlib.Core.List.{List, [], _∷_}
 use mathlib.Core.Bool.{Bool}
 use lib.ListN.{length}
-use Rattle.ll.specs.Grammar.{Sym}
-use Rattle.ll.specs.Actions.{read, spent, Reads}
+use Rattle.grammars.specs.Grammar.{Sym}
+use Rattle.grammars.specs.Actions.{read, spent, Reads}
 use Rattle.forms.specs.Names.{constant, subtype}
 use Rattle.forms.specs.Rules.{forms}
 use Rattle.forms.specs.Tree.{Row, State, Refusal, does, start, rowsOf}
@@ -43,7 +43,7 @@ OneItem =
 abbrev pub FewerRows : Type 0
 FewerRows = (from : Sym) → IsItem from → (alike : ℕ → ℕ → Bool) (w : List ℕ) (s : State) → ItemReading from alike w s → length (rowsOf s) < length w
 
--- the row of an item of form f and n elements, before its mark's row and the rows m behind that
+-- the row of an item of form f and n elements, before its mark's row and the rows m after that
 abbrev pub itemRow : ℕ → ℕ → List Row → Row
 itemRow f n m = record { form = f; first = 0; count = n; rows = length m + 2; operator = 0 }
 

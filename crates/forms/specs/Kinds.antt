@@ -4,7 +4,7 @@
 use Prim.Native.Nat.{ℕ, suc}
 use mathlib.Core.List.{List, [], _∷_}
 use lib.ListN.{getD}
-use Rattle.ll.specs.Grammar.{Sym, tok, nt, act}
+use Rattle.grammars.specs.Grammar.{Sym, tok, nt, act}
 
 -- an identifier, basic or extended, and the four literals
 abbrev pub identifier : Sym

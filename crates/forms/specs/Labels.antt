@@ -9,12 +9,12 @@ use Rattle.forms.specs.Tree.{Row}
 abbrev pub label : ℕ
 label = 30
 
--- The label r leads the statement s whose row stands right before its own: s has rows inside it, of which the one right behind it is the
+-- The label r leads the statement s whose row stands right before its own: s has rows inside it, of which the one right after it is the
 -- first, and begins at its label.
 abbrev pub Leads : Row → Row → Type 0
 Leads r s = (2 ≤ s .rows) × (r .first ≡ s .first)
 
--- each label among the rows behind s leads the row right before it
+-- each label among the rows after s leads the row right before it
 abbrev pub EachLeads : Row → List Row → Type 0
 EachLeads s [] = Unit {0}
 EachLeads s (r ∷ l) = (r .form ≡ label → Leads r s) × EachLeads r l

@@ -1,4 +1,5 @@
 pub mod Kinds
+pub mod Spellings
 pub mod Names
 pub mod Rules
 pub mod code

@@ -2,14 +2,14 @@
 -- A row's own items are, in text order, its elements outside its children, and its children; its line is a pattern of them. Nothing here
 -- speaks of rules, frames or actions. Assumes nothing: these are definitions, and proofs/Fitting.antt has the proof.
 use Prim.Native.Nat.{ℕ, zero, suc, _+_, _-_, _*_, _≤_}
+use Prim.Native.String.{String}
 use mathlib.Core.Path.{_≡_}
 use mathlib.Core.Logic.{_⊎_}
 use mathlib.Core.Bool.{Bool, false, _||_, cond}
 use mathlib.Core.List.{List, [], _∷_, _++_}
 use lib.Dec.{T, eqb}
 use lib.ListN.{getD, length, take}
-use Rattle.ll.specs.Grammar.{Sym}
-use Rattle.forms.specs.Kinds.{numberOf, identifier, integer, real, character, string, word-abs, word-alias, word-and, word-architecture, word-begin, word-block, word-constant, word-downto, word-else, word-elsif, word-end, word-entity, word-exit, word-for, word-if, word-in, word-inout, word-is, word-loop, word-mod, word-nand, word-next, word-nor, word-not, word-null, word-of, word-or, word-out, word-package, word-port, word-process, word-range, word-rem, word-signal, word-subtype, word-then, word-to, word-variable, word-when, word-while, word-xnor, word-xor, double-star, becomes, not-equal, at-least, at-most, ampersand, tick, left-paren, right-paren, star, plus, comma, minus, slash, colon, semicolon, less, equal, greater}
+use Rattle.forms.specs.Spellings.{identifier, literals, spelled, spelledEach}
 use Rattle.forms.specs.Tree.{Row}
 
 -- an own item of a row: one of its elements, by number, or a child, by sort
@@ -42,34 +42,33 @@ pub data Pattern : Type 0 where
   either : Pattern → Pattern → Pattern
   many : Pattern → Pattern
 
-abbrev pub kindsOf : List Sym → List ℕ
-kindsOf [] = []
-kindsOf (s ∷ l) = numberOf s ∷ kindsOf l
-
 abbrev pub sorts : List ℕ → List ℕ
 sorts [] = []
 sorts (f ∷ l) = sort f 0 ∷ sorts l
 
-abbrev pub with : ℕ → List Sym → List ℕ
+abbrev pub with : ℕ → List String → List ℕ
 with f [] = []
-with f (s ∷ l) = sort f (numberOf s) ∷ with f l
+with f (s ∷ l) = sort f (spelled s) ∷ with f l
 
--- the words of the table: an element, an element of one of these kinds, the operator, a row of one of these forms,
--- a branch that begins with this word, a part or nothing
-abbrev pub e : Sym → Pattern
-e k = one 0 (numberOf k ∷ [])
+-- the words of the table: an element that is spelled so, N, one of these, the operator, a row of one of these forms, a branch that begins with this
+-- word, a part or nothing
+abbrev pub e : String → Pattern
+e s = one 0 (spelled s ∷ [])
 
-abbrev pub oneOf : List Sym → Pattern
-oneOf l = one 0 (kindsOf l)
+abbrev pub name : Pattern
+name = one 0 (identifier ∷ [])
 
-abbrev pub operator : List Sym → Pattern
-operator l = one 1 (kindsOf l)
+abbrev pub oneOf : List String → Pattern
+oneOf l = one 0 (spelledEach l)
+
+abbrev pub operator : List String → Pattern
+operator l = one 1 (spelledEach l)
 
 abbrev pub rows : List ℕ → Pattern
 rows l = one 2 (sorts l)
 
-abbrev pub branch : Sym → Pattern
-branch k = one 2 (with 17 (k ∷ []))
+abbrev pub branch : String → Pattern
+branch s = one 2 (with 17 (s ∷ []))
 
 abbrev pub opt : Pattern → Pattern
 opt p = either p nothing
@@ -88,32 +87,32 @@ abbrev pub primaries : List ℕ
 primaries = sorts (24 ∷ 25 ∷ 26 ∷ 27 ∷ [])
 
 abbrev pub factors : List ℕ
-factors = with 29 (double-star ∷ []) ++ with 28 (word-abs ∷ word-not ∷ []) ++ primaries
+factors = with 29 ("**" ∷ []) ++ with 28 ("abs" ∷ "not" ∷ []) ++ primaries
 
 abbrev pub terms : List ℕ
-terms = with 29 (star ∷ slash ∷ word-mod ∷ word-rem ∷ []) ++ factors
+terms = with 29 ("*" ∷ "/" ∷ "mod" ∷ "rem" ∷ []) ++ factors
 
 abbrev pub simples : List ℕ
-simples = with 29 (plus ∷ minus ∷ ampersand ∷ []) ++ with 28 (plus ∷ minus ∷ []) ++ terms
+simples = with 29 ("+" ∷ "-" ∷ "&" ∷ []) ++ with 28 ("+" ∷ "-" ∷ []) ++ terms
 
 abbrev pub relations : List ℕ
-relations = with 29 (equal ∷ not-equal ∷ less ∷ at-most ∷ greater ∷ at-least ∷ []) ++ simples
+relations = with 29 ("=" ∷ "/=" ∷ "<" ∷ "<=" ∷ ">" ∷ ">=" ∷ []) ++ simples
 
 abbrev pub expressions : List ℕ
-expressions = with 29 (word-and ∷ word-or ∷ word-xor ∷ word-xnor ∷ word-nand ∷ word-nor ∷ []) ++ relations
+expressions = with 29 ("and" ∷ "or" ∷ "xor" ∷ "xnor" ∷ "nand" ∷ "nor" ∷ []) ++ relations
 
 abbrev pub anExpression : Pattern
 anExpression = operand expressions
 
 -- what several lines share
 abbrev pub labelled : Pattern
-labelled = opt (seq (rows (30 ∷ []) ∷ e colon ∷ []))
+labelled = opt (seq (rows (30 ∷ []) ∷ e ":" ∷ []))
 
 abbrev pub closing : Pattern
-closing = opt (e identifier)
+closing = opt name
 
 abbrev pub bounded : Pattern
-bounded = opt (seq (e left-paren ∷ rows (10 ∷ []) ∷ e right-paren ∷ []))
+bounded = opt (seq (e "(" ∷ rows (10 ∷ []) ∷ e ")" ∷ []))
 
 abbrev pub declared : Pattern
 declared = many (rows (4 ∷ 5 ∷ 6 ∷ 9 ∷ []))
@@ -129,36 +128,36 @@ target = rows (24 ∷ 25 ∷ [])
 
 -- port ( 8 separated by semicolons ); and ( names ), in the brackets of forms 2 and 13
 abbrev pub portList : Pattern
-portList = opt (seq (e word-port ∷ e left-paren ∷ rows (8 ∷ []) ∷ many (seq (e semicolon ∷ rows (8 ∷ []) ∷ [])) ∷ e right-paren ∷ e semicolon ∷ []))
+portList = opt (seq (e "port" ∷ e "(" ∷ rows (8 ∷ []) ∷ many (seq (e ";" ∷ rows (8 ∷ []) ∷ [])) ∷ e ")" ∷ e ";" ∷ []))
 
 abbrev pub nameList : Pattern
-nameList = opt (seq (e left-paren ∷ rows (24 ∷ []) ∷ many (seq (e comma ∷ rows (24 ∷ []) ∷ [])) ∷ e right-paren ∷ []))
+nameList = opt (seq (e "(" ∷ rows (24 ∷ []) ∷ many (seq (e "," ∷ rows (24 ∷ []) ∷ [])) ∷ e ")" ∷ []))
 
 -- form 28: the operator, and what it stands before
-abbrev pub unary : List Sym → List ℕ → Pattern
+abbrev pub unary : List String → List ℕ → Pattern
 unary l b = seq (operator l ∷ operand b ∷ [])
 
 abbrev pub unaries : List Pattern
 unaries =
-    unary (word-abs ∷ word-not ∷ []) primaries
-    ∷ unary (plus ∷ minus ∷ []) terms
+    unary ("abs" ∷ "not" ∷ []) primaries
+    ∷ unary ("+" ∷ "-" ∷ []) terms
     ∷ []
 
--- form 29: what stands before the operator, the operator, and what stands behind it; chains group to the left
-abbrev pub binary : List ℕ → List Sym → List ℕ → Pattern
+-- form 29: what stands before the operator, the operator, and what stands after it; chains group to the left
+abbrev pub binary : List ℕ → List String → List ℕ → Pattern
 binary a l b = seq (operand a ∷ operator l ∷ operand b ∷ [])
 
 abbrev pub binaries : List Pattern
 binaries =
-    binary primaries (double-star ∷ []) primaries
-    ∷ binary terms (star ∷ slash ∷ word-mod ∷ word-rem ∷ []) factors
-    ∷ binary simples (plus ∷ minus ∷ ampersand ∷ []) terms
-    ∷ binary simples (equal ∷ not-equal ∷ less ∷ at-most ∷ greater ∷ at-least ∷ []) simples
-    ∷ binary (with 29 (word-and ∷ []) ++ relations) (word-and ∷ []) relations
-    ∷ binary (with 29 (word-or ∷ []) ++ relations) (word-or ∷ []) relations
-    ∷ binary (with 29 (word-xor ∷ []) ++ relations) (word-xor ∷ []) relations
-    ∷ binary (with 29 (word-xnor ∷ []) ++ relations) (word-xnor ∷ []) relations
-    ∷ binary relations (word-nand ∷ word-nor ∷ []) relations
+    binary primaries ("**" ∷ []) primaries
+    ∷ binary terms ("*" ∷ "/" ∷ "mod" ∷ "rem" ∷ []) factors
+    ∷ binary simples ("+" ∷ "-" ∷ "&" ∷ []) terms
+    ∷ binary simples ("=" ∷ "/=" ∷ "<" ∷ "<=" ∷ ">" ∷ ">=" ∷ []) simples
+    ∷ binary (with 29 ("and" ∷ []) ++ relations) ("and" ∷ []) relations
+    ∷ binary (with 29 ("or" ∷ []) ++ relations) ("or" ∷ []) relations
+    ∷ binary (with 29 ("xor" ∷ []) ++ relations) ("xor" ∷ []) relations
+    ∷ binary (with 29 ("xnor" ∷ []) ++ relations) ("xnor" ∷ []) relations
+    ∷ binary relations ("nand" ∷ "nor" ∷ []) relations
     ∷ []
 
 -- THE TABLE, in 01's order
@@ -167,59 +166,59 @@ lines =
     -- 0: a file is one or more units
     seq (rows (1 ∷ 2 ∷ 3 ∷ []) ∷ many (rows (1 ∷ 2 ∷ 3 ∷ [])) ∷ [])
     -- 1 package: package N is, declarations 4 and 5, end [package] [N];
-    ∷ seq (e word-package ∷ e identifier ∷ e word-is ∷ many (rows (4 ∷ 5 ∷ [])) ∷ e word-end ∷ opt (e word-package) ∷ closing ∷ e semicolon ∷ [])
+    ∷ seq (e "package" ∷ name ∷ e "is" ∷ many (rows (4 ∷ 5 ∷ [])) ∷ e "end" ∷ opt (e "package") ∷ closing ∷ e ";" ∷ [])
     -- 2 entity: entity N is, [port ( 8 separated by semicolons );], end [entity] [N];
-    ∷ seq (e word-entity ∷ e identifier ∷ e word-is ∷ portList ∷ e word-end ∷ opt (e word-entity) ∷ closing ∷ e semicolon ∷ [])
+    ∷ seq (e "entity" ∷ name ∷ e "is" ∷ portList ∷ e "end" ∷ opt (e "entity") ∷ closing ∷ e ";" ∷ [])
     -- 3 architecture: architecture N of E is, declarations 4, 5, 6, 9, begin, concurrent, end [architecture] [N];
-    ∷ seq (e word-architecture ∷ e identifier ∷ e word-of ∷ e identifier ∷ e word-is ∷ declared ∷ e word-begin ∷ concurrent ∷ e word-end ∷ opt (e word-architecture) ∷ closing ∷ e semicolon ∷ [])
+    ∷ seq (e "architecture" ∷ name ∷ e "of" ∷ name ∷ e "is" ∷ declared ∷ e "begin" ∷ concurrent ∷ e "end" ∷ opt (e "architecture") ∷ closing ∷ e ";" ∷ [])
     -- 4 constant: constant N : mark := expression;
-    ∷ seq (e word-constant ∷ e identifier ∷ e colon ∷ rows (31 ∷ []) ∷ e becomes ∷ anExpression ∷ e semicolon ∷ [])
+    ∷ seq (e "constant" ∷ name ∷ e ":" ∷ rows (31 ∷ []) ∷ e ":=" ∷ anExpression ∷ e ";" ∷ [])
     -- 5 subtype: subtype N is mark [range 10];
-    ∷ seq (e word-subtype ∷ e identifier ∷ e word-is ∷ rows (31 ∷ []) ∷ opt (seq (e word-range ∷ rows (10 ∷ []) ∷ [])) ∷ e semicolon ∷ [])
+    ∷ seq (e "subtype" ∷ name ∷ e "is" ∷ rows (31 ∷ []) ∷ opt (seq (e "range" ∷ rows (10 ∷ []) ∷ [])) ∷ e ";" ∷ [])
     -- 6 signal, 7 variable: signal or variable, N : mark [( 10 )];
-    ∷ seq (e word-signal ∷ e identifier ∷ e colon ∷ rows (31 ∷ []) ∷ bounded ∷ e semicolon ∷ [])
-    ∷ seq (e word-variable ∷ e identifier ∷ e colon ∷ rows (31 ∷ []) ∷ bounded ∷ e semicolon ∷ [])
+    ∷ seq (e "signal" ∷ name ∷ e ":" ∷ rows (31 ∷ []) ∷ bounded ∷ e ";" ∷ [])
+    ∷ seq (e "variable" ∷ name ∷ e ":" ∷ rows (31 ∷ []) ∷ bounded ∷ e ";" ∷ [])
     -- 8 port: N : [in, out or inout] mark [( 10 )]
-    ∷ seq (e identifier ∷ e colon ∷ opt (oneOf (word-in ∷ word-out ∷ word-inout ∷ [])) ∷ rows (31 ∷ []) ∷ bounded ∷ [])
+    ∷ seq (name ∷ e ":" ∷ opt (oneOf ("in" ∷ "out" ∷ "inout" ∷ [])) ∷ rows (31 ∷ []) ∷ bounded ∷ [])
     -- 9 alias: alias N is N;
-    ∷ seq (e word-alias ∷ e identifier ∷ e word-is ∷ e identifier ∷ e semicolon ∷ [])
+    ∷ seq (e "alias" ∷ name ∷ e "is" ∷ name ∷ e ";" ∷ [])
     -- 10 range: simple expression, to or downto, simple expression
-    ∷ seq (operand simples ∷ oneOf (word-to ∷ word-downto ∷ []) ∷ operand simples ∷ [])
+    ∷ seq (operand simples ∷ oneOf ("to" ∷ "downto" ∷ []) ∷ operand simples ∷ [])
     -- 11 concurrent assignment: target <= expression;
-    ∷ seq (target ∷ e at-most ∷ anExpression ∷ e semicolon ∷ [])
+    ∷ seq (target ∷ e "<=" ∷ anExpression ∷ e ";" ∷ [])
     -- 12 block: label : block [guard 32] [is, form 33], declarations as in 3, begin, concurrent, end block [label];
-    ∷ seq (rows (30 ∷ []) ∷ e colon ∷ e word-block ∷ opt (rows (32 ∷ [])) ∷ opt (rows (33 ∷ [])) ∷ declared ∷ e word-begin ∷ concurrent ∷ e word-end ∷ e word-block ∷ closing ∷ e semicolon ∷ [])
+    ∷ seq (rows (30 ∷ []) ∷ e ":" ∷ e "block" ∷ opt (rows (32 ∷ [])) ∷ opt (rows (33 ∷ [])) ∷ declared ∷ e "begin" ∷ concurrent ∷ e "end" ∷ e "block" ∷ closing ∷ e ";" ∷ [])
     -- 13 process: [label :] process [( names )] [is], declarations 4 and 7, begin, sequential, end process [label];
-    ∷ seq (labelled ∷ e word-process ∷ nameList ∷ opt (e word-is) ∷ many (rows (4 ∷ 7 ∷ [])) ∷ e word-begin ∷ sequential ∷ e word-end ∷ e word-process ∷ closing ∷ e semicolon ∷ [])
+    ∷ seq (labelled ∷ e "process" ∷ nameList ∷ opt (e "is") ∷ many (rows (4 ∷ 7 ∷ [])) ∷ e "begin" ∷ sequential ∷ e "end" ∷ e "process" ∷ closing ∷ e ";" ∷ [])
     -- 14, 15 assignment: target, <= or :=, expression;
-    ∷ seq (target ∷ e at-most ∷ anExpression ∷ e semicolon ∷ [])
-    ∷ seq (target ∷ e becomes ∷ anExpression ∷ e semicolon ∷ [])
+    ∷ seq (target ∷ e "<=" ∷ anExpression ∷ e ";" ∷ [])
+    ∷ seq (target ∷ e ":=" ∷ anExpression ∷ e ";" ∷ [])
     -- 16 if: branches 17 (if, any elsif, perhaps else), end if;
-    ∷ seq (branch word-if ∷ many (branch word-elsif) ∷ opt (branch word-else) ∷ e word-end ∷ e word-if ∷ e semicolon ∷ [])
+    ∷ seq (branch "if" ∷ many (branch "elsif") ∷ opt (branch "else") ∷ e "end" ∷ e "if" ∷ e ";" ∷ [])
     -- 17: if or elsif, expression, then, sequential; else, sequential
-    ∷ any (seq (oneOf (word-if ∷ word-elsif ∷ []) ∷ anExpression ∷ e word-then ∷ sequential ∷ []) ∷ seq (e word-else ∷ sequential ∷ []) ∷ [])
+    ∷ any (seq (oneOf ("if" ∷ "elsif" ∷ []) ∷ anExpression ∷ e "then" ∷ sequential ∷ []) ∷ seq (e "else" ∷ sequential ∷ []) ∷ [])
     -- 18, 19, 20 loop: [label :] for N in 10, while expression, or nothing; loop, sequential, end loop [label];
-    ∷ seq (labelled ∷ e word-for ∷ e identifier ∷ e word-in ∷ rows (10 ∷ []) ∷ e word-loop ∷ sequential ∷ e word-end ∷ e word-loop ∷ closing ∷ e semicolon ∷ [])
-    ∷ seq (labelled ∷ e word-while ∷ anExpression ∷ e word-loop ∷ sequential ∷ e word-end ∷ e word-loop ∷ closing ∷ e semicolon ∷ [])
-    ∷ seq (labelled ∷ e word-loop ∷ sequential ∷ e word-end ∷ e word-loop ∷ closing ∷ e semicolon ∷ [])
+    ∷ seq (labelled ∷ e "for" ∷ name ∷ e "in" ∷ rows (10 ∷ []) ∷ e "loop" ∷ sequential ∷ e "end" ∷ e "loop" ∷ closing ∷ e ";" ∷ [])
+    ∷ seq (labelled ∷ e "while" ∷ anExpression ∷ e "loop" ∷ sequential ∷ e "end" ∷ e "loop" ∷ closing ∷ e ";" ∷ [])
+    ∷ seq (labelled ∷ e "loop" ∷ sequential ∷ e "end" ∷ e "loop" ∷ closing ∷ e ";" ∷ [])
     -- 21, 22: [label :] next or exit [loop name] [when expression];   23 null: [label :] null;
-    ∷ seq (labelled ∷ e word-next ∷ opt (e identifier) ∷ opt (seq (e word-when ∷ anExpression ∷ [])) ∷ e semicolon ∷ [])
-    ∷ seq (labelled ∷ e word-exit ∷ opt (e identifier) ∷ opt (seq (e word-when ∷ anExpression ∷ [])) ∷ e semicolon ∷ [])
-    ∷ seq (labelled ∷ e word-null ∷ e semicolon ∷ [])
+    ∷ seq (labelled ∷ e "next" ∷ opt (name) ∷ opt (seq (e "when" ∷ anExpression ∷ [])) ∷ e ";" ∷ [])
+    ∷ seq (labelled ∷ e "exit" ∷ opt (name) ∷ opt (seq (e "when" ∷ anExpression ∷ [])) ∷ e ";" ∷ [])
+    ∷ seq (labelled ∷ e "null" ∷ e ";" ∷ [])
     -- 24, 25, 26 name: identifier; name ( expression ); name, tick, identifier or range
-    ∷ e identifier
-    ∷ seq (rows (24 ∷ 25 ∷ 26 ∷ []) ∷ e left-paren ∷ anExpression ∷ e right-paren ∷ [])
-    ∷ seq (rows (24 ∷ 25 ∷ 26 ∷ []) ∷ e tick ∷ oneOf (identifier ∷ word-range ∷ []) ∷ [])
+    ∷ name
+    ∷ seq (rows (24 ∷ 25 ∷ 26 ∷ []) ∷ e "(" ∷ anExpression ∷ e ")" ∷ [])
+    ∷ seq (rows (24 ∷ 25 ∷ 26 ∷ []) ∷ e "'" ∷ one 0 (identifier ∷ spelled "range" ∷ []) ∷ [])
     -- 27, 28, 29: literal; sign, abs or not; binary operator
-    ∷ oneOf (integer ∷ real ∷ character ∷ string ∷ [])
+    ∷ one 0 literals
     ∷ any unaries
     ∷ any binaries
     -- 30, 31: leading label without its colon; type mark
-    ∷ e identifier
-    ∷ e identifier
+    ∷ name
+    ∷ name
     -- 32, 33: ( expression ); the word is of a block
-    ∷ seq (e left-paren ∷ anExpression ∷ e right-paren ∷ [])
-    ∷ e word-is
+    ∷ seq (e "(" ∷ anExpression ∷ e ")" ∷ [])
+    ∷ e "is"
     ∷ []
 
 -- a form without a line has no row: this pattern fits nothing
@@ -244,7 +243,7 @@ pub data Fits (w : List ℕ) (q : ℕ) : Pattern → List Item → Type 0 where
   none : Fits w q nothing []
   this : {t : ℕ} {K : List ℕ} {x : Item} → IsOf q t x → T (isIn (codeOf w x) K) → Fits w q (one t K) (x ∷ [])
   bare : {S : List ℕ} {s : ℕ} → T (isIn s S) → Fits w q (operand S) (row s ∷ [])
-  inside : {S : List ℕ} {x z : List Item} (i j : ℕ) → getD w i 0 ≡ numberOf left-paren → Fits w q (operand expressions) x → getD w j 0 ≡ numberOf right-paren
+  inside : {S : List ℕ} {x z : List Item} (i j : ℕ) → getD w i 0 ≡ spelled "(" → Fits w q (operand expressions) x → getD w j 0 ≡ spelled ")"
       → z ≡ at i ∷ (x ++ (at j ∷ [])) → Fits w q (operand S) z
   then : {a b : Pattern} {x y z : List Item} → Fits w q a x → Fits w q b y → z ≡ x ++ y → Fits w q (both a b) z
   left : {a b : Pattern} {x : List Item} → Fits w q a x → Fits w q (either a b) x
@@ -290,7 +289,7 @@ childrenIn (row s ∷ x) = suc (childrenIn x)
 abbrev pub operatorOf : Row → ℕ
 operatorOf r = cond (operates (r .form)) (suc (r .operator)) 0
 
--- every row has its subtree behind it, and its own items fit its form's line
+-- every row has its subtree after it, and its own items fit its form's line
 abbrev pub RowsFit : List ℕ → List Row → Type 0
 RowsFit w [] = Unit {0}
 RowsFit w (r ∷ l) = (r .rows ≤ suc (length l)) × (Fits w (operatorOf r) (line (r .form)) (ownItems w r l)) × RowsFit w l

@@ -2,7 +2,7 @@
 use Prim.Native.Nat.{ℕ, _+_}
 use mathlib.Core.List.{List, [], _∷_}
 use lib.ListN.{length}
-use Rattle.ll.specs.Grammar.{Sym, tok, nt, act}
+use Rattle.grammars.specs.Grammar.{Sym, tok, nt, act}
 
 abbrev pub file : Sym
 file = nt 0

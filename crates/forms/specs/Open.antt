@@ -5,7 +5,7 @@ use Prim.Native.Nat.{ℕ, zero, suc, _+_, _-_}
 use mathlib.Core.Bool.{Bool, false, _||_, cond}
 use mathlib.Core.List.{List, [], _∷_}
 use lib.Dec.{eqb}
-use Rattle.ll.specs.Grammar.{Sym}
+use Rattle.grammars.specs.Grammar.{Sym}
 use Rattle.forms.specs.Kinds.{numberOf, left-paren, right-paren, semicolon, colon, word-for, word-while, word-if, word-process, word-block, word-loop, word-end, word-begin, word-then, word-else}
 
 pub data Role : Type 0 where
@@ -17,7 +17,7 @@ abbrev pub among : ℕ → List Sym → Bool
 among t [] = false
 among t (s ∷ l) = eqb t (numberOf s) || among t l
 
--- What an element of kind t does behind one of kind p. A word behind end closes. The word loop opens one where a statement begins; behind
+-- What an element of kind t does after one of kind p. A word after end closes. The word loop opens one where a statement begins; after
 -- a range or a condition it belongs to its for or while.
 abbrev pub role : ℕ → ℕ → Role
 role p t =
@@ -34,7 +34,7 @@ after opening d = d + 1
 after closing d = d - 1
 after neither d = d
 
--- how many are open after k more elements of w, d being open behind one of kind p
+-- how many are open after k more elements of w, d being open after one of kind p
 unfoldable pub openFrom : ℕ → ℕ → List ℕ → ℕ → ℕ
 openFrom p d w zero = d
 openFrom p d [] (suc k) = d

@@ -6,7 +6,7 @@ use mathlib.Core.Bool.{true, cond}
 use mathlib.Core.List.{List, [], _∷_}
 use lib.Dec.{eqb}
 use lib.ListN.{getD}
-use Rattle.ll.specs.Grammar.{Sym}
+use Rattle.grammars.specs.Grammar.{Sym}
 use Rattle.forms.specs.Kinds.{word-abs, word-and, word-mod, word-nand, word-nor, word-not, word-or, word-rem, word-xnor, word-xor, double-star, not-equal, at-least, at-most, ampersand, star, plus, minus, slash, less, equal, greater}
 use Rattle.forms.specs.Tree.{Row}
 use Rattle.forms.specs.Open.{among}
@@ -23,7 +23,7 @@ binaryOperators =
     ∷ equal ∷ not-equal ∷ less ∷ at-most ∷ greater ∷ at-least
     ∷ plus ∷ minus ∷ ampersand ∷ star ∷ slash ∷ word-mod ∷ word-rem ∷ double-star ∷ []
 
--- The operator column of a row of form 28 or 29, l being the rows behind it: one of the row's own leaves, spanned by no child, and of one of
+-- The operator column of a row of form 28 or 29, l being the rows after it: one of the row's own leaves, spanned by no child, and of one of
 -- these kinds; and the row has so many children, which are what the operator works on.
 abbrev pub HasOperator : List ℕ → List Sym → ℕ → Row → List Row → Type 0
 HasOperator w kinds operands r l =
@@ -37,7 +37,7 @@ OperatorRight w r l =
     (cond (eqb (r .form) 29) (HasOperator w binaryOperators 2 r l)
     (r .operator ≡ r .first))
 
--- of every row, with the rows behind it
+-- of every row, with the rows after it
 abbrev pub OperatorsRight : List ℕ → List Row → Type 0
 OperatorsRight w [] = Unit {0}
 OperatorsRight w (r ∷ l) = OperatorRight w r l × OperatorsRight w l

@@ -54,7 +54,7 @@ AllOwned w l = (i : ℕ) → i < length w → Owned w l i
 abbrev pub OwnedOnce : List ℕ → List Row → Type 0
 OwnedOnce w l = (before : List Row) (on : Row) (behind : List Row) → l ≡ before ++ (on ∷ behind) → (i : ℕ) → IsAmong (at i) (ownItems w on behind) → owner i l ≡ length before
 
--- c elements from lo on, each behind the row that it hangs on
+-- c elements from lo on, each after the row that it hangs on
 abbrev pub hung : (ℕ → ℕ) → (lo c : ℕ) → List (ℕ × ℕ)
 hung on lo zero = []
 hung on lo (suc c) = (on lo, lo) ∷ hung on (suc lo) c

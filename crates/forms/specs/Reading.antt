@@ -6,8 +6,8 @@ use mathlib.Core.Logic.{_↔_}
 use mathlib.Core.List.{List, [], _∷_, _++_}
 use mathlib.Core.Bool.{Bool}
 use lib.ListN.{length, take}
-use Rattle.ll.specs.Grammar.{Sym}
-use Rattle.ll.specs.Actions.{End, read, bad, stopped, spent, runs}
+use Rattle.grammars.specs.Grammar.{Sym}
+use Rattle.grammars.specs.Actions.{End, read, bad, stopped, spent, runs}
 use Rattle.forms.specs.Names.{file}
 use Rattle.forms.specs.Rules.{body}
 use Rattle.forms.specs.code.Picks.{predict}

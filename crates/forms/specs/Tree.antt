@@ -5,8 +5,8 @@ use mathlib.Core.List.{List, [], _∷_, _++_}
 use mathlib.Core.Bool.{Bool, false, cond}
 use lib.Dec.{ltb}
 use lib.ListN.{length}
-use Rattle.ll.specs.Grammar.{Gen}
-use Rattle.ll.specs.Actions.{Step, go, stop, Reads}
+use Rattle.grammars.specs.Grammar.{Gen}
+use Rattle.grammars.specs.Actions.{Step, go, stop, Reads}
 use Rattle.forms.specs.Names.{file}
 use Rattle.forms.specs.Rules.{forms}
 

@@ -4,20 +4,20 @@ use mathlib.Core.List.{List, [], _∷_}
 use lib.ListN.{getD, drop}
 use Rattle.forms.specs.Tree.{Row}
 
+-- a row's numbers
+abbrev pub rowNumbers : ℕ
+rowNumbers = 5
+
 -- row k of a table of words
 abbrev pub rowAt : List ℕ → ℕ → Row
 rowAt words k =
     record {
-      form = getD words (5 * k) 0;
-      first = getD words (5 * k + 1) 0;
-      count = getD words (5 * k + 2) 0;
-      rows = getD words (5 * k + 3) 0;
-      operator = getD words (5 * k + 4) 0;
+      form = getD words (rowNumbers * k) 0;
+      first = getD words (rowNumbers * k + 1) 0;
+      count = getD words (rowNumbers * k + 2) 0;
+      rows = getD words (rowNumbers * k + 3) 0;
+      operator = getD words (rowNumbers * k + 4) 0;
     }
-
--- a row's numbers
-abbrev pub rowNumbers : ℕ
-rowNumbers = 5
 
 -- the first n rows of a table of words
 unfoldable pub rowsIn : ℕ → List ℕ → List Row

@@ -13,7 +13,7 @@ use mir.Val.{SFits, toZ, ofZ}
 use mir.ValLaws.{toZ-ofZ}
 use mir.Facts.{sfits-widen}
 use borrow.Author.Tests.{ltb-true, ltb-false, le-leb, lt-leb, ne-eqb, leb-false, leb-true}
-use Rattle.integers.specs.Integers.{toSign}
+use Rattle.integers.specs.Integers.{beyond, largest, toSign}
 
 -- ---- sizes
 
@@ -53,16 +53,16 @@ natAbs-mul (negsuc a) (negsuc b) = refl
 
 -- ---- the tests of `sized`
 
-pub small-test : (z : ℤ) → ltZ z (negsuc 2147483646) ≡ false → ltZ (pos 2147483647) z ≡ false → leb (natAbs z) 2147483647 ≡ true
-small-test (pos n) p q = le-leb n 2147483647 (ltb-false 2147483647 n q)
-small-test (negsuc n) p q = le-leb (suc n) 2147483647 (omega (arith, ltb-false 2147483646 n p))
+pub small-test : (z : ℤ) → ltZ z (negsuc (largest - 1)) ≡ false → ltZ (pos largest) z ≡ false → leb (natAbs z) largest ≡ true
+small-test (pos n) p q = le-leb n largest (ltb-false largest n q)
+small-test (negsuc n) p q = le-leb (suc n) largest (omega (arith, ltb-false (largest - 1) n p))
 
-pub low-test : (z : ℤ) → ltZ z (negsuc 2147483646) ≡ true → leb (natAbs z) 2147483647 ≡ false
+pub low-test : (z : ℤ) → ltZ z (negsuc (largest - 1)) ≡ true → leb (natAbs z) largest ≡ false
 low-test (pos n) p = absurd (subst (λ (b : Bool). cond b ⊥ (Unit {0})) p tt)
-low-test (negsuc n) p = lt-leb (suc n) 2147483647 (omega (arith, ltb-true 2147483646 n p))
+low-test (negsuc n) p = lt-leb (suc n) largest (omega (arith, ltb-true (largest - 1) n p))
 
-pub high-test : (z : ℤ) → ltZ (pos 2147483647) z ≡ true → leb (natAbs z) 2147483647 ≡ false
-high-test (pos n) p = lt-leb n 2147483647 (ltb-true 2147483647 n p)
+pub high-test : (z : ℤ) → ltZ (pos largest) z ≡ true → leb (natAbs z) largest ≡ false
+high-test (pos n) p = lt-leb n largest (ltb-true largest n p)
 high-test (negsuc n) p = absurd (subst (λ (b : Bool). cond b ⊥ (Unit {0})) p tt)
 
 -- ---- an i32 widened, and an operation on two of them
@@ -73,23 +73,23 @@ wide x f = rw (toZ-ofZ w32 x f) (toZ-ofZ w64 x (sfits-widen {w = w32} {w′ = w6
 pub wide-fits : (x : ℤ) → SFits w32 x → SFits w64 (toZ w32 (ofZ w32 x))
 wide-fits x f = rw (toZ-ofZ w32 x f) (sfits-widen {w = w32} {w′ = w64} tt f)
 
-pub abs-half : (x : ℤ) → SFits w32 x → natAbs x ≤ 2147483648
+pub abs-half : (x : ℤ) → SFits w32 x → natAbs x ≤ beyond
 abs-half (pos n) f = let h : n < 2 ^ 31 = f .sfits in omega arith
 abs-half (negsuc n) f = let h : n < 2 ^ 31 = f .sfits in omega arith
 
 pub add-fits : (a b : ℤ) → SFits w32 a → SFits w32 b → SFits w64 (a +ℤ b)
-add-fits a b f g = sfits-small (a +ℤ b) 4294967296 (omega (arith, natAbs-add a b, abs-half a f, abs-half b g)) (lit< tt)
+add-fits a b f g = sfits-small (a +ℤ b) (beyond + beyond) (omega (arith, natAbs-add a b, abs-half a f, abs-half b g)) (lit< tt)
 
 pub mul-fits : (a b : ℤ) → SFits w32 a → SFits w32 b → SFits w64 (a *ℤ b)
-mul-fits a b f g = sfits-small (a *ℤ b) (2147483648 * 2147483648) (rw (natAbs-mul a b) (mul-le-mul (abs-half a f) (abs-half b g))) (lit< tt)
+mul-fits a b f g = sfits-small (a *ℤ b) (beyond * beyond) (rw (natAbs-mul a b) (mul-le-mul (abs-half a f) (abs-half b g))) (lit< tt)
 
 pub sub-fits : (a b : ℤ) → SFits w32 a → SFits w32 b → SFits w64 (a -ℤ b)
-sub-fits a b f g = sfits-small (a -ℤ b) 4294967296 (omega (arith, natAbs-sub a b, abs-half a f, abs-half b g)) (lit< tt)
+sub-fits a b f g = sfits-small (a -ℤ b) (beyond + beyond) (omega (arith, natAbs-sub a b, abs-half a f, abs-half b g)) (lit< tt)
 
 -- what `sized` keeps is an i32
-pub narrow-fits : (z : ℤ) → leb (natAbs z) 2147483647 ≡ true → SFits w32 z
-narrow-fits (pos n) e = record { sfits = omega (arith, leb-true n 2147483647 e) }
-narrow-fits (negsuc n) e = record { sfits = omega (arith, leb-true (suc n) 2147483647 e) }
+pub narrow-fits : (z : ℤ) → leb (natAbs z) largest ≡ true → SFits w32 z
+narrow-fits (pos n) e = record { sfits = omega (arith, leb-true n largest e) }
+narrow-fits (negsuc n) e = record { sfits = omega (arith, leb-true (suc n) largest e) }
 
 -- ---- a divisor's test: the machine compares bits
 
@@ -152,10 +152,10 @@ pow-grows a m (suc k) h =
     rw (add-suc m k, natAbs-mul (pow a (m + k)) a) (le-trans (pow-grows a m k h) (le-mul-of-pos-right (natAbs (pow a (m + k))) h))
 
 -- once a power is too large, so is every later one
-pub pow-over : (a : ℤ) (m n : ℕ) → 1 ≤ natAbs a → m ≤ n → leb (natAbs (pow a m)) 2147483647 ≡ false → leb (natAbs (pow a n)) 2147483647 ≡ false
+pub pow-over : (a : ℤ) (m n : ℕ) → 1 ≤ natAbs a → m ≤ n → leb (natAbs (pow a m)) largest ≡ false → leb (natAbs (pow a n)) largest ≡ false
 pow-over a m n h k p =
     let g : natAbs (pow a m) ≤ natAbs (pow a n) = rw (add-sub-of-le k) at (pow-grows a m (n - m) h) in
-    lt-leb (natAbs (pow a n)) 2147483647 (omega (arith, leb-false (natAbs (pow a m)) 2147483647 p))
+    lt-leb (natAbs (pow a n)) largest (omega (arith, leb-false (natAbs (pow a m)) largest p))
 
 pub pow-zero : (k : ℕ) → pow (pos 0) (suc k) ≡ pos 0
 unfolding pow
@@ -192,23 +192,23 @@ wide-nonzero (pos n) f h = omega arith
 wide-nonzero (negsuc n) f h = let k : n < 2 ^ 31 = f .sfits in omega arith
 
 pub quot-fits : (a b : ℤ) → SFits w32 a → SFits w64 (quotZ a b)
-quot-fits a b f = sfits-small (quotZ a b) 2147483648 (le-trans (quot-le a b) (abs-half a f)) (lit< tt)
+quot-fits a b f = sfits-small (quotZ a b) beyond (le-trans (quot-le a b) (abs-half a f)) (lit< tt)
 
-pub rem-half : (a b : ℤ) → SFits w32 a → natAbs (remZ a b) ≤ 2147483648
+pub rem-half : (a b : ℤ) → SFits w32 a → natAbs (remZ a b) ≤ beyond
 rem-half a b f = le-trans (rem-le a b) (abs-half a f)
 
 pub rem-fits : (a b : ℤ) → SFits w32 a → SFits w64 (remZ a b)
-rem-fits a b f = sfits-small (remZ a b) 2147483648 (rem-half a b f) (lit< tt)
+rem-fits a b f = sfits-small (remZ a b) beyond (rem-half a b f) (lit< tt)
 
-pub sum-fits : (a b : ℤ) → natAbs a ≤ 2147483648 → natAbs b ≤ 2147483648 → SFits w64 (a +ℤ b)
-sum-fits a b h k = sfits-small (a +ℤ b) 4294967296 (omega (arith, natAbs-add a b)) (lit< tt)
+pub sum-fits : (a b : ℤ) → natAbs a ≤ beyond → natAbs b ≤ beyond → SFits w64 (a +ℤ b)
+sum-fits a b h k = sfits-small (a +ℤ b) (beyond + beyond) (omega (arith, natAbs-add a b)) (lit< tt)
 
 pub neg-fits : (a : ℤ) → SFits w32 a → SFits w64 (negℤ a)
-neg-fits a f = sfits-small (negℤ a) 2147483648 (omega (arith, natAbs-neg a, abs-half a f)) (lit< tt)
+neg-fits a f = sfits-small (negℤ a) beyond (omega (arith, natAbs-neg a, abs-half a f)) (lit< tt)
 
 -- one turn of a power: the power so far is small, the base an i32
-pub mul-small : (a b : ℤ) → natAbs a ≤ 2147483647 → natAbs b ≤ 2147483648 → SFits w64 (a *ℤ b)
-mul-small a b h k = sfits-small (a *ℤ b) (2147483647 * 2147483648) (rw (natAbs-mul a b) (mul-le-mul h k)) (lit< tt)
+pub mul-small : (a b : ℤ) → natAbs a ≤ largest → natAbs b ≤ beyond → SFits w64 (a *ℤ b)
+mul-small a b h k = sfits-small (a *ℤ b) (largest * beyond) (rw (natAbs-mul a b) (mul-le-mul h k)) (lit< tt)
 
 -- ---- signs
 

@@ -3,9 +3,17 @@ use Prim.Native.Nat.{ℕ, _≤_, _<_}
 use mathlib.Core.Path.{_≡_}
 use mathlib.Core.Bool.{true, false}
 use lib.IntN.{ℤ, pos, natAbs}
+use Rattle.states.specs.States.{size}
 use Rattle.integers.specs.Integers.{largest, sizedOf}
 use Rattle.integers.specs.declared.Folded.{Folded}
 use Rattle.integers.specs.declared.Folded.the-variants.{Whole, Truth, Stopped}
+
+-- the kinds of a value: "kind, 1 integer or 2 truth"
+abbrev pub integerKind : ℕ
+integerKind = 1
+
+abbrev pub truthKind : ℕ
+truthKind = 2
 
 -- "state; in state 0 kind, 1 integer or 2 truth, and .. numbers; what is absent is 0"
 pub record Numbers : Type 0 where
@@ -15,9 +23,9 @@ pub record Numbers : Type 0 where
 
 -- the three cases; false is 0 and true is 1
 abbrev pub numbersOf : Folded → Numbers
-numbersOf (Whole z) = record { state = 0; kind = 1; number = z }
-numbersOf (Truth false) = record { state = 0; kind = 2; number = pos 0 }
-numbersOf (Truth true) = record { state = 0; kind = 2; number = pos 1 }
+numbersOf (Whole z) = record { state = 0; kind = integerKind; number = z }
+numbersOf (Truth false) = record { state = 0; kind = truthKind; number = pos 0 }
+numbersOf (Truth true) = record { state = 0; kind = truthKind; number = pos 1 }
 numbersOf (Stopped s) = record { state = s; kind = 0; number = pos 0 }
 
 -- No two answers have the same numbers.
@@ -28,5 +36,5 @@ ToldApart = (x y : Folded) → numbersOf x ≡ numbersOf y → x ≡ y
 abbrev pub SizedNumbers : Type 0
 SizedNumbers =
     (z : ℤ)
-    → (natAbs z ≤ largest → numbersOf (sizedOf z) ≡ record { state = 0; kind = 1; number = z })
-    × (largest < natAbs z → numbersOf (sizedOf z) ≡ record { state = 9; kind = 0; number = pos 0 })
+    → (natAbs z ≤ largest → numbersOf (sizedOf z) ≡ record { state = 0; kind = integerKind; number = z })
+    × (largest < natAbs z → numbersOf (sizedOf z) ≡ record { state = size; kind = 0; number = pos 0 })

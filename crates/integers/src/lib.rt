@@ -3,10 +3,21 @@ ghost use mathlib.Core.Path.{_≡_};
 ghost use Prim.Native.Nat.{_≤_};
 ghost use lib.IntN.{pos, natAbs, negℤ, _+ℤ_, _-ℤ_, _*ℤ_, pow};
 ghost use lib.Signed.{quotZ, remZ};
-ghost use Rattle.integers.specs.Integers.{sizedOf, dividedOf, toSign, powerOf, arithmeticOf};
+ghost use Rattle.integers.specs.Integers.{beyond, sizedOf, dividedOf, toSign, powerOf, arithmeticOf};
 
 // How large an integer is at most, in size.
 pub const LARGEST: i64 = 2147483647;
+
+// What a value is.
+pub enum Kind {
+    Integer,
+    Truth,
+}
+
+// The kinds of a value in its record.
+pub const KIND_INTEGER: u64 = 1;
+
+pub const KIND_TRUTH: u64 = 2;
 
 const SMALLEST: i64 = -LARGEST;
 
@@ -32,10 +43,10 @@ fn sized(z: i64) -> Folded
     ensures { λ r. ⌜ r ≡ sizedOf z ⌝ }
 {
     if z < SMALLEST {
-        return Folded::Stopped(9);
+        return Folded::Stopped(states::SIZE);
     }
     if LARGEST < z {
-        return Folded::Stopped(9);
+        return Folded::Stopped(states::SIZE);
     }
     Folded::Whole(z as i32)
 }
@@ -62,7 +73,7 @@ fn divide(a: i32, b: i32) -> Folded
     ensures { λ r. ⌜ r ≡ dividedOf b (quotZ a b) ⌝ }
 {
     if b == 0 {
-        return Folded::Stopped(7);
+        return Folded::Stopped(states::DIVISOR);
     }
     sized((a as i64) / (b as i64))
 }
@@ -71,14 +82,14 @@ fn remainder(a: i32, b: i32) -> Folded
     ensures { λ r. ⌜ r ≡ dividedOf b (remZ a b) ⌝ }
 {
     if b == 0 {
-        return Folded::Stopped(7);
+        return Folded::Stopped(states::DIVISOR);
     }
     sized((a as i64) % (b as i64))
 }
 
 // A remainder moved by the divisor where their signs differ.
 fn signed_as(r: i64, b: i64) -> i64
-    requires { ⌜ (natAbs r ≤ 2147483648) × (natAbs b ≤ 2147483648) ⌝ }
+    requires { ⌜ (natAbs r ≤ beyond) × (natAbs b ≤ beyond) ⌝ }
     ensures { λ m. ⌜ m ≡ toSign r b ⌝ }
 {
     if r == 0 {
@@ -100,7 +111,7 @@ fn modulo(a: i32, b: i32) -> Folded
     ensures { λ r. ⌜ r ≡ dividedOf b (toSign (remZ a b) b) ⌝ }
 {
     if b == 0 {
-        return Folded::Stopped(7);
+        return Folded::Stopped(states::DIVISOR);
     }
     let d = b as i64;
     sized(signed_as((a as i64) % d, d))
@@ -108,7 +119,7 @@ fn modulo(a: i32, b: i32) -> Folded
 
 // a to the n, for a base other than 0: at most 31 turns where a is not 1 or -1.
 fn climb(a: i64, n: u64) -> Folded
-    requires { ⌜ (natAbs a ≤ 2147483648) × (1 ≤ natAbs a) ⌝ }
+    requires { ⌜ (natAbs a ≤ beyond) × (1 ≤ natAbs a) ⌝ }
     ensures { λ r. ⌜ r ≡ sizedOf (pow a n) ⌝ }
 {
     let mut acc: i64 = 1;
@@ -116,10 +127,10 @@ fn climb(a: i64, n: u64) -> Folded
     while i < n {
         let next = acc * a;
         if next < SMALLEST {
-            return Folded::Stopped(9);
+            return Folded::Stopped(states::SIZE);
         }
         if LARGEST < next {
-            return Folded::Stopped(9);
+            return Folded::Stopped(states::SIZE);
         }
         acc = next;
         i += 1;
@@ -129,7 +140,7 @@ fn climb(a: i64, n: u64) -> Folded
 
 // a to the n. The bases 0, 1 and -1 never grow, so they take no turn.
 fn raise(a: i64, n: u64) -> Folded
-    requires { ⌜ natAbs a ≤ 2147483648 ⌝ }
+    requires { ⌜ natAbs a ≤ beyond ⌝ }
     ensures { λ r. ⌜ r ≡ sizedOf (pow a n) ⌝ }
 {
     if a == 0 {
@@ -154,7 +165,7 @@ fn power(a: i32, e: i32) -> Folded
     ensures { λ r. ⌜ r ≡ powerOf a e ⌝ }
 {
     if e < 0 {
-        return Folded::Stopped(8);
+        return Folded::Stopped(states::EXPONENT);
     }
     raise(a as i64, e as u64)
 }
@@ -174,7 +185,7 @@ pub fn computed(op: Arithmetic, a: i32, b: i32) -> Folded
     }
 }
 
-// A number behind a sign.
+// A number after a sign.
 pub fn kept(a: i32) -> Folded
     ensures { λ r. ⌜ r ≡ sizedOf a ⌝ }
 {

@@ -1,14 +1,24 @@
 // The items of a package, folded from the first to the last: each finds those above it done. Every public function takes any tables.
+use expressions::FIRST;
+use expressions::ROW_NUMBERS;
+use expressions::ROWS;
 use folding::Outcome;
 use pieces::RECORD_WORDS;
+use places::ElementNumber;
 use values::Value;
 ghost use mathlib.Core.Path.{_≡_};
 ghost use Prim.Native.Nat.{_+_, _-_, _*_, _/_, _≤_, _<_};
 ghost use lib.ListN.{length};
 ghost use lib.Seq.{sets};
-ghost use Rattle.pieces.specs.Records.{recordWords};
-ghost use Rattle.items.specs.Items.{rowsHeld, goesDownIn, doubledIn, expressionAt, rangeAt, markAt, boundedAt, formedAt, valueAt, completedAt, completed};
+ghost use Rattle.pieces.specs.Columns.{recordWords};
+ghost use Rattle.pieces.specs.Columns as column;
+ghost use Rattle.items.specs.code.Items.{afterMark, boundAt, rowsHeld, goesDownIn, doubledIn, expressionAt, rangeAt, markIn, boundedAt, formedAt, valueAt, completedAt, completed};
 ghost use Rattle.values.specs.Words.{valueWords};
+
+// The rows of a piece: its own, its mark's, then those of its expression, or its range's and those of the bounds.
+const AFTER_MARK: usize = 2;
+
+const FIRST_BOUND: usize = 3;
 
 fn minus(a: usize, b: usize) -> usize
     ensures { λ r. ⌜ r ≡ a - b ⌝ }
@@ -20,12 +30,12 @@ fn minus(a: usize, b: usize) -> usize
 fn rows_held(rows: &[u64], items: &[u64], i: usize) -> usize
     ensures { λ r. ⌜ r ≡ rowsHeld (now (rows .entry)) (now (items .entry)) i ⌝ }
 {
-    let from = records::word(items, i, 1) as usize;
-    let count = records::word(items, i, 2) as usize;
-    let most = lent::least(count, minus(rows.len() / 5, from));
+    let from = records::word(items, i, pieces::FIRST) as usize;
+    let count = records::word(items, i, pieces::COUNT) as usize;
+    let most = lent_tables::least(count, minus(rows.len() / ROW_NUMBERS, from));
     let mut m: usize = 0;
     while m < most {
-        if rows[5 * (from + m)] == 0 {
+        if rows[ROW_NUMBERS * (from + m)] == 0 {
             return m;
         }
         m += 1;
@@ -38,12 +48,13 @@ fn goes_down(elements: &[u64], items: &[u64], i: usize) -> bool
     ensures { λ r. ⌜ r ≡ goesDownIn (now (elements .entry)) (now (items .entry)) i ⌝ }
 {
     let n = places::rows_in(elements);
-    let from = records::word(items, i, 1) as usize;
-    let count = records::word(items, i, 2) as usize;
-    let most = lent::least(count, minus(n, from));
+    let from = records::word(items, i, pieces::FIRST) as usize;
+    let count = records::word(items, i, pieces::COUNT) as usize;
+    let most = lent_tables::least(count, minus(n, from));
     let mut m: usize = 0;
     while m < most {
-        if places::kind_of(elements, from + m) == 58 {
+        let e = from + m;
+        if places::kind_of(elements, ElementNumber(e)) == pieces::WORD_DOWNTO {
             return true;
         }
         m += 1;
@@ -55,13 +66,18 @@ fn goes_down(elements: &[u64], items: &[u64], i: usize) -> bool
 fn is_doubled(text: &[u8], elements: &[u64], twins: &[u64], items: &[u64], i: usize) -> bool
     ensures { λ r. ⌜ r ≡ doubledIn (now (text .entry)) (now (elements .entry)) (now (twins .entry)) (now (items .entry)) i ⌝ }
 {
-    if !records::is_claim(records::word(items, i, 0)) {
+    if !records::is_claim(records::word(items, i, pieces::CLASS)) {
         return false;
     }
-    if lent::word_at(twins, i) != 0 {
+    if lent_tables::word_at(twins, i) != 0 {
         return true;
     }
-    names::language(text, elements, records::word(items, i, 3) as usize) != 0
+    names::language(
+        text,
+        elements,
+        records::word(items, i, pieces::NAME) as usize,
+    )
+        != 0
 }
 
 // The expression whose rows are those of piece i from its row a on, of m.
@@ -78,26 +94,26 @@ fn expression(
     requires { ⌜ (1 ≤ m) × (a ≤ m) × (m ≡ rowsHeld (now rows) (now items) i) ⌝ }
     ensures { λ r. ⌜ r ≡ expressionAt (now (text .entry)) (now (elements .entry)) (now (items .entry)) (now (links .entry)) i (now (rows .entry)) a m ⌝ }
 {
-    let from = records::word(items, i, 1) as usize;
-    let start = 5 * (from + a);
-    let end = 5 * (from + m);
-    folds::fold(text, elements, items, links, i, &rows[start..end])
+    let from = records::word(items, i, pieces::FIRST) as usize;
+    let start = ROW_NUMBERS * (from + a);
+    let end = ROW_NUMBERS * (from + m);
+    expressions::fold(text, elements, items, links, i, &rows[start..end])
 }
 
-// Where the second bound's rows begin: behind the first one's.
+// Where the second bound's rows begin: after the first one's.
 fn second_bound(items: &[u64], i: usize, rows: &[u64], m: usize) -> usize
-    requires { ⌜ (3 ≤ m) × (m ≡ rowsHeld (now rows) (now items) i) ⌝ }
+    requires { ⌜ (boundAt ≤ m) × (m ≡ rowsHeld (now rows) (now items) i) ⌝ }
     ensures { λ r. ⌜ r ≡ rangeAt (now (items .entry)) i (now (rows .entry)) m ⌝ }
 {
-    if m == 3 {
-        return 3;
+    if m == FIRST_BOUND {
+        return FIRST_BOUND;
     }
-    let from = records::word(items, i, 1) as usize;
-    let size = rows[5 * (from + 3) + 3] as usize;
-    if m - 3 <= size {
+    let from = records::word(items, i, pieces::FIRST) as usize;
+    let size = rows[ROW_NUMBERS * (from + FIRST_BOUND) + ROWS] as usize;
+    if m - FIRST_BOUND <= size {
         return m;
     }
-    3 + size
+    FIRST_BOUND + size
 }
 
 // A subtype by its mark.
@@ -111,14 +127,14 @@ fn bounded(
     m: usize,
     mark: Value,
 ) -> Value
-    requires { ⌜ (2 ≤ m) × (m ≡ rowsHeld (now rows) (now items) i) ⌝ }
+    requires { ⌜ (afterMark ≤ m) × (m ≡ rowsHeld (now rows) (now items) i) ⌝ }
     ensures { λ r. ⌜ r ≡ boundedAt (now (text .entry)) (now (elements .entry)) (now (items .entry)) (now (links .entry)) i (now (rows .entry)) m mark ⌝ }
 {
-    if m == 2 {
+    if m == AFTER_MARK {
         return marks::subtype_value(mark);
     }
     let b = second_bound(items, i, rows, m);
-    let x = expression(text, elements, items, links, i, rows, 3, m);
+    let x = expression(text, elements, items, links, i, rows, FIRST_BOUND, m);
     let y = expression(text, elements, items, links, i, rows, b, m);
     let down = goes_down(elements, items, i);
     marks::ranged_value(mark, x, y, down)
@@ -133,12 +149,12 @@ fn mark_value(
     i: usize,
     rows: &[u64],
 ) -> Value
-    requires { ⌜ 2 ≤ rowsHeld (now rows) (now items) i ⌝ }
-    ensures { λ r. ⌜ r ≡ markAt (now (text .entry)) (now (elements .entry)) (now (items .entry)) (now (links .entry)) i (now (rows .entry)) ⌝ }
+    requires { ⌜ afterMark ≤ rowsHeld (now rows) (now items) i ⌝ }
+    ensures { λ r. ⌜ r ≡ markIn (now (text .entry)) (now (elements .entry)) (now (items .entry)) (now (links .entry)) i (now (rows .entry)) ⌝ }
 {
-    let from = records::word(items, i, 1) as usize;
-    let j = rows[5 * (from + 1) + 1];
-    folds::name_value(text, elements, items, links, i, j)
+    let from = records::word(items, i, pieces::FIRST) as usize;
+    let j = rows[ROW_NUMBERS * (from + 1) + FIRST];
+    expressions::name_value(text, elements, items, links, i, j)
 }
 
 // A constant or a subtype whose name is claimed once.
@@ -154,12 +170,12 @@ fn formed(
     requires { ⌜ (1 ≤ m) × (m ≡ rowsHeld (now rows) (now items) i) ⌝ }
     ensures { λ r. ⌜ r ≡ formedAt (now (text .entry)) (now (elements .entry)) (now (items .entry)) (now (links .entry)) i (now (rows .entry)) m ⌝ }
 {
-    if m < 2 {
-        return Value::Without(1);
+    if m < AFTER_MARK {
+        return Value::Without(states::BROKEN);
     }
     let mark = mark_value(text, elements, items, links, i, rows);
-    if records::word(items, i, 0) == 3 {
-        let x = expression(text, elements, items, links, i, rows, 2, m);
+    if records::word(items, i, pieces::CLASS) == pieces::CONSTANT {
+        let x = expression(text, elements, items, links, i, rows, AFTER_MARK, m);
         return marks::constant_value(mark, x);
     }
     bounded(text, elements, items, links, i, rows, m, mark)
@@ -179,10 +195,10 @@ fn item_value(
 {
     let m = rows_held(rows, items, i);
     if m == 0 {
-        return Value::Without(1);
+        return Value::Without(states::BROKEN);
     }
     if is_doubled(text, elements, twins, items, i) {
-        return Value::Without(2);
+        return Value::Without(states::DOUBLED);
     }
     formed(text, elements, items, links, i, rows, m)
 }
@@ -190,13 +206,13 @@ fn item_value(
 // The last four words of record i.
 fn put_value(items: &mut [u64], i: usize, v: Value)
     requires { ⌜ recordWords * i + recordWords ≤ length (now items) ⌝ }
-    ensures { λ _. ⌜ now (items .exit) ≡ sets (now (items .entry)) (recordWords * i + 4) (valueWords v) ⌝ }
+    ensures { λ _. ⌜ now (items .exit) ≡ sets (now (items .entry)) (recordWords * i + column.state) (valueWords v) ⌝ }
 {
     let at = RECORD_WORDS * i;
-    items[at + 4] = values::state_word(v);
-    items[at + 5] = values::kind_word(v);
-    items[at + 6] = values::low_word(v);
-    items[at + 7] = values::high_word(v);
+    items[at + pieces::STATE] = values::state_word(v);
+    items[at + pieces::KIND] = values::kind_word(v);
+    items[at + pieces::LOW] = values::low_word(v);
+    items[at + pieces::HIGH] = values::high_word(v);
 }
 
 // One piece more, unless it is no item.
@@ -212,7 +228,7 @@ fn complete(
     requires { ⌜ recordWords * i + recordWords ≤ length (now items) ⌝ }
     ensures { λ _. ⌜ now (items .exit) ≡ completedAt (now (text .entry)) (now (elements .entry)) (now (links .entry)) (now (twins .entry)) (now (rows .entry)) (now (items .entry)) i ⌝ }
 {
-    if records::is_item(records::word(items, i, 0)) {
+    if records::is_item(records::word(items, i, pieces::CLASS)) {
         let v = item_value(text, elements, items, links, twins, rows, i);
         put_value(items, i, v);
     }
@@ -230,7 +246,7 @@ pub fn complete_items(
 )
     ensures { λ _. ⌜ now (items .exit) ≡ completed (now (text .entry)) (now (elements .entry)) (now (links .entry)) (now (twins .entry)) (now (rows .entry)) (now (items .entry)) n ⌝ }
 {
-    let most = lent::least(n, items.len() / RECORD_WORDS);
+    let most = lent_tables::least(n, items.len() / RECORD_WORDS);
     let mut i: usize = 0;
     while i < most {
         complete(text, elements, links, twins, rows, items, i);

@@ -5,20 +5,20 @@ use mathlib.Core.List.{List}
 use Rattle.refusals.specs.Refusals.{refusalNumber, refusalPlace}
 use Rattle.places.specs.declared.ElementNumber.{ElementNumber}
 use Rattle.refusals.specs.declared.Refusal.{Refusal}
-use Rattle.reading.specs.declared.Reading.{Reading}
-use Rattle.reading.specs.declared.Reading.the-variants as R
+use Rattle.element_reading.specs.declared.Reading.{Reading}
+use Rattle.element_reading.specs.declared.Reading.the-variants as R
 use Rattle.refusals.specs.Refusals.{strictNumber, strictPlace}
 use Rattle.refusals.specs.declared.StrictRefusal.{StrictRefusal}
-use Rattle.files.specs.Permitted.{Permitted}
-use Rattle.files.specs.declared.Strict.{Strict}
-use Rattle.files.specs.declared.Strict.the-variants as S
+use Rattle.strict_reading.specs.Permitted.{Permitted}
+use Rattle.strict_reading.specs.declared.Strict.{Strict}
+use Rattle.strict_reading.specs.declared.Strict.the-variants as S
 use Rattle.verdict.specs.declared.Verdict.{Verdict}
 use Rattle.verdict.specs.declared.Verdict.the-variants.{Passes, NotSupported}
 use Rattle.refusals.specs.Refusals.{surveyNumber, surveyPlace}
 use Rattle.refusals.specs.declared.SurveyRefusal.{SurveyRefusal}
-use Rattle.packages.specs.declared.Summary.{Summary}
-use Rattle.packages.specs.declared.Outcome.the-variants as O
-use Rattle.packages.specs.declared.Survey.{Survey}
+use Rattle.survey_reading.specs.declared.Summary.{Summary}
+use Rattle.survey_reading.specs.declared.Outcome.the-variants as O
+use Rattle.survey_reading.specs.declared.Survey.{Survey}
 use Rattle.records.specs.Tallies.{oneIf}
 use Rattle.kawhiluhe.specs.Numbers.{elementNumbers, strictNumbers, StrictPermitted, pairNumber, earlierNumber, laterNumber, surveyNumbers}
 use Rattle.kawhiluhe.specs.declared.Judged.{Judged}

@@ -3,20 +3,20 @@ use Prim.Native.Nat.{ℕ}
 use mathlib.Core.Path.{_≡_}
 use mathlib.Core.List.{List}
 use Rattle.refusals.specs.Refusals.{refusalNumber, refusalPlace}
-use Rattle.reading.specs.declared.Reading.{Reading}
-use Rattle.reading.specs.declared.Reading.the-variants as R
+use Rattle.element_reading.specs.declared.Reading.{Reading}
+use Rattle.element_reading.specs.declared.Reading.the-variants as R
 use Rattle.refusals.specs.Refusals.{strictNumber, strictPlace}
-use Rattle.files.specs.declared.Strict.{Strict}
-use Rattle.files.specs.declared.Strict.the-variants as S
-use Rattle.files.specs.Permitted.{Permitted}
+use Rattle.strict_reading.specs.declared.Strict.{Strict}
+use Rattle.strict_reading.specs.declared.Strict.the-variants as S
+use Rattle.strict_reading.specs.Permitted.{Permitted}
 use Rattle.verdict.specs.declared.Verdict.the-variants.{Passes, NotSupported}
 use Rattle.records.specs.Tallies.{oneIf}
 use Rattle.pairs.specs.declared.Pair.{Pair}
 use Rattle.pairs.specs.declared.Pair.the-variants.{Both, Neither}
 use Rattle.refusals.specs.Refusals.{surveyNumber, surveyPlace}
-use Rattle.packages.specs.declared.Outcome.{Outcome}
-use Rattle.packages.specs.declared.Outcome.the-variants.{Done, Refused}
-use Rattle.packages.specs.declared.Survey.{Survey}
+use Rattle.survey_reading.specs.declared.Outcome.{Outcome}
+use Rattle.survey_reading.specs.declared.Outcome.the-variants.{Done, Refused}
+use Rattle.survey_reading.specs.declared.Survey.{Survey}
 use Rattle.lookup.specs.declared.Found.{Found}
 use Rattle.lookup.specs.declared.Found.the-variants.{At, Nothing}
 use Rattle.kawhiluhe.specs.declared.Elements.{Elements}

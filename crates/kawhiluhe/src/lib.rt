@@ -1,23 +1,31 @@
 // What C and Rust programs link: the readers on bytes and lent tables, each answer as numbers, by 01's own where it has them and 0 for what
-// is absent. Every function takes any bytes and any tables. include/kawhiluhe.h describes the tables' rows.
-use files::Strict;
+// is absent; and what the programs print of an answer, line by line. Every function takes any bytes and any tables. include/kawhiluhe.h
+// describes the tables' rows.
+use element_reading::Reading;
 use lookup::Found;
 use lookup::Item;
-use packages::Outcome;
-use packages::Survey;
 use pairs::Pair;
 use pieces::RECORD_WORDS;
-use reading::Reading;
+use puts::Filled;
+use strict_reading::Strict;
+use survey_reading::Outcome;
+use survey_reading::Survey;
 use verdict::Verdict;
 ghost use mathlib.Core.Path.{_≡_};
 ghost use Prim.Native.Nat.{_/_};
 ghost use lib.ListN.{length};
-ghost use Rattle.reading.specs.Reading.{readingOf, tableOf};
-ghost use Rattle.packages.specs.Survey.{surveyOf, elementsAfter as surveyElements, itemsAfter};
+ghost use Rattle.element_reading.specs.Reading.{readingOf, tableOf};
+ghost use Rattle.survey_reading.specs.Survey.{surveyOf, elementsAfter as surveyElements, itemsAfter};
 ghost use Rattle.lookup.specs.Lookup.{foundOf};
 ghost use Rattle.lookup.specs.Structs.{wordsOf};
 ghost use Rattle.pieces.specs.Records.{recordWords};
 ghost use Rattle.records.specs.Tallies.{oneIf};
+ghost use Rattle.puts.specs.Lines.{Part};
+ghost use Rattle.item_lines.specs.Lines.{surveyLine, surveyLines};
+ghost use Rattle.record_lines.specs.Lines.{recordLine, recordLines};
+ghost use Rattle.tree_lines.specs.Lines.{treeLine, treeLines};
+ghost use Rattle.element_lines.specs.Lines.{elementLine, elementLines};
+ghost use Rattle.kawhiluhe.specs.Words.{elementWords, judgedWords, surveyedWords};
 ghost use Rattle.kawhiluhe.specs.Numbers.{elementNumbers, strictNumbers, StrictPermitted, pairNumber, earlierNumber, laterNumber, surveyNumbers, foundNumber};
 
 // The element reader's answer.
@@ -182,7 +190,7 @@ pub extern "C" fn kawhiluhe_elements(text: &[u8], elements: &mut [u64]) -> Eleme
     ensures { λ r. ⌜ r ≡ elementNumbers (readingOf (now (text .entry)) (length (now (elements .entry)))) ⌝ }
     ensures { λ r. ⌜ now (elements .exit) ≡ tableOf (now (text .entry)) (length (now (elements .entry))) ⌝ }
 {
-    element_numbers(reading::read_elements(text, elements))
+    element_numbers(element_reading::read_elements(text, elements))
 }
 
 // The strict reading of a text: its elements, and its tree in a table of five words a row.
@@ -190,7 +198,7 @@ pub extern "C" fn kawhiluhe_elements(text: &[u8], elements: &mut [u64]) -> Eleme
 pub extern "C" fn kawhiluhe_strict(text: &[u8], elements: &mut [u64], tree: &mut [u64]) -> Judged
     ensures { λ r. ⌜ StrictPermitted (now (text .entry)) (length (now (elements .entry))) (length (now (tree .entry))) r (now (elements .exit)) (now (tree .exit)) ⌝ }
 {
-    strict_numbers(files::read_strict(text, elements, tree))
+    strict_numbers(strict_reading::read_strict(text, elements, tree))
 }
 
 // The survey of a package: its elements, and a record of eight words to each piece.
@@ -200,7 +208,7 @@ pub extern "C" fn kawhiluhe_survey(text: &[u8], elements: &mut [u64], items: &mu
     ensures { λ r. ⌜ now (elements .exit) ≡ surveyElements (now (text .entry)) (length (now (elements .entry))) (length (now (items .entry))) ⌝ }
     ensures { λ r. ⌜ now (items .exit) ≡ itemsAfter (now (text .entry)) (length (now (elements .entry))) (length (now (items .entry))) ⌝ }
 {
-    survey_numbers(packages::read_survey(text, elements, items))
+    survey_numbers(survey_reading::read_survey(text, elements, items))
 }
 
 // The first record of a table, eight words to a record, that claims a name; how many records the table has, where none does.
@@ -225,4 +233,100 @@ pub extern "C" fn kawhiluhe_lookup_items<'a>(
     let found = lookup::lookup_items(text, elements, name, items);
     let none = items.len() as u64;
     found_number(found, none)
+}
+
+// The words of an answer, one after the other, as the functions below are lent them.
+pub fn element_words(x: Elements) -> [u64; 3]
+    ensures { λ r. ⌜ r ≡ elementWords x ⌝ }
+{
+    [x.refusal, x.place, x.elements]
+}
+
+pub fn judged_words(x: Judged) -> [u64; 5]
+    ensures { λ r. ⌜ r ≡ judgedWords x ⌝ }
+{
+    [x.refusal, x.place, x.rows, x.passes, x.row]
+}
+
+// The tally's eleven counts stand after the eight other words.
+pub fn surveyed_words(x: Surveyed) -> [u64; 19]
+    ensures { λ r. ⌜ r ≡ surveyedWords x ⌝ }
+{
+    let t = x.tally;
+    [
+        x.refusal,
+        x.place,
+        x.pieces,
+        x.frame,
+        x.whole,
+        x.pair,
+        x.earlier,
+        x.later,
+        t[0],
+        t[1],
+        t[2],
+        t[3],
+        t[4],
+        t[5],
+        t[6],
+        t[7],
+        t[8],
+        t[9],
+        t[10],
+    ]
+}
+
+// What is printed of an answer, lent as its words, from a line on: as many whole lines as the buffer has room for, and zeros after them. Of
+// the elements:
+#[no_mangle]
+pub extern "C" fn kawhiluhe_element_lines(
+    elements: &[u64],
+    answer: &[u64],
+    from: usize,
+    out: &mut [u8],
+) -> Filled
+    ensures { λ r. ⌜ Part (elementLine (now (elements .entry)) (now (answer .entry))) from (elementLines (now (elements .entry)) (now (answer .entry))) (length (now (out .entry))) r (now (out .exit)) ⌝ }
+{
+    element_lines::fill_elements(elements, answer, from, out)
+}
+
+// Of the tree.
+#[no_mangle]
+pub extern "C" fn kawhiluhe_tree_lines(
+    tree: &[u64],
+    answer: &[u64],
+    from: usize,
+    out: &mut [u8],
+) -> Filled
+    ensures { λ r. ⌜ Part (treeLine (now (tree .entry)) (now (answer .entry))) from (treeLines (now (tree .entry)) (now (answer .entry))) (length (now (out .entry))) r (now (out .exit)) ⌝ }
+{
+    tree_lines::fill_tree(tree, answer, from, out)
+}
+
+// Of a survey's items.
+#[no_mangle]
+pub extern "C" fn kawhiluhe_survey_lines(
+    text: &[u8],
+    elements: &[u64],
+    items: &[u64],
+    answer: &[u64],
+    from: usize,
+    out: &mut [u8],
+) -> Filled
+    ensures { λ r. ⌜ Part (surveyLine (now (text .entry)) (now (elements .entry)) (now (items .entry)) (now (answer .entry))) from (surveyLines (now (items .entry)) (now (answer .entry))) (length (now (out .entry))) r (now (out .exit)) ⌝ }
+{
+    item_lines::fill_survey(text, elements, items, answer, from, out)
+}
+
+// Of its records, its tally and its pair.
+#[no_mangle]
+pub extern "C" fn kawhiluhe_record_lines(
+    items: &[u64],
+    answer: &[u64],
+    from: usize,
+    out: &mut [u8],
+) -> Filled
+    ensures { λ r. ⌜ Part (recordLine (now (items .entry)) (now (answer .entry))) from (recordLines (now (items .entry)) (now (answer .entry))) (length (now (out .entry))) r (now (out .exit)) ⌝ }
+{
+    record_lines::fill_records(items, answer, from, out)
 }

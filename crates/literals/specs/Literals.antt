@@ -12,22 +12,23 @@ use Rattle.classes.specs.declared.Run.the-variants.{Below}
 use Rattle.numbers.specs.Numbers.{leading, exponentHead}
 use Rattle.integers.specs.Integers.{sizedOf}
 use Rattle.integers.specs.declared.Folded.{Folded}
+use Rattle.classes.specs.Bytes as byte
 
 -- "then perhaps E, an optional plus and digits": the number of those digits
 unfoldable pub exponentOf : List ℕ → ℕ
-exponentOf s = cond (eqb (lower (getD s 0 0)) 101) (leading 10 (drop (exponentHead false s) s)) 0
+exponentOf s = cond (eqb (lower (getD s 0 0)) byte.smallE) (leading 10 (drop (exponentHead false s) s)) 0
 
 -- digits in a base, `closing` bytes (the second `#`), perhaps an exponent, which is of that base
 unfoldable pub numberIn : ℕ → ℕ → List ℕ → ℕ
 numberIn base closing s = leading base s * base ^ exponentOf (drop (run (Below base) s + closing) s)
 
--- "or base 2 to 16, `#`" (35)
+-- "or base 2 to 16, `#`"
 unfoldable pub isBased : List ℕ → Bool
-isBased s = eqb (getD s (run (Below 10) s) 0) 35 && within 2 16 (leading 10 s)
+isBased s = eqb (getD s (run (Below 10) s) 0) byte.hash && within 2 16 (leading 10 s)
 
-unfoldable pub valueOf : List ℕ → ℕ
-valueOf s = cond (isBased s) (numberIn (leading 10 s) 1 (drop (run (Below 10) s + 1) s)) (numberIn 10 0 s)
+unfoldable pub literalNumber : List ℕ → ℕ
+literalNumber s = cond (isBased s) (numberIn (leading 10 s) 1 (drop (run (Below 10) s + 1) s)) (numberIn 10 0 s)
 
 -- the folded literal: state 9 is "a literal or result beyond 2147483647 in size"
 unfoldable pub literalOf : List ℕ → Folded
-literalOf s = sizedOf (pos (valueOf s))
+literalOf s = sizedOf (pos (literalNumber s))

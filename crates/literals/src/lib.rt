@@ -6,31 +6,33 @@ ghost use Prim.Native.Nat.{_+_, _*_, _^_, _≤_, _<_, min};
 ghost use lib.IntN.{pos};
 ghost use lib.ListN.{drop};
 ghost use Rattle.numbers.specs.Numbers.{digitIn, spelled, leading};
-ghost use Rattle.integers.specs.Integers.{sizedOf};
+ghost use Rattle.integers.specs.Integers.{largest, beyond, sizedOf};
 ghost use Rattle.literals.specs.Literals.{exponentOf, numberIn, literalOf};
 
-// How large a literal is at most.
+// How large a literal is at most, and the first number beyond.
 const LARGEST: u64 = integers::LARGEST as u64;
 
-// One digit more, where 2147483648 stands for any number from there on.
+const BEYOND: u64 = LARGEST + 1;
+
+// One digit more, where the first number beyond the largest stands for any from there on.
 fn with_digit(base: u8, v: u64, b: u8) -> u64
-    requires { ⌜ (2 ≤ base) × (base ≤ 16) × (v ≤ 2147483648) ⌝ }
-    ensures { λ r. ⌜ r ≡ min 2147483648 (digitIn base v b) ⌝ }
+    requires { ⌜ (2 ≤ base) × (base ≤ 16) × (v ≤ beyond) ⌝ }
+    ensures { λ r. ⌜ r ≡ min beyond (digitIn base v b) ⌝ }
 {
-    if b == 95 {
+    if b == b'_' {
         return v;
     }
     let n = v * (base as u64) + (classes::digit_value(b) as u64);
-    if 2147483648 < n {
-        return 2147483648;
+    if BEYOND < n {
+        return BEYOND;
     }
     n
 }
 
-// The number that digits and underscores spell, or 2147483648 where it is larger.
+// The number that digits and underscores spell, or the first number beyond the largest where it is larger.
 fn capped(base: u8, s: &[u8]) -> u64
     requires { ⌜ (2 ≤ base) × (base ≤ 16) ⌝ }
-    ensures { λ r. ⌜ r ≡ min 2147483648 (spelled base 0 (now (s .entry))) ⌝ }
+    ensures { λ r. ⌜ r ≡ min beyond (spelled base 0 (now (s .entry))) ⌝ }
 {
     let mut v: u64 = 0;
     let mut i = 0;
@@ -43,20 +45,20 @@ fn capped(base: u8, s: &[u8]) -> u64
 
 fn leading_value(base: u8, s: &[u8]) -> u64
     requires { ⌜ (2 ≤ base) × (base ≤ 16) ⌝ }
-    ensures { λ r. ⌜ r ≡ min 2147483648 (leading base (now (s .entry))) ⌝ }
+    ensures { λ r. ⌜ r ≡ min beyond (leading base (now (s .entry))) ⌝ }
 {
     let n = classes::run_length(Run::Below(base), s);
     capped(base, &s[..n])
 }
 
 fn exponent_at(s: &[u8], at: usize) -> u64
-    ensures { λ r. ⌜ r ≡ min 2147483648 (exponentOf (drop at (now (s .entry)))) ⌝ }
+    ensures { λ r. ⌜ r ≡ min beyond (exponentOf (drop at (now (s .entry)))) ⌝ }
 {
-    if classes::lower_case(classes::byte_or(s, at)) != 101 {
+    if classes::lower_case(classes::byte_or(s, at)) != b'e' {
         return 0;
     }
     let n = at + 1;
-    if classes::byte_or(s, n) == 43 {
+    if classes::byte_or(s, n) == b'+' {
         let m = at + 2;
         return leading_value(10, &s[m..]);
     }
@@ -65,7 +67,7 @@ fn exponent_at(s: &[u8], at: usize) -> u64
 
 // m times the base to the e. A number other than 0 grows past the largest in at most 31 turns.
 fn scaled(m: u64, base: u8, e: u64) -> Folded
-    requires { ⌜ (m ≤ 2147483647) × (2 ≤ base) × (base ≤ 16) ⌝ }
+    requires { ⌜ (m ≤ largest) × (2 ≤ base) × (base ≤ 16) ⌝ }
     ensures { λ r. ⌜ r ≡ sizedOf (pos (m * base ^ e)) ⌝ }
 {
     if m == 0 {
@@ -76,7 +78,7 @@ fn scaled(m: u64, base: u8, e: u64) -> Folded
     while i < e {
         let next = acc * (base as u64);
         if LARGEST < next {
-            return Folded::Stopped(9);
+            return Folded::Stopped(states::SIZE);
         }
         acc = next;
         i += 1;
@@ -90,7 +92,7 @@ fn number_in(base: u8, closing: usize, s: &[u8]) -> Folded
 {
     let m = leading_value(base, s);
     if LARGEST < m {
-        return Folded::Stopped(9);
+        return Folded::Stopped(states::SIZE);
     }
     let n = classes::run_length(Run::Below(base), s);
     let e = exponent_at(s, n + closing);
@@ -102,7 +104,7 @@ pub fn literal(s: &[u8]) -> Folded
     ensures { λ r. ⌜ r ≡ literalOf (now (s .entry)) ⌝ }
 {
     let n = classes::run_length(Run::Below(10), s);
-    if classes::byte_or(s, n) != 35 {
+    if classes::byte_or(s, n) != b'#' {
         return number_in(10, 0, s);
     }
     let base = leading_value(10, s);

@@ -10,11 +10,11 @@ use borrow.Author.Tests.{le-leb, leb-true, ltb-true, ltb-false}
 use lib.Dec.{ltb}
 use lib.ListN.{length, take, drop, getD}
 use Rattle.laws.proofs.Laws.{clash}
-use Rattle.places.specs.Places.{rowsIn, cellAt, within}
-use Rattle.alike.specs.Alike.{byKind}
-use Rattle.alike.specs.Spelling.{spelt, spelledAs}
+use Rattle.places.specs.Places.{rowsIn, cellAt, within, rowWords}
+use Rattle.same_names.specs.Alike.{byKind}
+use Rattle.same_names.specs.Spelling.{spelt, spelledAs}
 use Rattle.records.specs.Records.{wordAt, isClaim}
-use Rattle.lookup.specs.Lookup.{isNamed, claimsName, firstFrom, foundOf}
+use Rattle.lookup.specs.Lookup.{isNamed, claimsName, foundFrom, foundOf}
 use Rattle.lookup.specs.Finds.{recordsIn, classIn, nameElement, kindIn, firstByte, sizeIn, Inside, Spells, Claims, NoneOf, Finds}
 use Rattle.lookup.specs.Promises.{OneAnswer, OutsideClaimsNothing, ByNameElement, FoundExactly}
 use Rattle.lookup.specs.declared.Found.{Found}
@@ -27,7 +27,7 @@ row-there : (elements : List ℕ) (e k : ℕ) → kindIn elements e ≡ suc k �
 unfolding cellAt
 row-there elements e k h = go (ltb e (rowsIn elements)) refl h
   where
-    go : (b : Bool) → ltb e (rowsIn elements) ≡ b → cond b (getD elements (3 * e + 0) 0) 0 ≡ suc k → e < rowsIn elements
+    go : (b : Bool) → ltb e (rowsIn elements) ≡ b → cond b (getD elements (rowWords * e + 0) 0) 0 ≡ suc k → e < rowsIn elements
     go true q z = ltb-true e (rowsIn elements) q
     go false q z = absurd (omega arith)
 
@@ -97,14 +97,14 @@ module _ (text elements name items : List ℕ) where
   further i m (At k) e (a, b, c, n) = (omega arith, omega arith, c, λ j l h d. not-here i j e (λ x u v w. n x u (omega arith) w) l d)
   further i m Nothing e n = λ j l h d. not-here i j e (λ x u v w. n x u (omega arith) w) l d
 
-  ahead : (i m : ℕ) → Ahead i m (firstFrom test i m)
-  unfolding firstFrom
+  ahead : (i m : ℕ) → Ahead i m (foundFrom test i m)
+  unfolding foundFrom
   ahead i zero = λ j l h c. omega arith
   ahead i (suc m) = go (test i) refl (ahead (suc i) m)
     where
-      go : (b : Bool) → test i ≡ b → Ahead (suc i) m (firstFrom test (suc i) m) → Ahead i (suc m) (elim b [ true ↦ At i | false ↦ firstFrom test (suc i) m ])
+      go : (b : Bool) → test i ≡ b → Ahead (suc i) m (foundFrom test (suc i) m) → Ahead i (suc m) (elim b [ true ↦ At i | false ↦ foundFrom test (suc i) m ])
       go true e r = (omega arith, omega arith, claims-so i e, λ j l h c. omega arith)
-      go false e r = further i m (firstFrom test (suc i) m) e r
+      go false e r = further i m (foundFrom test (suc i) m) e r
 
   ahead-finds : (f : Found) → Ahead 0 (recordsIn items) f → Finds text elements name items f
   unfolding Finds
@@ -113,7 +113,7 @@ module _ (text elements name items : List ℕ) where
 
   pub finds-found : Finds text elements name items (foundOf text elements name items)
   unfolding foundOf
-  finds-found = ahead-finds (firstFrom test 0 (recordsIn items)) (ahead 0 (recordsIn items))
+  finds-found = ahead-finds (foundFrom test 0 (recordsIn items)) (ahead 0 (recordsIn items))
 
 pub one-answer : OneAnswer
 unfolding Finds

@@ -7,9 +7,11 @@ use mathlib.Core.Bool.{true, false}
 use mathlib.Core.List.{List}
 use lib.ListN.{length, take, drop}
 use Rattle.places.specs.Places.{rowsIn, cellAt}
-use Rattle.alike.specs.Spelling.{spelt}
+use Rattle.same_names.specs.Spelling.{spelt}
 use Rattle.pieces.specs.Records.{recordWords}
 use Rattle.records.specs.Records.{wordAt, isClaim}
+use Rattle.pieces.specs.Columns as column
+use Rattle.places.specs.Kinds.{identifier, extended}
 use Rattle.lookup.specs.declared.Found.{Found}
 use Rattle.lookup.specs.declared.Found.the-variants.{At, Nothing}
 
@@ -18,10 +20,10 @@ abbrev pub recordsIn : List ℕ → ℕ
 recordsIn items = length items / recordWords
 
 abbrev pub classIn : List ℕ → ℕ → ℕ
-classIn items i = wordAt items i 0
+classIn items i = wordAt items i column.class
 
 abbrev pub nameElement : List ℕ → ℕ → ℕ
-nameElement items i = wordAt items i 3
+nameElement items i = wordAt items i column.name
 
 -- element e of the table: "kind, first byte and length"
 abbrev pub kindIn : List ℕ → ℕ → ℕ
@@ -37,11 +39,11 @@ sizeIn elements e = cellAt elements e 2
 abbrev pub Inside : List ℕ → List ℕ → ℕ → Type 0
 Inside text elements e = (e < rowsIn elements) × (firstByte elements e + sizeIn elements e ≤ length text)
 
--- it is that name: an identifier (1), case aside; or an extended one (2), which keeps it
+-- it is that name: an identifier, case aside; or an extended one, which keeps it
 abbrev pub Spells : List ℕ → List ℕ → ℕ → List ℕ → Type 0
 Spells text elements e name =
-    ((kindIn elements e ≡ 1) × (spelt true (take (sizeIn elements e) (drop (firstByte elements e) text)) name ≡ true))
-    ⊎ ((kindIn elements e ≡ 2) × (spelt false (take (sizeIn elements e) (drop (firstByte elements e) text)) name ≡ true))
+    ((kindIn elements e ≡ identifier) × (spelt true (take (sizeIn elements e) (drop (firstByte elements e) text)) name ≡ true))
+    ⊎ ((kindIn elements e ≡ extended) × (spelt false (take (sizeIn elements e) (drop (firstByte elements e) text)) name ≡ true))
 
 -- record i claims the name: a constant or a subtype, whose name element is that name; "a record pointing outside the tables claiming nothing"
 unfoldable pub Claims : List ℕ → List ℕ → List ℕ → List ℕ → ℕ → Type 0

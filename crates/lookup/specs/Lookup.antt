@@ -3,11 +3,12 @@ use Prim.Native.Nat.{ℕ, zero, suc, _/_}
 use mathlib.Core.Bool.{Bool, true, false, _&&_}
 use mathlib.Core.List.{List}
 use lib.ListN.{length}
-use Rattle.alike.specs.Alike.{byKind}
+use Rattle.same_names.specs.Alike.{byKind}
 use Rattle.places.specs.Places.{cellAt}
-use Rattle.alike.specs.Spelling.{spelledAs}
+use Rattle.same_names.specs.Spelling.{spelledAs}
 use Rattle.pieces.specs.Records.{recordWords}
 use Rattle.records.specs.Records.{wordAt, isClaim}
+use Rattle.pieces.specs.Columns as column
 use Rattle.lookup.specs.declared.Found.{Found}
 use Rattle.lookup.specs.declared.Found.the-variants.{At, Nothing}
 
@@ -17,12 +18,12 @@ isNamed text elements e name = byKind (cellAt elements e 0) (spelledAs true text
 
 -- record i claims the name
 unfoldable pub claimsName : List ℕ → List ℕ → List ℕ → List ℕ → ℕ → Bool
-claimsName text elements name items i = isClaim (wordAt items i 0) && isNamed text elements (wordAt items i 3) name
+claimsName text elements name items i = isClaim (wordAt items i column.class) && isNamed text elements (wordAt items i column.name) name
 
 -- the first of m records from the i-th on that passes
-unfoldable pub firstFrom : (ℕ → Bool) → ℕ → ℕ → Found
-firstFrom p i zero = Nothing
-firstFrom p i (suc m) = elim (p i) [ true ↦ At i | false ↦ firstFrom p (suc i) m ]
+unfoldable pub foundFrom : (ℕ → Bool) → ℕ → ℕ → Found
+foundFrom p i zero = Nothing
+foundFrom p i (suc m) = elim (p i) [ true ↦ At i | false ↦ foundFrom p (suc i) m ]
 
 unfoldable pub foundOf : List ℕ → List ℕ → List ℕ → List ℕ → Found
-foundOf text elements name items = firstFrom (claimsName text elements name items) 0 (length items / recordWords)
+foundOf text elements name items = foundFrom (claimsName text elements name items) 0 (length items / recordWords)

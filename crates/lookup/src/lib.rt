@@ -1,5 +1,6 @@
 // Lookup by name over the text, the element table and the item rows, all of any content; and the same over a lent slice of item structs.
 use pieces::RECORD_WORDS;
+use places::ElementNumber;
 ghost use mathlib.Core.Path.{_≡_};
 ghost use Prim.Native.Nat.{_<_};
 ghost use lib.ListN.{length, getD};
@@ -28,12 +29,12 @@ pub enum Found {
 fn named(text: &[u8], elements: &[u64], e: usize, name: &[u8]) -> bool
     ensures { λ r. ⌜ r ≡ isNamed (now (text .entry)) (now (elements .entry)) e (now (name .entry)) ⌝ }
 {
-    let k = places::kind_of(elements, e);
-    if k == 1 {
-        return alike::spelled_as(true, text, elements, e, name);
+    let k = places::kind_of(elements, ElementNumber(e));
+    if k == places::IDENTIFIER {
+        return same_names::spelled_as(true, text, elements, ElementNumber(e), name);
     }
-    if k == 2 {
-        return alike::spelled_as(false, text, elements, e, name);
+    if k == places::EXTENDED {
+        return same_names::spelled_as(false, text, elements, ElementNumber(e), name);
     }
     false
 }
@@ -41,8 +42,13 @@ fn named(text: &[u8], elements: &[u64], e: usize, name: &[u8]) -> bool
 fn claims(text: &[u8], elements: &[u64], name: &[u8], items: &[u64], i: usize) -> bool
     ensures { λ r. ⌜ r ≡ claimsName (now (text .entry)) (now (elements .entry)) (now (name .entry)) (now (items .entry)) i ⌝ }
 {
-    if records::is_claim(records::word(items, i, 0)) {
-        return named(text, elements, records::word(items, i, 3) as usize, name);
+    if records::is_claim(records::word(items, i, pieces::CLASS)) {
+        return named(
+            text,
+            elements,
+            records::word(items, i, pieces::NAME) as usize,
+            name,
+        );
     }
     false
 }

@@ -14,12 +14,15 @@ use Rattle.integers.specs.declared.Arithmetic.the-variants.{Add}
 use Rattle.folding.specs.declared.Relation.the-variants.{Equal}
 use Rattle.folding.specs.declared.Operator.the-variants as O
 use Rattle.folding.specs.declared.Outcome.{Outcome}
-use Rattle.folding.specs.Outcomes.{sortOf}
+use Rattle.folding.specs.Outcomes.{operatorSort}
 use Rattle.values.specs.declared.Value.{Value}
 use Rattle.values.specs.declared.Value.the-variants.{Number, Truth, Range, Truths, Without}
-use Rattle.values.specs.Words.{stateOf, kindOf, lowOf, highOf, usedConstant, usedSubtype, usedValue, leanOf}
+use Rattle.values.specs.Words.{stateOf, valueKind, lowOf, highOf, leanOf}
+use Rattle.values.specs.code.Used.{usedConstant, usedSubtype, usedValue}
 use Rattle.values.proofs.Laws.{number-word}
-use Rattle.marks.specs.Marks.{withoutOf, besideMark, valueIn, constantOf, subtypeOf, firstBound, insideOf, rangeIn, boundsIn, rangedOf, markSort}
+use Rattle.states.specs.States as state
+use Rattle.pieces.specs.Classes.{constant, subtype}
+use Rattle.marks.specs.Marks.{withoutOf, besideMark, valueIn, constantOf, subtypeOf, firstBound, insideOf, rangeUnder, boundsIn, rangedOf, markSort}
 use Rattle.marks.proofs.Sound.{Keeps, small, SoundFolded, SoundOutcome, Sound, sort-sound, settle-sound, mark-sound}
 
 -- ---- what stands in a record
@@ -42,11 +45,11 @@ Subtype K (Without s) = K .ended s
 
 -- of a record's class, 3 or 4
 abbrev pub Fits : ℕ → Value → Type 0
-Fits class v = ((class ≡ 3) × Constant small v) ⊎ ((class ≡ 4) × Subtype small v)
+Fits class v = ((class ≡ constant) × Constant small v) ⊎ ((class ≡ subtype) × Subtype small v)
 
 -- ---- a record's words
 
-pub lean-constant : (v : Value) → Constant small v → usedValue 3 (stateOf v) (kindOf v) (lowOf v) (highOf v) ≡ leanOf v
+pub lean-constant : (v : Value) → Constant small v → usedValue constant (stateOf v) (valueKind v) (lowOf v) (highOf v) ≡ leanOf v
 unfolding usedValue usedConstant
 lean-constant (Number z) f = ap Number (number-word z f)
 lean-constant (Truth true) f = refl
@@ -55,7 +58,7 @@ lean-constant (Range low high) f = absurd f
 lean-constant Truths f = absurd f
 lean-constant (Without s) f = rw (ne-eqb s 0 (λ e. omega arith))
 
-pub lean-subtype : (v : Value) → Subtype small v → usedValue 4 (stateOf v) (kindOf v) (lowOf v) (highOf v) ≡ leanOf v
+pub lean-subtype : (v : Value) → Subtype small v → usedValue subtype (stateOf v) (valueKind v) (lowOf v) (highOf v) ≡ leanOf v
 unfolding usedValue usedSubtype
 lean-subtype (Number z) f = absurd f
 lean-subtype (Truth t) f = absurd f
@@ -63,7 +66,7 @@ lean-subtype (Range low high) f = ap₂ Range (number-word low (f .0)) (number-w
 lean-subtype Truths f = refl
 lean-subtype (Without s) f = rw (ne-eqb s 0 (λ e. omega arith))
 
-pub used-lean : (class : ℕ) (v : Value) → Fits class v → usedValue class (stateOf v) (kindOf v) (lowOf v) (highOf v) ≡ leanOf v
+pub used-lean : (class : ℕ) (v : Value) → Fits class v → usedValue class (stateOf v) (valueKind v) (lowOf v) (highOf v) ≡ leanOf v
 used-lean class v (inl f) = rw (f .0) (lean-constant v (f .1))
 used-lean class v (inr f) = rw (f .0) (lean-subtype v (f .1))
 
@@ -81,12 +84,12 @@ fits-sound class Truths (inr f) = tt
 fits-sound class (Without s) (inr f) = omega arith
 
 module _ (K : Keeps) where
-  ends-six : K .ended 6
-  ends-six = K .stop-ends 6 (K .sort-stops 6 (K .six))
+  ends-six : K .ended state.kind
+  ends-six = K .stop-ends state.kind (K .sort-stops state.kind (K .six))
 
   -- ---- constants
 
-  held-fits : (t : Bool) (z : ℤ) → K .number z → Constant K (cond t (Number z) (Without 10))
+  held-fits : (t : Bool) (z : ℤ) → K .number z → Constant K (cond t (Number z) (Without state.range))
   held-fits true z f = f
   held-fits false z f = K .outside
 
@@ -110,7 +113,7 @@ module _ (K : Keeps) where
   unfolding constantOf
   constant-fits mark x m h =
       value-fits mark (besideMark mark x)
-      (settle-sound K (sortOf (O.Relation Equal) (markSort mark) (x .sort)) (x .folded) (sort-sound K (O.Relation Equal) (markSort mark) (x .sort) (mark-sound K mark m) (h .of-sort)) (h .of-folded))
+      (settle-sound K (operatorSort (O.Relation Equal) (markSort mark) (x .sort)) (x .folded) (sort-sound K (O.Relation Equal) (markSort mark) (x .sort) (mark-sound K mark m) (h .of-sort)) (h .of-folded))
 
   -- ---- subtypes
 
@@ -129,11 +132,11 @@ module _ (K : Keeps) where
     inside-fits : (mark : Value) → Subtype K (insideOf mark low high)
     inside-fits (Number z) = K .outside
     inside-fits (Truth t) = K .outside
-    inside-fits (Range least most) = choose-fits (leZ least low && leZ high most) (Range low high) (Without 10) (l, h) (K .outside)
+    inside-fits (Range least most) = choose-fits (leZ least low && leZ high most) (Range low high) (Without state.range) (l, h) (K .outside)
     inside-fits Truths = K .outside
     inside-fits (Without s) = K .outside
 
-    range-fits : (mark : Value) → Subtype K (rangeIn mark low high)
+    range-fits : (mark : Value) → Subtype K (rangeUnder mark low high)
     range-fits mark = choose-fits (ltZ high low) (Range low high) (insideOf mark low high) (l, h) (inside-fits mark)
 
   bounds-fit : (mark : Value) (down : Bool) (f g : Folded) → SoundFolded K f → SoundFolded K g → Subtype K (boundsIn mark down f g)
@@ -147,7 +150,7 @@ module _ (K : Keeps) where
   pub ranged-fits : (mark : Value) (a b : Outcome) (down : Bool) → Sound K mark → SoundOutcome K a → SoundOutcome K b → Subtype K (rangedOf mark a b down)
   unfolding rangedOf
   ranged-fits mark a b down m h k =
-      let bounds = sortOf (O.Arithmetic Add) (a .sort) (b .sort) in
+      let bounds = operatorSort (O.Arithmetic Add) (a .sort) (b .sort) in
       bounds-fit mark down (firstBound mark a b) (b .folded)
-      (settle-sound K (sortOf (O.Arithmetic Add) (markSort mark) bounds) (a .folded) (sort-sound K (O.Arithmetic Add) (markSort mark) bounds (mark-sound K mark m) (sort-sound K (O.Arithmetic Add) (a .sort) (b .sort) (h .of-sort) (k .of-sort))) (h .of-folded))
+      (settle-sound K (operatorSort (O.Arithmetic Add) (markSort mark) bounds) (a .folded) (sort-sound K (O.Arithmetic Add) (markSort mark) bounds (mark-sound K mark m) (sort-sound K (O.Arithmetic Add) (a .sort) (b .sort) (h .of-sort) (k .of-sort))) (h .of-folded))
       (k .of-folded)

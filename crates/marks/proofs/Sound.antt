@@ -11,7 +11,7 @@ use lib.IntN.{ℤ, pos, negsuc, natAbs}
 use lib.Signed.{quotZ, remZ}
 use mir.Syntax.{w32}
 use mir.Val.{SFits}
-use Rattle.integers.specs.Integers.{sizedOf, dividedOf, toSign, powerOf, arithmeticOf}
+use Rattle.integers.specs.Integers.{sizedOf, dividedOf, toSign, powerOf, arithmeticOf, largest}
 use Rattle.integers.proofs.Ints.{narrow-fits}
 use Rattle.integers.specs.declared.Folded.{Folded}
 use Rattle.integers.specs.declared.Folded.the-variants as F
@@ -26,13 +26,16 @@ use Rattle.folding.specs.declared.Sort.{Sort}
 use Rattle.folding.specs.declared.Sort.the-variants as S
 use Rattle.folding.specs.declared.Outcome.{Outcome}
 use Rattle.folding.specs.Operators.{decides, logicOf, onWholes, onTruths, afterWhole, afterTruth, besideTruth, binaryOf, unaryOf}
-use Rattle.folding.specs.Outcomes.{wrongSort, sortOf, signSort, combinedOf, signedOf, settle}
-use Rattle.expressions.specs.Leaves.{wrongLeaf, literalLeaf}
-use Rattle.expressions.proofs.Literal.{literal-sized}
+use Rattle.folding.specs.Outcomes.{wrongSort, operatorSort, signSort, combinedOf, signedOf, settle}
+use Rattle.operands.specs.Leaves.{wrongLeaf, literalLeaf}
+use Rattle.operands.proofs.Literal.{literal-sized}
 use Rattle.values.specs.declared.Value.{Value}
 use Rattle.values.specs.declared.Value.the-variants.{Number, Truth, Range, Truths, Without}
 use Rattle.values.specs.Values.{languageValue}
 use Rattle.values.specs.Words.{leanOf}
+use Rattle.states.specs.States as state
+use Rattle.names.specs.Language.{name-natural, name-positive, name-boolean, name-true, name-false}
+use Rattle.integers.specs.declared.Kind.{Kind}
 use Rattle.marks.specs.Marks.{operandOf, markSort}
 
 -- what is kept: of each number, of a state in a sort, of one that stops a folding and of one that an item ends in
@@ -41,18 +44,18 @@ pub record Keeps : Type 1 where
   pub sorted : ℕ → Type 0
   pub stopped : ℕ → Type 0
   pub ended : ℕ → Type 0
-  pub sized : (z : ℤ) → leb (natAbs z) 2147483647 ≡ true → number z
-  pub three : sorted 3
-  pub four : sorted 4
-  pub five : sorted 5
-  pub six : sorted 6
+  pub sized : (z : ℤ) → leb (natAbs z) largest ≡ true → number z
+  pub three : sorted state.unfolded
+  pub four : sorted state.unknown
+  pub five : sorted state.leans
+  pub six : sorted state.kind
   pub smaller : (s t : ℕ) → sorted s → sorted t → sorted (min s t)
-  pub divisor : stopped 7
-  pub exponent : stopped 8
-  pub size : stopped 9
+  pub divisor : stopped state.divisor
+  pub exponent : stopped state.exponent
+  pub size : stopped state.size
   pub sort-stops : (s : ℕ) → sorted s → stopped s
   pub stop-ends : (s : ℕ) → stopped s → ended s
-  pub outside : ended 10
+  pub outside : ended state.range
 
 -- numbers are of 32 bits, and no state is 0, which is that of what has a number
 abbrev pub small : Keeps
@@ -77,21 +80,21 @@ small = record {
 
 -- a state from 3 on to the last
 abbrev pub Between : ℕ → ℕ → Type 0
-Between last s = (3 ≤ s) × (s ≤ last)
+Between last s = (state.unfolded ≤ s) × (s ≤ last)
 
 pub wider : (last more s : ℕ) → last ≤ more → Between last s → Between more s
 wider last more s l h = let a = h .1 in (h .0, omega arith)
 
-pub smaller-between : (s t : ℕ) → Between 6 s → Between 6 t → Between 6 (min s t)
+pub smaller-between : (s t : ℕ) → Between state.kind s → Between state.kind t → Between state.kind (min s t)
 smaller-between s t h k = let a = h .0 in let b = h .1 in let c = k .0 in (omega arith, omega arith)
 
 -- the states of 01's table: 3 to 6 in a sort, 3 to 9 in a folding, 3 to 10 in an item that a form fits and whose name is claimed once
 abbrev pub late : Keeps
 late = record {
   number = λ z. Unit {0};
-  sorted = Between 6;
-  stopped = Between 9;
-  ended = Between 10;
+  sorted = Between state.kind;
+  stopped = Between state.size;
+  ended = Between state.range;
   sized = λ z e. tt;
   three = (omega arith, omega arith);
   four = (omega arith, omega arith);
@@ -101,15 +104,15 @@ late = record {
   divisor = (omega arith, omega arith);
   exponent = (omega arith, omega arith);
   size = (omega arith, omega arith);
-  sort-stops = λ s h. wider 6 9 s (omega arith) h;
-  stop-ends = λ s h. wider 9 10 s (omega arith) h;
+  sort-stops = λ s h. wider state.kind state.size s (omega arith) h;
+  stop-ends = λ s h. wider state.size state.range s (omega arith) h;
   outside = (omega arith, omega arith);
 }
 
 module _ (K : Keeps) where
   abbrev pub SoundSort : Sort → Type 0
-  SoundSort S.Number = Unit {0}
-  SoundSort S.Boolean = Unit {0}
+  SoundSort (S.Of Kind.Integer) = Unit {0}
+  SoundSort (S.Of Kind.Truth) = Unit {0}
   SoundSort (S.Wrong s) = K .sorted s
 
   abbrev pub SoundFolded : Folded → Type 0
@@ -129,19 +132,19 @@ module _ (K : Keeps) where
   Sound Truths = Unit {0}
   Sound (Without s) = K .sorted s
 
-  stops-three : K .stopped 3
-  stops-three = K .sort-stops 3 (K .three)
+  stops-three : K .stopped state.unfolded
+  stops-three = K .sort-stops state.unfolded (K .three)
 
-  stops-six : K .stopped 6
-  stops-six = K .sort-stops 6 (K .six)
+  stops-six : K .stopped state.kind
+  stops-six = K .sort-stops state.kind (K .six)
 
   -- ---- folding
 
   pub sized-sound : (z : ℤ) → SoundFolded (sizedOf z)
   unfolding sizedOf
-  sized-sound z = go (leb (natAbs z) 2147483647) refl
+  sized-sound z = go (leb (natAbs z) largest) refl
     where
-      go : (t : Bool) → leb (natAbs z) 2147483647 ≡ t → SoundFolded (cond t (F.Whole z) (F.Stopped 9))
+      go : (t : Bool) → leb (natAbs z) largest ≡ t → SoundFolded (cond t (F.Whole z) (F.Stopped state.size))
       go true e = K .sized z e
       go false e = K .size
 
@@ -149,7 +152,7 @@ module _ (K : Keeps) where
   unfolding dividedOf
   divided-sound b z = go (eqb (natAbs b) 0)
     where
-      go : (t : Bool) → SoundFolded (cond t (F.Stopped 7) (sizedOf z))
+      go : (t : Bool) → SoundFolded (cond t (F.Stopped state.divisor) (sizedOf z))
       go true = K .divisor
       go false = sized-sound z
 
@@ -221,39 +224,39 @@ module _ (K : Keeps) where
   wrong-sound (O.Arithmetic o) s h = h
   wrong-sound (O.Relation o) s h = h
   wrong-sound (O.Logic o) s h = h
-  wrong-sound O.Join s h = K .smaller 3 s (K .three) h
+  wrong-sound O.Join s h = K .smaller state.unfolded s (K .three) h
 
-  pub sort-sound : (op : Operator) (x y : Sort) → SoundSort x → SoundSort y → SoundSort (sortOf op x y)
-  sort-sound (O.Arithmetic o) S.Number S.Number h k = tt
-  sort-sound (O.Relation o) S.Number S.Number h k = tt
-  sort-sound (O.Logic o) S.Number S.Number h k = K .six
-  sort-sound O.Join S.Number S.Number h k = K .three
-  sort-sound op S.Number S.Boolean h k = wrong-sound op 6 (K .six)
-  sort-sound op S.Number (S.Wrong t) h k = wrong-sound op t k
-  sort-sound op S.Boolean S.Number h k = wrong-sound op 6 (K .six)
-  sort-sound (O.Arithmetic o) S.Boolean S.Boolean h k = K .six
-  sort-sound (O.Relation o) S.Boolean S.Boolean h k = tt
-  sort-sound (O.Logic o) S.Boolean S.Boolean h k = tt
-  sort-sound O.Join S.Boolean S.Boolean h k = K .three
-  sort-sound op S.Boolean (S.Wrong t) h k = wrong-sound op t k
-  sort-sound op (S.Wrong s) S.Number h k = wrong-sound op s h
-  sort-sound op (S.Wrong s) S.Boolean h k = wrong-sound op s h
+  pub sort-sound : (op : Operator) (x y : Sort) → SoundSort x → SoundSort y → SoundSort (operatorSort op x y)
+  sort-sound (O.Arithmetic o) (S.Of Kind.Integer) (S.Of Kind.Integer) h k = tt
+  sort-sound (O.Relation o) (S.Of Kind.Integer) (S.Of Kind.Integer) h k = tt
+  sort-sound (O.Logic o) (S.Of Kind.Integer) (S.Of Kind.Integer) h k = K .six
+  sort-sound O.Join (S.Of Kind.Integer) (S.Of Kind.Integer) h k = K .three
+  sort-sound op (S.Of Kind.Integer) (S.Of Kind.Truth) h k = wrong-sound op state.kind (K .six)
+  sort-sound op (S.Of Kind.Integer) (S.Wrong t) h k = wrong-sound op t k
+  sort-sound op (S.Of Kind.Truth) (S.Of Kind.Integer) h k = wrong-sound op state.kind (K .six)
+  sort-sound (O.Arithmetic o) (S.Of Kind.Truth) (S.Of Kind.Truth) h k = K .six
+  sort-sound (O.Relation o) (S.Of Kind.Truth) (S.Of Kind.Truth) h k = tt
+  sort-sound (O.Logic o) (S.Of Kind.Truth) (S.Of Kind.Truth) h k = tt
+  sort-sound O.Join (S.Of Kind.Truth) (S.Of Kind.Truth) h k = K .three
+  sort-sound op (S.Of Kind.Truth) (S.Wrong t) h k = wrong-sound op t k
+  sort-sound op (S.Wrong s) (S.Of Kind.Integer) h k = wrong-sound op s h
+  sort-sound op (S.Wrong s) (S.Of Kind.Truth) h k = wrong-sound op s h
   sort-sound op (S.Wrong s) (S.Wrong t) h k = wrong-sound op (min s t) (K .smaller s t h k)
 
   sign-sound : (op : Sign) (x : Sort) → SoundSort x → SoundSort (signSort op x)
   sign-sound op (S.Wrong s) h = h
-  sign-sound G.Plus S.Number h = tt
-  sign-sound G.Minus S.Number h = tt
-  sign-sound G.Absolute S.Number h = tt
-  sign-sound G.Not S.Number h = K .six
-  sign-sound G.Plus S.Boolean h = K .six
-  sign-sound G.Minus S.Boolean h = K .six
-  sign-sound G.Absolute S.Boolean h = K .six
-  sign-sound G.Not S.Boolean h = tt
+  sign-sound G.Plus (S.Of Kind.Integer) h = tt
+  sign-sound G.Minus (S.Of Kind.Integer) h = tt
+  sign-sound G.Absolute (S.Of Kind.Integer) h = tt
+  sign-sound G.Not (S.Of Kind.Integer) h = K .six
+  sign-sound G.Plus (S.Of Kind.Truth) h = K .six
+  sign-sound G.Minus (S.Of Kind.Truth) h = K .six
+  sign-sound G.Absolute (S.Of Kind.Truth) h = K .six
+  sign-sound G.Not (S.Of Kind.Truth) h = tt
 
   pub settle-sound : (x : Sort) (f : Folded) → SoundSort x → SoundFolded f → SoundFolded (settle x f)
-  settle-sound S.Number f h k = k
-  settle-sound S.Boolean f h k = k
+  settle-sound (S.Of Kind.Integer) f h k = k
+  settle-sound (S.Of Kind.Truth) f h k = k
   settle-sound (S.Wrong s) f h k = K .sort-stops s h
 
   -- ---- outcomes
@@ -278,8 +281,8 @@ module _ (K : Keeps) where
   pub operand-sound : (v : Value) → Sound v → SoundOutcome (operandOf v)
   operand-sound (Number z) h = record { of-sort = tt; of-folded = h }
   operand-sound (Truth t) h = record { of-sort = tt; of-folded = tt }
-  operand-sound (Range low high) h = wrong-leaf-sound 6 (K .six)
-  operand-sound Truths h = wrong-leaf-sound 6 (K .six)
+  operand-sound (Range low high) h = wrong-leaf-sound state.kind (K .six)
+  operand-sound Truths h = wrong-leaf-sound state.kind (K .six)
   operand-sound (Without s) h = wrong-leaf-sound s h
 
   pub mark-sound : (v : Value) → Sound v → SoundSort (markSort v)
@@ -306,6 +309,6 @@ pub language-sound : (k : ℕ) → Sound small (languageValue k)
 unfolding languageValue
 language-sound k =
     choose-sound small (eqb k 1) _ _ (record { sfits = omega arith }, record { sfits = omega arith })
-    (choose-sound small (eqb k 2) _ _ (record { sfits = omega arith }, record { sfits = omega arith })
-    (choose-sound small (eqb k 3) _ _ (record { sfits = omega arith }, record { sfits = omega arith })
-    (choose-sound small (eqb k 4) _ _ tt (choose-sound small (eqb k 5) _ _ tt (choose-sound small (eqb k 6) _ _ tt (omega arith))))))
+    (choose-sound small (eqb k name-natural) _ _ (record { sfits = omega arith }, record { sfits = omega arith })
+    (choose-sound small (eqb k name-positive) _ _ (record { sfits = omega arith }, record { sfits = omega arith })
+    (choose-sound small (eqb k name-boolean) _ _ tt (choose-sound small (eqb k name-true) _ _ tt (choose-sound small (eqb k name-false) _ _ tt (omega arith))))))

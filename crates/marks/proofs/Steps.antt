@@ -15,22 +15,23 @@ use Rattle.folding.specs.declared.Outcome.{Outcome}
 use Rattle.values.proofs.Value as Val
 use Rattle.values.specs.declared.Value.{Value}
 use Rattle.values.specs.declared.Value.the-variants.{Number, Truth, Range, Truths, Without}
-use Rattle.marks.specs.Marks.{withoutOf, heldIn, valueIn, besideMark, constantOf, insideOf, rangeIn, directed, firstBound, boundsIn, rangedOf}
+use Rattle.states.specs.States as state
+use Rattle.marks.specs.Marks.{withoutOf, heldBy, valueIn, besideMark, constantOf, insideOf, rangeUnder, directed, firstBound, boundsIn, rangedOf}
 
 -- ---- a number in its mark's range
 
-pub held-yes : (low high z : ℤ) → leZ low z ≡ true → leZ z high ≡ true → Number z ≡ heldIn low high z
+pub held-yes : (low high z : ℤ) → leZ low z ≡ true → leZ z high ≡ true → Number z ≡ heldBy low high z
 held-yes low high z p q = rw (p, q)
 
-pub held-above : (low high z : ℤ) → leZ low z ≡ true → leZ z high ≡ false → Without 10 ≡ heldIn low high z
+pub held-above : (low high z : ℤ) → leZ low z ≡ true → leZ z high ≡ false → Without state.range ≡ heldBy low high z
 held-above low high z p q = rw (p, q)
 
-pub held-below : (low high z : ℤ) → leZ low z ≡ false → Without 10 ≡ heldIn low high z
+pub held-below : (low high z : ℤ) → leZ low z ≡ false → Without state.range ≡ heldBy low high z
 held-below low high z p = rw p
 
 -- ---- a range in its parent's
 
-pub inside-none : (mark : Value) (low high : ℤ) → OneOf (0 ∷ 1 ∷ 3 ∷ 4 ∷ []) (tagOf Val.the-type mark) → Without 10 ≡ insideOf mark low high
+pub inside-none : (mark : Value) (low high : ℤ) → OneOf (0 ∷ 1 ∷ 3 ∷ 4 ∷ []) (tagOf Val.the-type mark) → Without state.range ≡ insideOf mark low high
 inside-none (Number z) low high k = refl
 inside-none (Truth t) low high k = refl
 inside-none (Range least most) low high k = absurd (⊎-elim (λ e. omega arith) (λ k. ⊎-elim (λ e. omega arith) (λ k. ⊎-elim (λ e. omega arith) (λ e. omega arith) k) k) k)
@@ -41,16 +42,16 @@ module _ (least most low high : ℤ) where
   pub inside-yes : leZ least low ≡ true → leZ high most ≡ true → Range low high ≡ insideOf (Range least most) low high
   inside-yes p q = rw (p, q)
 
-  pub inside-above : leZ least low ≡ true → leZ high most ≡ false → Without 10 ≡ insideOf (Range least most) low high
+  pub inside-above : leZ least low ≡ true → leZ high most ≡ false → Without state.range ≡ insideOf (Range least most) low high
   inside-above p q = rw (p, q)
 
-  pub inside-below : leZ least low ≡ false → Without 10 ≡ insideOf (Range least most) low high
+  pub inside-below : leZ least low ≡ false → Without state.range ≡ insideOf (Range least most) low high
   inside-below p = rw p
 
-pub range-null : (mark : Value) (low high : ℤ) → ltZ high low ≡ true → Range low high ≡ rangeIn mark low high
+pub range-null : (mark : Value) (low high : ℤ) → ltZ high low ≡ true → Range low high ≡ rangeUnder mark low high
 range-null mark low high p = rw p
 
-pub range-inside : (mark : Value) (low high : ℤ) → ltZ high low ≡ false → insideOf mark low high ≡ rangeIn mark low high
+pub range-inside : (mark : Value) (low high : ℤ) → ltZ high low ≡ false → insideOf mark low high ≡ rangeUnder mark low high
 range-inside mark low high p = rw p
 
 -- ---- an answer that is not what its place wants
@@ -95,8 +96,8 @@ module _ (mark : Value) (a b : Outcome) (down : Bool) (f : Folded) (e : f ≡ fi
   unfolding rangedOf
   ranged-both x y q r = ap (boundsIn mark down (F.Whole x)) (sym r) ∙ ap (λ (f : Folded). boundsIn mark down f (b .folded)) (sym q ∙ e)
 
-pub downward : (mark : Value) (down : Bool) (x y : ℤ) → down ≡ true → rangeIn mark y x ≡ directed mark down x y
+pub downward : (mark : Value) (down : Bool) (x y : ℤ) → down ≡ true → rangeUnder mark y x ≡ directed mark down x y
 downward mark down x y q = rw q
 
-pub upward : (mark : Value) (down : Bool) (x y : ℤ) → down ≡ false → rangeIn mark x y ≡ directed mark down x y
+pub upward : (mark : Value) (down : Bool) (x y : ℤ) → down ≡ false → rangeUnder mark x y ≡ directed mark down x y
 upward mark down x y q = rw q

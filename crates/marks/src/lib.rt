@@ -1,7 +1,4 @@
 // What an item comes to, by its mark and its folded values. Every public function takes any values.
-use expressions::truth_leaf;
-use expressions::whole_leaf;
-use expressions::wrong_leaf;
 use folding::Operator;
 use folding::Outcome;
 use folding::Relation;
@@ -10,9 +7,13 @@ use folding::settled;
 use folding::sorted;
 use integers::Arithmetic;
 use integers::Folded;
+use integers::Kind;
+use operands::truth_leaf;
+use operands::whole_leaf;
+use operands::wrong_leaf;
 use values::Value;
 ghost use mathlib.Core.Path.{_≡_};
-ghost use Rattle.marks.specs.Marks.{operandOf, markSort, withoutOf, heldIn, besideMark, constantOf, subtypeOf, firstBound, insideOf, rangeIn, rangedOf};
+ghost use Rattle.marks.specs.Marks.{operandOf, markSort, withoutOf, heldBy, besideMark, constantOf, subtypeOf, firstBound, insideOf, rangeUnder, rangedOf};
 
 // A name used in an expression.
 pub fn operand(v: Value) -> Outcome
@@ -21,8 +22,8 @@ pub fn operand(v: Value) -> Outcome
     match v {
         Value::Number(z) => whole_leaf(z),
         Value::Truth(t) => truth_leaf(t),
-        Value::Range(_, _) => wrong_leaf(6),
-        Value::Truths => wrong_leaf(6),
+        Value::Range(_, _) => wrong_leaf(states::KIND),
+        Value::Truths => wrong_leaf(states::KIND),
         Value::Without(s) => wrong_leaf(s),
     }
 }
@@ -32,10 +33,10 @@ fn mark_sort(v: Value) -> Sort
     ensures { λ r. ⌜ r ≡ markSort v ⌝ }
 {
     match v {
-        Value::Number(_) => Sort::Wrong(6),
-        Value::Truth(_) => Sort::Wrong(6),
-        Value::Range(_, _) => Sort::Number,
-        Value::Truths => Sort::Boolean,
+        Value::Number(_) => Sort::Wrong(states::KIND),
+        Value::Truth(_) => Sort::Wrong(states::KIND),
+        Value::Range(_, _) => Sort::Of(Kind::Integer),
+        Value::Truths => Sort::Of(Kind::Truth),
         Value::Without(s) => Sort::Wrong(s),
     }
 }
@@ -45,22 +46,22 @@ fn without(f: Folded) -> Value
     ensures { λ r. ⌜ r ≡ withoutOf f ⌝ }
 {
     match f {
-        Folded::Whole(_) => Value::Without(6),
-        Folded::Truth(_) => Value::Without(6),
+        Folded::Whole(_) => Value::Without(states::KIND),
+        Folded::Truth(_) => Value::Without(states::KIND),
         Folded::Stopped(s) => Value::Without(s),
     }
 }
 
 fn held(low: i32, high: i32, z: i32) -> Value
-    ensures { λ r. ⌜ r ≡ heldIn low high z ⌝ }
+    ensures { λ r. ⌜ r ≡ heldBy low high z ⌝ }
 {
     if low <= z {
         if z <= high {
             return Value::Number(z);
         }
-        return Value::Without(10);
+        return Value::Without(states::RANGE);
     }
-    Value::Without(10)
+    Value::Without(states::RANGE)
 }
 
 // An initial value's folded answer, or the state that its sort has beside the mark's.
@@ -106,8 +107,8 @@ pub fn subtype_value(mark: Value) -> Value
     ensures { λ r. ⌜ r ≡ subtypeOf mark ⌝ }
 {
     match mark {
-        Value::Number(_) => Value::Without(6),
-        Value::Truth(_) => Value::Without(6),
+        Value::Number(_) => Value::Without(states::KIND),
+        Value::Truth(_) => Value::Without(states::KIND),
         Value::Range(low, high) => Value::Range(low, high),
         Value::Truths => Value::Truths,
         Value::Without(s) => Value::Without(s),
@@ -138,19 +139,19 @@ fn inside(mark: Value, low: i32, high: i32) -> Value
     ensures { λ r. ⌜ r ≡ insideOf mark low high ⌝ }
 {
     let Value::Range(least, most) = mark else {
-        return Value::Without(10);
+        return Value::Without(states::RANGE);
     };
     if least <= low {
         if high <= most {
             return Value::Range(low, high);
         }
-        return Value::Without(10);
+        return Value::Without(states::RANGE);
     }
-    Value::Without(10)
+    Value::Without(states::RANGE)
 }
 
 fn range_in(mark: Value, low: i32, high: i32) -> Value
-    ensures { λ r. ⌜ r ≡ rangeIn mark low high ⌝ }
+    ensures { λ r. ⌜ r ≡ rangeUnder mark low high ⌝ }
 {
     if high < low {
         return Value::Range(low, high);

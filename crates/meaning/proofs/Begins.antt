@@ -9,29 +9,32 @@ use borrow.Author.Tests.{eq-eqb, ltb-true, ltb-false}
 use lib.Dec.{T, eqb, ltb, eqb→eq}
 use lib.ListN.{length}
 use Rattle.laws.proofs.Laws.{clash}
-use Rattle.ll.specs.Grammar.{Sym, tok}
-use Rattle.ll.specs.Actions.{Reads, eat, acts, grow}
-use Rattle.ll.proofs.Check.{below, below-at, imp, imp-at}
-use Rattle.ll.proofs.Theory.{or-cases}
+use Rattle.grammars.specs.Grammar.{Sym, tok}
+use Rattle.grammars.specs.Actions.{Reads, eat, acts, grow}
+use Rattle.grammars.proofs.Check.{below, below-at, imp, imp-at}
+use Rattle.grammars.proofs.Theory.{or-cases}
 use Rattle.forms.specs.Kinds.{numberOf, identifier, other, terminalOf}
 use Rattle.forms.specs.Kinds as kind
 use Rattle.forms.specs.Names.{constant, subtype, nameNumber, opens}
 use Rattle.forms.specs.Rules.{forms, body, ruleOf}
-use Rattle.forms.specs.Tree.{State, Refusal, does, start}
+use Rattle.forms.specs.Tree.{Row, State, Refusal, does, start}
 use Rattle.forms.specs.Items.{ItemReading}
-use Rattle.tables.proofs.Tables.{picksAt, kind-past}
+use Rattle.form_table.proofs.Tables.{picksAt, kind-past}
 use Rattle.pieces.specs.Kinds.{word-constant, word-subtype, isName, isHeading, isClosing, endsAt, claimOf, claimMark, markOf}
 use Rattle.pieces.specs.declared.Mark.{Mark}
+use Rattle.one_tree.specs.Trees.{IsConstant, IsSubtype}
 use Rattle.tree.specs.Answers.{terminalsIn}
 use Rattle.tree.specs.Items.{unlike}
-use Rattle.worded.specs.Elements.{Piece, at, kinds}
+use Rattle.meaning.specs.Elements.{Piece, at, kinds}
 use Rattle.meaning.specs.Names.{classOf}
+use Rattle.meaning.specs.Forms.{Tree}
+use Rattle.meaning.proofs.Readings.{constant-reading, subtype-reading}
 
 -- ---- kinds by what they are to the forms
 
 -- where a test holds of each kind that the forms tell apart, it holds of any that is not `other` to them
 module _ (t : Sym) (test : ℕ → Bool) (d : eqb (numberOf other) (numberOf t) ≡ false) (h : T (below picksAt (λ k. imp (eqb (terminalOf k) (numberOf t)) (test k)))) where
-  told : (k : ℕ) → terminalOf k ≡ numberOf t → T (test k)
+  pub told : (k : ℕ) → terminalOf k ≡ numberOf t → T (test k)
   told k e = go (ltb k picksAt) refl
     where
       go : (b : Bool) → ltb k picksAt ≡ b → T (test k)
@@ -130,3 +133,10 @@ subtype-begins p s r =
     let t = subtype-two p s r in
     let e = t .3 ∙ ap (λ (k : ℕ). k ∷ (t .1 ∷ t .2)) (is-subtype-word (t .0) (t .4)) in
     record { first = first-kind p 129 (t .1 ∷ t .2) e; classed = ap (λ (ks : List ℕ). markOf ks .class) e ∙ ap (λ (m : Mark). m .class) (class-by 129 (t .1) (t .2) refl refl (is-name-kind (t .1) (t .5))) }
+
+-- so by its tree
+pub constant-tree-begins : (p : Piece) (l : List Row) → Tree IsConstant p l → Begun p word-constant 3
+constant-tree-begins p l t = let r = constant-reading p l .0 t in constant-begins p (r .0) (r .1 .0)
+
+pub subtype-tree-begins : (p : Piece) (l : List Row) → Tree IsSubtype p l → Begun p word-subtype 4
+subtype-tree-begins p l t = let r = subtype-reading p l .0 t in subtype-begins p (r .0) (r .1 .0)

@@ -1,7 +1,7 @@
 -- Which record claims an element's name, in the tables and by the pieces. Assumes nothing.
 use mathlib.Core.Path.{_≡_, refl, sym, ap, _∙_}
 use mathlib.Core.Bool.{Bool, true, false, cond, _&&_, false≢true}
-use mathlib.Core.List.{List, [], _∷_, _++_}
+use mathlib.Core.List.{List, [], _∷_}
 use Prim.Native.Nat.{ℕ, zero, suc, _+_, _/_, _≤_, _<_, min}
 use native.Mathlib.Nat.{zero-add}
 use native.Mathlib.Omega.{arith}
@@ -9,22 +9,24 @@ use borrow.Author.Tests.{ltb-true, ltb-false, eqb-true}
 use lib.Dec.{eqb, ltb}
 use lib.ListN.{length, getD, take, drop, List·getD-eq-default}
 use lib.Seq.{split-at}
-use Rattle.alike.specs.Alike.{sameName}
-use Rattle.reading.specs.Rows.{rowsOf}
+use Rattle.same_names.specs.Alike.{sameName}
+use Rattle.element_reading.specs.Rows.{rowsOf}
 use Rattle.pieces.specs.Kinds.{mark, isName, isHeading, behindWord, hasName, endsAt, isClosing, claimMark, markOf}
 use Rattle.pieces.specs.Records.{nameOf}
 use Rattle.pieces.specs.declared.Mark.{Mark}
 use Rattle.records.specs.Records.{wordAt, isClaim}
-use Rattle.names.specs.Names.{recordsIn, firstFrom, claimsElement, linkOf, filled, linksTable}
+use Rattle.names.specs.code.Links.{recordsIn, firstFrom, claimsElement, linkOf, filled, linksTable}
 use Rattle.names.proofs.Tables.{filled-length, filled-at, filled-past}
-use Rattle.worded.specs.Elements.{Element, Piece, nothing, at, kinds, piecesOf}
-use Rattle.worded.specs.Names.{sameAs}
-use Rattle.worded.proofs.Cutting.{joinAll, total, cut-joins, at-piece, kinds-length}
-use Rattle.worded.proofs.Names.{same-name}
+use Rattle.pieces.specs.Columns as column
+use Rattle.meaning.proofs.Claimed.{claims-one}
+use Rattle.meaning.specs.Elements.{Element, Piece, nothing, at, kinds, piecesOf}
+use Rattle.meaning.specs.Sameness.{sameAs}
+use Rattle.meaning.proofs.Cutting.{joinAll, total, cut-joins, at-piece, kinds-length}
+use Rattle.meaning.proofs.Named.{same-name}
 use Rattle.meaning.specs.Names.{classOf, ownName, claims, Done}
 use Rattle.meaning.proofs.Records.{piecesDone, pieces-length, word-past}
 use Rattle.meaning.proofs.Places.{tableOf, elements, elements-length, table-length, at-past}
-use Rattle.meaning.proofs.Words.{pieceAt, doneAt, itemTable, pieces-at, piece-behind, items-length, class-at, name-at}
+use Rattle.meaning.proofs.Words.{pieceAt, doneAt, itemTable, pieces-at, items-length, class-at, name-at}
 
 -- ---- a piece that claims a name has it at its second element
 
@@ -69,12 +71,11 @@ unfolding kinds markOf isHeading isClosing endsAt hasName behindWord claimMark
 empty-claim = refl
 
 pub none-claims : (x : Element) → claims x [] ≡ false
-unfolding claims
-none-claims x = rw empty-claim
+none-claims x = claims-one x [] ∙ rw empty-claim
 
 pub nothing-claimed : (p : Piece) → claims nothing p ≡ false
-unfolding claims sameAs
-nothing-claimed p = go (isClaim (classOf p)) (eqb (ownName p .kind) 0) refl
+unfolding sameAs
+nothing-claimed p = claims-one nothing p ∙ go (isClaim (classOf p)) (eqb (ownName p .kind) 0) refl
   where
     go : (a b : Bool) → eqb (ownName p .kind) 0 ≡ b → (a && sameAs (ownName p) nothing) ≡ false
     go false b e = refl
@@ -110,10 +111,10 @@ module _ (s : List ℕ) (z y : ℕ) (ds : List Done) (cuts : piecesDone ds ≡ p
   joins = ap joinAll cuts ∙ cut-joins (elements s)
 
   -- the class of the j-th record, and its name's element
-  pub claim-at : (j : ℕ) → isClaim (wordAt (itemTable ds y) j 0) ≡ isClaim (classOf (pieceAt (piecesOf s) j))
+  pub claim-at : (j : ℕ) → isClaim (wordAt (itemTable ds y) j column.class) ≡ isClaim (classOf (pieceAt (piecesOf s) j))
   claim-at j = go (ltb j (length ds)) refl
     where
-      go : (b : Bool) → ltb j (length ds) ≡ b → isClaim (wordAt (itemTable ds y) j 0) ≡ isClaim (classOf (pieceAt (piecesOf s) j))
+      go : (b : Bool) → ltb j (length ds) ≡ b → isClaim (wordAt (itemTable ds y) j column.class) ≡ isClaim (classOf (pieceAt (piecesOf s) j))
       go true e = ap isClaim (class-at ds y j (ltb-true j (length ds) e)) ∙ ap (λ (p : Piece). isClaim (classOf p)) (piece-is j)
       go false e =
           let l = ltb-false j (length ds) e in
@@ -128,7 +129,7 @@ module _ (s : List ℕ) (z y : ℕ) (ds : List Done) (cuts : piecesDone ds ≡ p
           let l = ltb-false j (length ds) e in
           absurd (false≢true (sym empty-claim ∙ ap (λ (p : Piece). isClaim (classOf p)) (sym (past-end (piecesOf s) j (omega (arith, dones-length)))) ∙ h))
 
-  pub name-element : (j : ℕ) → isClaim (classOf (pieceAt (piecesOf s) j)) ≡ true → at (elements s) (wordAt (itemTable ds y) j 3) ≡ ownName (pieceAt (piecesOf s) j)
+  pub name-element : (j : ℕ) → isClaim (classOf (pieceAt (piecesOf s) j)) ≡ true → at (elements s) (wordAt (itemTable ds y) j column.name) ≡ ownName (pieceAt (piecesOf s) j)
   unfolding nameOf
   name-element j h =
       ap (at (elements s)) (name-at ds y j inside ∙ ap (nameOf (total (take j (piecesDone ds)))) (place .0))
@@ -147,18 +148,11 @@ module _ (s : List ℕ) (z y : ℕ) (ds : List Done) (cuts : piecesDone ds ≡ p
 
   -- whatever values the records hold
   pub claims-element : (e j : ℕ) → claimsElement s (tableOf s z) (itemTable ds y) e j ≡ claims (at (elements s) e) (pieceAt (piecesOf s) j)
-  unfolding claimsElement claims
+  unfolding claimsElement
   claims-element e j =
-      rw (claim-at j)
-      (same-beside (isClaim (classOf (pieceAt (piecesOf s) j))) (sameName s (tableOf s z) (wordAt (itemTable ds y) j 3) e) (sameAs (ownName (pieceAt (piecesOf s) j)) (at (elements s) e))
-      (λ h. same-name s z (wordAt (itemTable ds y) j 3) e ∙ ap (λ (x : Element). sameAs x (at (elements s) e)) (name-element j h)))
-
-  pub claims-behind : (e : ℕ) (before : List Piece) (p : Piece) (after : List Piece) → piecesOf s ≡ before ++ p ∷ after
-      → claimsElement s (tableOf s z) (itemTable ds y) e (length before) ≡ claims (at (elements s) e) p
-  claims-behind e before p after is = claims-element e (length before) ∙ ap (claims (at (elements s) e)) (piece-behind (piecesOf s) before p after is)
-
-  pub claims-past : (e j : ℕ) → length (piecesOf s) ≤ j → claimsElement s (tableOf s z) (itemTable ds y) e j ≡ false
-  claims-past e j h = claims-element e j ∙ ap (claims (at (elements s) e)) (past-end (piecesOf s) j h) ∙ none-claims (at (elements s) e)
+      rw (claims-one (at (elements s) e) (pieceAt (piecesOf s) j), claim-at j)
+      (same-beside (isClaim (classOf (pieceAt (piecesOf s) j))) (sameName s (tableOf s z) (wordAt (itemTable ds y) j column.name) e) (sameAs (ownName (pieceAt (piecesOf s) j)) (at (elements s) e))
+      (λ h. same-name s z (wordAt (itemTable ds y) j column.name) e ∙ ap (λ (x : Element). sameAs x (at (elements s) e)) (name-element j h)))
 
 -- ---- links
 

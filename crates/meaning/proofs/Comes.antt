@@ -7,7 +7,7 @@ use mathlib.Core.List.{List, [], _∷_, _++_}
 use native.Mathlib.Omega.{arith}
 use lib.Dec.{eqb}
 use Rattle.laws.proofs.Laws.{clash}
-use Rattle.forms.specs.Tree.{Row, State, rowsOf}
+use Rattle.forms.specs.Tree.{Row}
 use Rattle.pieces.specs.Kinds.{anyDown}
 use Rattle.tree.specs.Items.{unlike, rowsOfPiece}
 use Rattle.tree.proofs.Items.{constant-read, subtype-read}
@@ -18,9 +18,10 @@ use Rattle.marks.proofs.Sound.{late}
 use Rattle.values.specs.Words.{stateOf}
 use Rattle.values.specs.declared.Value.{Value}
 use Rattle.values.specs.declared.Value.the-variants.{Without}
-use Rattle.worded.specs.Elements.{Element, Piece, at, kinds}
+use Rattle.integers.specs.declared.Kind.the-variants as K
+use Rattle.meaning.specs.Elements.{Element, Piece, at, kinds}
 use Rattle.meaning.specs.Names.{classOf, ownDoubled, Done, useOf}
-use Rattle.meaning.specs.Forms.{Item, HasForm, is-constant, is-subtype, is-ranged}
+use Rattle.meaning.specs.Forms.{Item, ranged, HasForm, is-constant, is-subtype, is-ranged}
 use Rattle.meaning.specs.States.{ItemMeets, Met, broken, doubled, by-form, Least, NoneMet}
 use Rattle.meaning.specs.Values.{Gives}
 use Rattle.meaning.specs.Meaning.{Comes, stands, gives, Come, none, more}
@@ -29,14 +30,16 @@ use Rattle.meaning.specs.Promises.{Fits, ComesExactly, ComeExactly, Clas
 use Rattle.meaning.proofs.States.{Late, use-late, marked-late}
 use Rattle.meaning.proofs.Least.{Exact}
 use Rattle.meaning.proofs.Later.{Later, Ends}
-use Rattle.meaning.proofs.Begins.{constant-begins, subtype-begins}
+use Rattle.meaning.proofs.Readings.{constant-reading, subtype-reading}
+use Rattle.meaning.proofs.Begins.{constant-tree-begins, subtype-tree-begins}
+use Rattle.meaning.proofs.Directions.{direction}
 use Rattle.meaning.proofs.Made.{Made, constant-made, subtype-made, ranged-made}
 use Rattle.meaning.proofs.Promises.{first-kind, HasRows, Ways, ways, form-class, broken-value, doubled-value}
 
 pub class-by-form : ClassByForm
-class-by-form p i (is-constant (s, (r, e)) x) = constant-begins p s r .classed
-class-by-form p i (is-subtype (s, (r, e))) = subtype-begins p s r .classed
-class-by-form p i (is-ranged (s, (r, e)) x y) = subtype-begins p s r .classed
+class-by-form p i (is-constant t x) = constant-tree-begins p _ t .classed
+class-by-form p i (is-subtype t) = subtype-tree-begins p _ t .classed
+class-by-form p i (is-ranged t g x y) = subtype-tree-begins p _ t .classed
 
 module _ (all : List Piece) (above : List Done) (p : Piece) where
   abbrev used : Element → Value
@@ -55,18 +58,22 @@ module _ (all : List Piece) (above : List Done) (p : Piece) where
   chosen-subtype item mark rs c e = rw (e, c)
 
   made-is : (i : Item) → HasForm p i → Made used i made
-  made-is i (is-constant {item = item} {mark = mark} {rs = rs} {x = x} (s, (r, e)) is) =
-      let b = constant-begins p s r in
-      let q = constant-read (kinds p) (first-kind p ∙ b .first) unlike s r ∙ e in
+  made-is i (is-constant {item = item} {mark = mark} {rs = rs} {x = x} t is) =
+      let b = constant-tree-begins p _ t in
+      let r = constant-reading p _ .0 t in
+      let q = constant-read (kinds p) (first-kind p ∙ b .first) unlike (r .0) (r .1 .0) ∙ r .1 .1 in
       subst (Made used i) (chosen-constant item mark rs (b .classed) q) (constant-made used p (use-late all above) (at p (mark .first)) x rs is)
-  made-is i (is-subtype {item = item} {mark = mark} (s, (r, e))) =
-      let b = subtype-begins p s r in
-      let q = subtype-read (kinds p) (first-kind p ∙ b .first) unlike s r ∙ e in
+  made-is i (is-subtype {item = item} {mark = mark} t) =
+      let b = subtype-tree-begins p _ t in
+      let r = subtype-reading p _ .0 t in
+      let q = subtype-read (kinds p) (first-kind p ∙ b .first) unlike (r .0) (r .1 .0) ∙ r .1 .1 in
       subst (Made used i) (chosen-subtype item mark [] (b .classed) q) (subtype-made used (at p (mark .first)) (use-late all above (at p (mark .first))))
-  made-is i (is-ranged {item = item} {mark = mark} {range = range} {rs = rs} {x = x} {y = y} (s, (r, e)) is js) =
-      let b = subtype-begins p s r in
-      let q = subtype-read (kinds p) (first-kind p ∙ b .first) unlike s r ∙ e in
-      subst (Made used i) (chosen-subtype item mark (range ∷ rs) (b .classed) q) (ranged-made used p (use-late all above) (at p (mark .first)) x y (anyDown (kinds p)) rs is js)
+  made-is i (is-ranged {item = item} {mark = mark} {range = range} {rs = rs} {x = x} {y = y} {down = down} t g is js) =
+      let b = subtype-tree-begins p _ t in
+      let r = subtype-reading p _ .0 t in
+      let q = subtype-read (kinds p) (first-kind p ∙ b .first) unlike (r .0) (r .1 .0) ∙ r .1 .1 in
+      subst (λ (d : Bool). Made used (ranged (at p (mark .first)) x d y) made) (sym (direction p _ (t .0) g))
+      (subst (Made used (ranged (at p (mark .first)) x (anyDown (kinds p)) y)) (chosen-subtype item mark (range ∷ rs) (b .classed) q) (ranged-made used p (use-late all above) (at p (mark .first)) x y (anyDown (kinds p)) rs is js))
 
   made-late : HasRows p → Late made
   made-late (item, (mark, (m, e))) = subst (λ (rs : List Row). Late (formed p used rs)) (sym e) (marked-late all above p (at p (mark .first)) m)
@@ -85,8 +92,8 @@ module _ (all : List Piece) (above : List Done) (p : Piece) where
   at-least i o l s h = go (o .sort) (o .exact) (o .ends)
     where
       go : (r : Sort) → Exact r (o .kind) (ItemMeets used i) → Ends r made → (t : ℕ) × (Least (ItemMeets used i) t × ((made ≡ Without t) × ((3 ≤ t) × (t ≤ s))))
-      go S.Number e f = absurd (e .1 s h)
-      go S.Boolean e f = absurd (e .1 s h)
+      go (S.Of K.Integer) e f = absurd (e .1 s h)
+      go (S.Of K.Truth) e f = absurd (e .1 s h)
       go (S.Wrong t) e f = let b = subst Late f l in (t, (e .0, (f, (b .0, e .0 .1 s h))))
 
   -- the least of what is met, or none
@@ -94,9 +101,33 @@ module _ (all : List Piece) (above : List Done) (p : Piece) where
   least-or-none i o = go (o .sort) (o .exact) (o .ends)
     where
       go : (r : Sort) → Exact r (o .kind) (ItemMeets used i) → Ends r made → ((t : ℕ) × (Least (ItemMeets used i) t × ((made ≡ Without t) × (t ≤ 6)))) ⊎ (NoneMet (ItemMeets used i) × Later made)
-      go S.Number e f = inr (e .1, f)
-      go S.Boolean e f = inr (e .1, f)
+      go (S.Of K.Integer) e f = inr (e .1, f)
+      go (S.Of K.Truth) e f = inr (e .1, f)
       go (S.Wrong t) e f = inl (t, (e .0, (f, e .1)))
+
+  -- ---- the states apart: what is met is one of 1 to 6, and what an item ends in else is none of them
+
+  met-small : (i : Item) → HasForm p i → (s : ℕ) → ItemMeets used i s → (t : ℕ) × (ItemMeets used i t × (t ≤ 6))
+  met-small i f s m = go (least-or-none i (made-is i f))
+    where
+      go : ((t : ℕ) × (Least (ItemMeets used i) t × ((made ≡ Without t) × (t ≤ 6)))) ⊎ (NoneMet (ItemMeets used i) × Later made) → (t : ℕ) × (ItemMeets used i t × (t ≤ 6))
+      go (inl (t, (l, (e, k)))) = (t, (l .0, k))
+      go (inr (n, l)) = absurd (n s m)
+
+  pub least-small : {s : ℕ} → Least (Met all above p) s → s ≤ 6
+  least-small (m, l) = go m l
+    where
+      go : {s : ℕ} → Met all above p s → ((t : ℕ) → Met all above p t → s ≤ t) → s ≤ 6
+      go (broken n) l = omega arith
+      go (doubled d) l = omega arith
+      go (by-form {i = i} {s = s} f m) l = let t = met-small i f s m in let a = l (t .0) (by-form f (t .1 .0)) in let b = t .1 .1 in omega arith
+
+  pub given-later : {i : Item} {v : Value} → NoneMet (Met all above p) → HasForm p i → Gives used i v → Later v
+  given-later {i = i} {v = v} n f g = subst Later (made-is i f .given (λ t a. n t (by-form f a)) v g) (go (least-or-none i (made-is i f)))
+    where
+      go : ((t : ℕ) × (Least (ItemMeets used i) t × ((made ≡ Without t) × (t ≤ 6)))) ⊎ (NoneMet (ItemMeets used i) × Later made) → Later made
+      go (inl (t, (l, e))) = absurd (n t (by-form f (l .0)))
+      go (inr (m, l)) = l
 
   -- ---- what is said is what the code makes
 

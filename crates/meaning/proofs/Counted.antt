@@ -8,12 +8,12 @@ use native.Mathlib.Omega.{arith}
 use borrow.Author.Tests.{eqb-true, eqb-false, ne-eqb}
 use lib.Dec.{eqb}
 use lib.ListN.{length, getD, length-append}
-use Rattle.records.specs.Records.{isItem, stateOf}
+use Rattle.records.specs.Records.{isItem, itemState}
 use Rattle.records.specs.Tallies.{oneIf, inState, countsFrom, tallyOf}
 use Rattle.values.specs.Words as words
-use Rattle.worded.specs.Elements.{Piece, piecesOf}
+use Rattle.meaning.specs.Elements.{Piece, piecesOf}
 use Rattle.meaning.specs.Names.{classOf, Done}
-use Rattle.meaning.specs.Items.{valueOf, doneOf, donesFrom, donesOf, itemWords, recordOf, recordsFrom, recordsOf}
+use Rattle.meaning.specs.Items.{valueOf, doneOf, donesFrom, donesOf, itemValueWords, recordOf, recordsFrom, recordsOf}
 use Rattle.meaning.specs.Promises.{itemsAmong, sum}
 use Rattle.meaning.proofs.Records.{word-at-record}
 
@@ -58,7 +58,7 @@ unfolding spread inState
 spread-none items i k zero = refl
 spread-none items i k (suc m) = omega (arith, spread-none items i (suc k) m)
 
-spread-more : (items : List ℕ) (i n k m : ℕ) → spread items i (suc n) k m ≡ hits (stateOf items i) k m + spread items (suc i) n k m
+spread-more : (items : List ℕ) (i n k m : ℕ) → spread items i (suc n) k m ≡ hits (itemState items i) k m + spread items (suc i) n k m
 unfolding spread hits inState
 spread-more items i n k zero = refl
 spread-more items i n k (suc m) = omega (arith, spread-more items i n (suc k) m)
@@ -67,17 +67,17 @@ spread-more items i n k (suc m) = omega (arith, spread-more items i n (suc k) m)
 
 module _ (ds es : List Done) (d : Done) (rest : List ℕ) where
   -- the state of a record, which is 11 where the piece is no item
-  pub state-at : stateOf (recordsFrom 0 (ds ++ d ∷ es) ++ rest) (length ds) ≡ cond (isItem (classOf (d .piece))) (words.stateOf (d .value)) 11
-  unfolding stateOf recordOf
+  pub state-at : itemState (recordsFrom 0 (ds ++ d ∷ es) ++ rest) (length ds) ≡ cond (isItem (classOf (d .piece))) (words.stateOf (d .value)) 11
+  unfolding itemState recordOf
   state-at =
       ap₂ (λ (c s : ℕ). cond (isItem c) s 11) (word-at-record ds es d rest 0 (omega arith)) (word-at-record ds es d rest 4 (omega arith))
       ∙ go (isItem (classOf (d .piece)))
     where
-      go : (b : Bool) → cond b (getD (itemWords b (d .value)) 0 0) 11 ≡ cond b (words.stateOf (d .value)) 11
+      go : (b : Bool) → cond b (getD (itemValueWords b (d .value)) 0 0) 11 ≡ cond b (words.stateOf (d .value)) 11
       go true = refl
       go false = refl
 
-  counted-once : words.stateOf (d .value) ≤ 10 → hits (stateOf (recordsFrom 0 (ds ++ d ∷ es) ++ rest) (length ds)) 0 11 ≡ oneIf (isItem (classOf (d .piece)))
+  counted-once : words.stateOf (d .value) ≤ 10 → hits (itemState (recordsFrom 0 (ds ++ d ∷ es) ++ rest) (length ds)) 0 11 ≡ oneIf (isItem (classOf (d .piece)))
   counted-once h = ap (λ (s : ℕ). hits s 0 11) state-at ∙ go (isItem (classOf (d .piece)))
     where
       go : (b : Bool) → hits (cond b (words.stateOf (d .value)) 11) 0 11 ≡ oneIf b
@@ -92,8 +92,8 @@ module _ (known : (all : List Piece) (above : List Done) (p : Piece) → words.s
   counted-from above (p ∷ ps) e =
       let d = doneOf all above p in
       let es = donesFrom all (above ++ d ∷ []) ps in
-      let here : hits (stateOf items (length above)) 0 11 ≡ oneIf (isItem (classOf p))
-      = ap (λ (l : List ℕ). hits (stateOf l (length above)) 0 11) e ∙ counted-once above es d rest (known all above p) in
+      let here : hits (itemState items (length above)) 0 11 ≡ oneIf (isItem (classOf p))
+      = ap (λ (l : List ℕ). hits (itemState l (length above)) 0 11) e ∙ counted-once above es d rest (known all above p) in
       let again : spread items (length (above ++ d ∷ [])) (length ps) 0 11 ≡ itemsAmong ps
       = counted-from (above ++ d ∷ []) ps (e ∙ ap (λ (l : List Done). recordsFrom 0 l ++ rest) (sym (append-assoc above (d ∷ []) es))) in
       let size : length (above ++ d ∷ []) ≡ suc (length above) = omega (arith, length-append above (d ∷ [])) in

@@ -1,19 +1,19 @@
 -- A name is doubled where its record has a twin or the language claims it. Assumes nothing.
 use mathlib.Core.Path.{_≡_, refl, sym, ap, ap₂, _∙_, fun-ext}
 use mathlib.Core.Bool.{Bool, true, false, cond, not, _&&_, _||_, false≢true}
-use mathlib.Core.List.{List, [], _∷_, _++_}
+use mathlib.Core.List.{List, [], _∷_}
 use Prim.Native.Nat.{ℕ, zero, suc, _+_, _≤_, _<_}
 use native.Mathlib.Omega.{arith}
 use borrow.Author.Tests.{ltb-true, ltb-false, eqb-false, ne-eqb, le-leb, lt-leb, not-true}
 use lib.Dec.{eqb, ltb, leb}
 use lib.ListN.{length, getD, take}
 use Rattle.laws.proofs.Laws.{both-left, both-right}
-use Rattle.alike.specs.Alike.{sameName}
+use Rattle.same_names.specs.Alike.{sameName}
 use Rattle.places.specs.Places.{cellAt}
-use Rattle.alike.specs.Spelling.{spelt, spelledAs}
-use Rattle.alike.proofs.Sameness.{same-flips}
-use Rattle.reading.specs.Rows.{rowsOf}
-use Rattle.reading.proofs.Promises.{stand-in-order}
+use Rattle.same_names.specs.Spelling.{spelt, spelledAs}
+use Rattle.same_names.proofs.Sameness.{same-flips}
+use Rattle.element_reading.specs.Rows.{rowsOf}
+use Rattle.element_reading.proofs.Promises.{stand-in-order}
 use Rattle.pieces.specs.Kinds.{markOf}
 use Rattle.pieces.specs.Records.{nameOf}
 use Rattle.pairs.specs.Pairs.{laterOf, pairFrom}
@@ -22,18 +22,20 @@ use Rattle.pairs.specs.declared.Pair.the-variants.{Neither}
 use Rattle.records.specs.Records.{wordAt, isClaim}
 use Rattle.records.specs.Tallies.{oneIf}
 use Rattle.names.specs.Language.{languageNames, languageOf}
-use Rattle.names.specs.Names.{recordsIn, claimsElement, share, another, twinOf, anyTwin, sharedPair, twinsTable}
+use Rattle.names.specs.Names.{share, sharedPair}
+use Rattle.names.specs.code.Links.{recordsIn, claimsElement, another, twinOf, twinsTable}
 use Rattle.names.proofs.Firsts.{any-found, any-at}
 use Rattle.names.proofs.Tables.{filled-at}
 use Rattle.operands.specs.Operands.{bytesAt}
-use Rattle.items.specs.Items.{doubledIn}
-use Rattle.worded.specs.Elements.{Element, Piece, at, kinds, piecesOf}
-use Rattle.worded.proofs.Cutting.{total}
-use Rattle.worded.proofs.Tables.{cell-word, element-at, row-within, elementAt}
+use Rattle.items.specs.code.Items.{doubledIn}
+use Rattle.pieces.specs.Columns as column
+use Rattle.meaning.specs.Elements.{Element, Piece, at, kinds, piecesOf}
+use Rattle.meaning.proofs.Cutting.{total}
+use Rattle.meaning.proofs.Tables.{cell-word, element-at, row-within, elementAt}
 use Rattle.meaning.specs.Names.{classOf, ownName, claims, language, claimsIn, doubled, ownDoubled, Done}
-use Rattle.meaning.proofs.Records.{pendings, piecesDone, pieces-length, word-past}
+use Rattle.meaning.proofs.Records.{piecesDone, pieces-length, word-past}
 use Rattle.meaning.proofs.Places.{tableOf, elements}
-use Rattle.meaning.proofs.Words.{pieceAt, doneAt, itemTable, pieces-at, piece-behind, pieces-waiting, class-at, name-at}
+use Rattle.meaning.proofs.Words.{pieceAt, doneAt, itemTable, pieces-at, class-at, name-at}
 use Rattle.meaning.proofs.Claims.{none-claims, same-beside, dones-length, claim-at, claims-inside, name-element, claims-element, records-room}
 use Rattle.meaning.proofs.Sameness.{both-ways, number-same, own-claimed, claimed-class}
 
@@ -103,14 +105,14 @@ module _ (s : List ℕ) (z y : ℕ) (ds : List Done) (cuts : piecesDone ds ≡ p
   unfolding share claimsElement
   share-claims j =
       rw (claim-at s z y ds cuts i ∙ c)
-      (ap (λ (b : Bool). isClaim (wordAt (itemTable ds y) j 0) && b) flip
-      ∙ claims-element s z y ds cuts (wordAt (itemTable ds y) i 3) j
+      (ap (λ (b : Bool). isClaim (wordAt (itemTable ds y) j column.class) && b) flip
+      ∙ claims-element s z y ds cuts (wordAt (itemTable ds y) i column.name) j
       ∙ ap (λ (x : Element). claims x (pieceAt (piecesOf s) j)) (name-element s z y ds cuts i c))
     where
-      flip : sameName s (tableOf s z) (wordAt (itemTable ds y) i 3) (wordAt (itemTable ds y) j 3) ≡ sameName s (tableOf s z) (wordAt (itemTable ds y) j 3) (wordAt (itemTable ds y) i 3)
+      flip : sameName s (tableOf s z) (wordAt (itemTable ds y) i column.name) (wordAt (itemTable ds y) j column.name) ≡ sameName s (tableOf s z) (wordAt (itemTable ds y) j column.name) (wordAt (itemTable ds y) i column.name)
       flip =
-          both-ways _ _ (same-flips s (tableOf s z) (wordAt (itemTable ds y) i 3) (wordAt (itemTable ds y) j 3))
-          (same-flips s (tableOf s z) (wordAt (itemTable ds y) j 3) (wordAt (itemTable ds y) i 3))
+          both-ways _ _ (same-flips s (tableOf s z) (wordAt (itemTable ds y) i column.name) (wordAt (itemTable ds y) j column.name))
+          (same-flips s (tableOf s z) (wordAt (itemTable ds y) j column.name) (wordAt (itemTable ds y) i column.name))
 
   inside : i < recordsIn (itemTable ds y)
   inside = omega (arith, claims-inside s z y ds cuts i c, records-room s z y ds cuts few, dones-length s z y ds cuts)
@@ -159,10 +161,10 @@ module _ (s : List ℕ) (z y : ℕ) (ds : List Done) (cuts : piecesDone ds ≡ p
       (omega (arith, claims-inside s z y ds cuts i c, dones-length s z y ds cuts)) inside
 
   module _ (cs : List Done) (v : ℕ) (also : piecesDone cs ≡ piecesOf s) where
-    pub twins-doubled : (not (eqb (getD (twinsTable s (tableOf s z) (itemTable ds y) 1024) i 0) 0) || not (eqb (languageOf s (tableOf s z) (wordAt (itemTable cs v) i 3)) 0))
+    pub twins-doubled : (not (eqb (getD (twinsTable s (tableOf s z) (itemTable ds y) 1024) i 0) 0) || not (eqb (languageOf s (tableOf s z) (wordAt (itemTable cs v) i column.name)) 0))
         ≡ doubled (piecesOf s) (ownName (pieceAt (piecesOf s) i))
     twins-doubled =
-        ap₂ (λ (a b : ℕ). not (eqb a 0) || not (eqb b 0)) twin-word (language-at s z (wordAt (itemTable cs v) i 3) ∙ ap language (name-element s z v cs also i c))
+        ap₂ (λ (a b : ℕ). not (eqb a 0) || not (eqb b 0)) twin-word (language-at s z (wordAt (itemTable cs v) i column.name) ∙ ap language (name-element s z v cs also i c))
         ∙ ap (λ (b : Bool). b || not (eqb (language (ownName (pieceAt (piecesOf s) i))) 0)) (told (twinOf s (tableOf s z) (itemTable ds y) i))
         ∙ twin-doubled
       where
@@ -175,16 +177,8 @@ pub doubled-in : (s : List ℕ) (z y : ℕ) (ds : List Done) (cuts : piecesDone 
     → doubledIn s (tableOf s z) (twinsTable s (tableOf s z) (itemTable ds y) 1024) (itemTable cs v) i ≡ ownDoubled (piecesOf s) (pieceAt (piecesOf s) i)
 unfolding doubledIn
 doubled-in s z y ds cuts few cs v also i =
-    ap (λ (b : Bool). b && (not (eqb (getD (twinsTable s (tableOf s z) (itemTable ds y) 1024) i 0) 0) || not (eqb (languageOf s (tableOf s z) (wordAt (itemTable cs v) i 3)) 0))) (claim-at s z v cs also i)
+    ap (λ (b : Bool). b && (not (eqb (getD (twinsTable s (tableOf s z) (itemTable ds y) 1024) i 0) 0) || not (eqb (languageOf s (tableOf s z) (wordAt (itemTable cs v) i column.name)) 0))) (claim-at s z v cs also i)
     ∙ same-beside (isClaim (classOf (pieceAt (piecesOf s) i))) _ _ (λ c. twins-doubled s z y ds cuts few i c cs v also)
-
--- of the piece behind those done, the rest waiting
-pub doubled-behind : (s : List ℕ) (z y : ℕ) (ds : List Done) (cuts : piecesDone ds ≡ piecesOf s) (few : length (piecesOf s) ≤ 1024) (cs : List Done) (p : Piece) (after : List Piece) (v : ℕ) (also : piecesDone cs ++ p ∷ after ≡ piecesOf s)
-    → doubledIn s (tableOf s z) (twinsTable s (tableOf s z) (itemTable ds y) 1024) (itemTable (cs ++ pendings (p ∷ after)) v) (length cs) ≡ ownDoubled (piecesOf s) p
-doubled-behind s z y ds cuts few cs p after v also =
-    doubled-in s z y ds cuts few (cs ++ pendings (p ∷ after)) v (pieces-waiting cs (p ∷ after) (piecesOf s) also) (length cs)
-    ∙ ap (λ (n : ℕ). ownDoubled (piecesOf s) (pieceAt (piecesOf s) n)) (sym (pieces-length cs))
-    ∙ ap (ownDoubled (piecesOf s)) (piece-behind (piecesOf s) (piecesDone cs) p after (sym also))
 
 -- ---- sharing does not depend on what the pieces come to
 
@@ -195,19 +189,19 @@ module _ (ds cs : List Done) (y v : ℕ) (one : piecesDone ds ≡ piecesDone cs)
   same-piece : (j : ℕ) → doneAt ds j .piece ≡ doneAt cs j .piece
   same-piece j = sym (pieces-at ds j) ∙ ap (λ (ps : List Piece). pieceAt ps j) one ∙ pieces-at cs j
 
-  pub class-same : (j : ℕ) → wordAt (itemTable ds y) j 0 ≡ wordAt (itemTable cs v) j 0
+  pub class-same : (j : ℕ) → wordAt (itemTable ds y) j column.class ≡ wordAt (itemTable cs v) j column.class
   class-same j = go (ltb j (length ds)) refl
     where
-      go : (b : Bool) → ltb j (length ds) ≡ b → wordAt (itemTable ds y) j 0 ≡ wordAt (itemTable cs v) j 0
+      go : (b : Bool) → ltb j (length ds) ≡ b → wordAt (itemTable ds y) j column.class ≡ wordAt (itemTable cs v) j column.class
       go true e =
           let h = ltb-true j (length ds) e in
           class-at ds y j h ∙ ap classOf (same-piece j) ∙ sym (class-at cs v j (omega (arith, same-length)))
       go false e = let h = ltb-false j (length ds) e in word-past ds y j 0 h ∙ sym (word-past cs v j 0 (omega (arith, same-length)))
 
-  pub name-same : (j : ℕ) → wordAt (itemTable ds y) j 3 ≡ wordAt (itemTable cs v) j 3
+  pub name-same : (j : ℕ) → wordAt (itemTable ds y) j column.name ≡ wordAt (itemTable cs v) j column.name
   name-same j = go (ltb j (length ds)) refl
     where
-      go : (b : Bool) → ltb j (length ds) ≡ b → wordAt (itemTable ds y) j 3 ≡ wordAt (itemTable cs v) j 3
+      go : (b : Bool) → ltb j (length ds) ≡ b → wordAt (itemTable ds y) j column.name ≡ wordAt (itemTable cs v) j column.name
       go true e =
           let h = ltb-true j (length ds) e in
           name-at ds y j h
@@ -237,13 +231,3 @@ pair-none f i zero h = refl
 pair-none f i (suc m) h =
     later-none f i (suc i) m (pairFrom f (suc i) m) (λ b l g. h i b (omega arith) (omega arith) (omega arith))
     ∙ pair-none f (suc i) m (λ a b k l g. h a b (omega arith) l (omega arith))
-
-pub no-pair : (text table items : List ℕ) (n : ℕ) → n ≤ recordsIn items → anyTwin text table items ≡ false → sharedPair text table items n ≡ Neither
-unfolding sharedPair anyTwin twinOf
-no-pair text table items n l none = pair-none (share text table items) 0 n (λ a b k d g. unshared a b (share text table items a b) refl (omega arith) (omega arith) (λ e. omega arith))
-  where
-    unshared : (a b : ℕ) (t : Bool) → share text table items a b ≡ t → a < recordsIn items → b < recordsIn items → (a ≡ b → ⊥) → t ≡ false
-    unshared a b false e k g d = refl
-    unshared a b true e k g d =
-        let twin : twinOf text table items a ≡ true = any-at (another (share text table items) a) 0 (recordsIn items) b (omega arith) (omega arith) (rw (ne-eqb a b d) e) in
-        absurd (false≢true (sym none ∙ any-at (twinOf text table items) 0 (recordsIn items) a (omega arith) (omega arith) twin))

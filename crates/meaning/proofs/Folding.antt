@@ -28,13 +28,14 @@ use Rattle.folding.specs.declared.Outcome.{Outcome}
 use Rattle.operands.specs.Operands.{operatorOf, signOf, literalBy}
 use Rattle.marks.specs.Marks.{operandOf}
 use Rattle.marks.proofs.Sound.{late}
-use Rattle.folds.specs.Expressions.{behind, outcomeIn}
+use Rattle.expressions.specs.Expressions.{behind, outcomeIn}
 use Rattle.values.specs.declared.Value.{Value}
 use Rattle.values.specs.declared.Value.the-variants as value
-use Rattle.worded.specs.Elements.{Element, Piece, at}
+use Rattle.integers.specs.declared.Kind.the-variants as K
+use Rattle.meaning.specs.Elements.{Element, Piece, at}
 use Rattle.meaning.specs.Forms.{Expression, name, literal, unfolded, unary, binary, Is, is-name, is-called, is-attribute, is-literal, is-unary, is-binary}
 use Rattle.meaning.specs.States as met
-use Rattle.meaning.specs.States.{Kind, integer, truth, kindOf, Meets, NoneMet}
+use Rattle.meaning.specs.States.{Kind, integer, truth, expressionKind, Meets, NoneMet}
 use Rattle.meaning.specs.Values.{skips, Folds, number-used, truth-used, spelled, stops, plus, minus, absolute, opposite, left-stops, skipped, right-stops, right-stops-too, computed, related, truths-related, connected}
 use Rattle.meaning.specs.Items.{valued}
 use Rattle.meaning.proofs.Sound.{SoundUse}
@@ -96,9 +97,6 @@ module _ (p : Piece) (used : Element → Value) where
   passed (Logic o) t s e = rw e
   passed Join t s e = refl
 
-  after-number : (o : Operator) (a : ℤ) (s : ℕ) → binaryOf o (Whole a) (Stopped s) ≡ Stopped s
-  after-number o a s = refl
-
   sound : {x : Expression} {v : Folded} → Folds used x v → (rs : List Row) → Is p rs x → (f : ℕ) → length rs ≤ f → out p used f rs .folded ≡ v
   sound (number-used q) _ (is-name {r = r} {rs = rs} e) f h = at-name f r rs h e ∙ ap (λ (v : Value). operandOf v .folded) q
   sound (truth-used q) _ (is-name {r = r} {rs = rs} e) f h = at-name f r rs h e ∙ ap (λ (v : Value). operandOf v .folded) q
@@ -139,15 +137,15 @@ module _ (p : Piece) (used : Element → Value) where
   OfKind k (Stopped s) = Unit {0}
 
   of-kind : (r : Sort) (k : Kind) (M : ℕ → Type 0) (f : Folded) → Exact r k M → NoneMet M → Fit r f → OfKind k f
-  of-kind S.Number k M (Whole a) h n t = h .0
-  of-kind S.Number k M (Truth u) h n t = absurd t
-  of-kind S.Number k M (Stopped s) h n t = tt
-  of-kind S.Boolean k M (Whole a) h n t = absurd t
-  of-kind S.Boolean k M (Truth u) h n t = h .0
-  of-kind S.Boolean k M (Stopped s) h n t = tt
+  of-kind (S.Of K.Integer) k M (Whole a) h n t = h .0
+  of-kind (S.Of K.Integer) k M (Truth u) h n t = absurd t
+  of-kind (S.Of K.Integer) k M (Stopped s) h n t = tt
+  of-kind (S.Of K.Truth) k M (Whole a) h n t = absurd t
+  of-kind (S.Of K.Truth) k M (Truth u) h n t = h .0
+  of-kind (S.Of K.Truth) k M (Stopped s) h n t = tt
   of-kind (S.Wrong s) k M f h n t = absurd (n s (h .0 .0))
 
-  unary-folds : (o : Sign) (x : Expression) (f : Folded) → Folds used x f → OfKind (kindOf used x) f → NoneMet (Meets used (unary o x)) → Folds used (unary o x) (unaryOf o f)
+  unary-folds : (o : Sign) (x : Expression) (f : Folded) → Folds used x f → OfKind (expressionKind used x) f → NoneMet (Meets used (unary o x)) → Folds used (unary o x) (unaryOf o f)
   unary-folds o x (Stopped s) d k n = stops d
   unary-folds Plus x (Whole a) d k n = plus d
   unary-folds Minus x (Whole a) d k n = minus d
@@ -158,14 +156,14 @@ module _ (p : Piece) (used : Element → Value) where
   unary-folds Absolute x (Truth t) d k n = absurd (n 6 (met.absolute-truth k))
   unary-folds Not x (Truth t) d k n = opposite d
 
-  logic-folds : (o : L.Logic) (x y : Expression) (t c : Bool) (g : Folded) → decides o t ≡ c → Folds used x (Truth t) → Folds used y g → OfKind (kindOf used y) g
+  logic-folds : (o : L.Logic) (x y : Expression) (t c : Bool) (g : Folded) → decides o t ≡ c → Folds used x (Truth t) → Folds used y g → OfKind (expressionKind used y) g
       → NoneMet (Meets used (binary (Logic o) x y)) → Folds used (binary (Logic o) x y) (binaryOf (Logic o) (Truth t) g)
   logic-folds o x y t true g c d e l n = subst (Folds used (binary (Logic o) x y)) (sym (decided o t g c)) (skipped d c)
   logic-folds o x y t false (Whole b) c d e l n = absurd (n 6 (met.integer-right l))
   logic-folds o x y t false (Truth u) c d e l n = subst (Folds used (binary (Logic o) x y)) (sym (undecided o t u c)) (connected d c e)
   logic-folds o x y t false (Stopped s) c d e l n = subst (Folds used (binary (Logic o) x y)) (sym (passed (Logic o) t s c)) (right-stops-too d c e)
 
-  binary-folds : (o : Operator) (x y : Expression) (f g : Folded) → Folds used x f → Folds used y g → OfKind (kindOf used x) f → OfKind (kindOf used y) g → NoneMet (Meets used (binary o x y))
+  binary-folds : (o : Operator) (x y : Expression) (f g : Folded) → Folds used x f → Folds used y g → OfKind (expressionKind used x) f → OfKind (expressionKind used y) g → NoneMet (Meets used (binary o x y))
       → Folds used (binary o x y) (binaryOf o f g)
   binary-folds o x y (Stopped s) g d e k l n = left-stops d
   binary-folds (Arithmetic o) x y (Whole a) (Whole b) d e k l n = computed d e
@@ -198,9 +196,9 @@ module _ (p : Piece) (used : Element → Value) where
       go false e = absurd (n 3 (met.other-literal (eqb-false (x .kind) 3 e)))
 
   module _ (u : SoundUse late used) where
-    kind-of : (rs : List Row) (x : Expression) → Is p rs x → (f : ℕ) → length rs ≤ f → NoneMet (Meets used x) → OfKind (kindOf used x) (out p used f rs .folded)
+    kind-of : (rs : List Row) (x : Expression) → Is p rs x → (f : ℕ) → length rs ≤ f → NoneMet (Meets used x) → OfKind (expressionKind used x) (out p used f rs .folded)
     kind-of rs x i f h n =
-        of-kind (out p used f rs .sort) (kindOf used x) (Meets used x) (out p used f rs .folded) (exact-in p used u i f h) n
+        of-kind (out p used f rs .sort) (expressionKind used x) (Meets used x) (out p used f rs .folded) (exact-in p used u i f h) n
         (outcome-fit _ _ _ (λ k. operand-fit (used (at p k))) (λ k. literal-by-fit (at p k .kind) (at p k .bytes)) f rs)
 
     complete : {rs : List Row} {x : Expression} → Is p rs x → (f : ℕ) → length rs ≤ f → NoneMet (Meets used x) → Folds used x (out p used f rs .folded)
@@ -224,6 +222,6 @@ module _ (p : Piece) (used : Element → Value) where
     unfolding valued
     folds-complete rs x i n = complete i (length rs) (omega arith) n
 
-    pub folded-kind : (rs : List Row) (x : Expression) → Is p rs x → NoneMet (Meets used x) → OfKind (kindOf used x) (valued p used rs .folded)
+    pub folded-kind : (rs : List Row) (x : Expression) → Is p rs x → NoneMet (Meets used x) → OfKind (expressionKind used x) (valued p used rs .folded)
     unfolding valued
     folded-kind rs x i n = kind-of rs x i (length rs) (omega arith) n

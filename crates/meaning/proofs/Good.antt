@@ -7,13 +7,14 @@ use Rattle.records.specs.Records.{isClaim}
 use Rattle.values.specs.Words.{leanOf}
 use Rattle.values.specs.declared.Value.the-variants.{Without}
 use Rattle.marks.proofs.Laws.{Fits}
-use Rattle.worded.specs.Elements.{Piece}
+use Rattle.states.specs.States as state
+use Rattle.meaning.specs.Elements.{Piece}
 use Rattle.meaning.specs.Names.{classOf, ownDoubled, Done}
 
 -- of one piece
 abbrev pub GoodDone : List Piece → Done → Type 0
 GoodDone all d =
-    isClaim (classOf (d .piece)) ≡ true → Fits (classOf (d .piece)) (d .value) × (ownDoubled all (d .piece) ≡ true → leanOf (d .value) ≡ Without 5)
+    isClaim (classOf (d .piece)) ≡ true → Fits (classOf (d .piece)) (d .value) × (ownDoubled all (d .piece) ≡ true → leanOf (d .value) ≡ Without state.leans)
 
 -- of each
 abbrev pub Good : List Piece → List Done → Type 0

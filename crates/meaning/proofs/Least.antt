@@ -18,17 +18,19 @@ use Rattle.folding.specs.declared.Sign.the-variants.{Plus, Minus, Absolute, Not
 use Rattle.folding.specs.declared.Sort.{Sort}
 use Rattle.folding.specs.declared.Sort.the-variants as S
 use Rattle.folding.specs.declared.Outcome.{Outcome}
-use Rattle.folding.specs.Outcomes.{wrongSort, sortOf, signSort, combinedOf, signedOf}
-use Rattle.expressions.specs.Leaves.{wrongLeaf}
+use Rattle.folding.specs.Outcomes.{wrongSort, operatorSort, signSort, combinedOf, signedOf}
+use Rattle.operands.specs.Leaves.{wrongLeaf}
 use Rattle.operands.specs.Operands.{operatorOf, signOf, literalBy}
 use Rattle.marks.specs.Marks.{operandOf}
 use Rattle.marks.proofs.Sound.{late, Sound}
-use Rattle.folds.specs.Expressions.{behind, rowOutcome, outcomeIn}
+use Rattle.expressions.specs.Expressions.{behind, rowOutcome, outcomeIn}
 use Rattle.values.specs.declared.Value.{Value}
 use Rattle.values.specs.declared.Value.the-variants.{Number, Truth, Range, Truths, Without}
-use Rattle.worded.specs.Elements.{Element, Piece, at}
+use Rattle.states.specs.States as state
+use Rattle.integers.specs.declared.Kind.the-variants as K
+use Rattle.meaning.specs.Elements.{Element, Piece, at}
 use Rattle.meaning.specs.Forms.{Expression, name, literal, unfolded, unary, binary, Is, is-name, is-called, is-attribute, is-literal, is-unary, is-binary}
-use Rattle.meaning.specs.States.{Kind, integer, truth, neither, nameKind, signKind, operatorKind, kindOf, Least, NoneMet}
+use Rattle.meaning.specs.States.{Kind, integer, truth, neither, nameKind, signKind, operatorKind, expressionKind, Least, NoneMet}
 use Rattle.meaning.specs.States.{Meets, other-literal, join, other-form, without, mixed-left, mixed-right, plus-truth, minus-truth, absolute-truth, truth-left, truth-right, not-integer, integer-left, integer-right, range-as-number, boolean-as-number, operand, left, right}
 use Rattle.meaning.specs.Items.{valued}
 use Rattle.meaning.proofs.Sound.{SoundUse}
@@ -80,13 +82,13 @@ OperatorMeets Join k l s = s ≡ 3
 
 -- a sort is just what these states make it, and of this kind where there are none
 abbrev pub Exact : Sort → Kind → (ℕ → Type 0) → Type 0
-Exact S.Number k M = (k ≡ integer) × NoneMet M
-Exact S.Boolean k M = (k ≡ truth) × NoneMet M
+Exact (S.Of K.Integer) k M = (k ≡ integer) × NoneMet M
+Exact (S.Of K.Truth) k M = (k ≡ truth) × NoneMet M
 Exact (S.Wrong s) k M = Least M s × (s ≤ 6)
 
 pub exact-via : (x : Sort) (k : Kind) (M N : ℕ → Type 0) → ((s : ℕ) → M s → N s) → ((s : ℕ) → N s → M s) → Exact x k M → Exact x k N
-exact-via S.Number k M N f g h = (h .0, λ t n. h .1 t (g t n))
-exact-via S.Boolean k M N f g h = (h .0, λ t n. h .1 t (g t n))
+exact-via (S.Of K.Integer) k M N f g h = (h .0, λ t n. h .1 t (g t n))
+exact-via (S.Of K.Truth) k M N f g h = (h .0, λ t n. h .1 t (g t n))
 exact-via (S.Wrong s) k M N f g h = ((f s (h .0 .0), λ t n. h .0 .1 t (g t n)), h .1)
 
 -- ---- an operator's own state: 6, or the 3 of `&`
@@ -196,10 +198,6 @@ module _ (M N : ℕ → Type 0) where
       below v (inl a) = omega (arith, h .1 v a)
       below v (inr b) = omega (arith, k .1 v b)
 
--- none but the operator's own
-none-own : (O M : ℕ → Type 0) → NoneMet O → NoneMet M → NoneMet (Both O M)
-none-own O M o m = none-both O M o m
-
 own-least : (O M : ℕ → Type 0) (s : ℕ) → O s → ((t : ℕ) → O t → t ≡ s) → NoneMet M → Least (Both O M) s
 own-least O M s h o m = left-only O M s (h, λ t a. omega (arith, o t a)) m
 
@@ -207,59 +205,59 @@ no-sum : NoneMet (λ t. ⊥ ⊎ ⊥)
 no-sum t (inl h) = h
 no-sum t (inr h) = h
 
-integers : (op : Operator) (M : ℕ → Type 0) → NoneMet M → Exact (sortOf op S.Number S.Number) (operatorKind op) (Both (OperatorMeets op integer integer) M)
+integers : (op : Operator) (M : ℕ → Type 0) → NoneMet M → Exact (operatorSort op (S.Of K.Integer) (S.Of K.Integer)) (operatorKind op) (Both (OperatorMeets op integer integer) M)
 integers (Arithmetic o) M m = (refl, none-both _ M no-sum m)
 integers (Relation o) M m = (refl, none-both _ M (λ t h. h) m)
 integers (Logic o) M m = (own-least _ M 6 (inl (inl refl)) (one-state (Logic o) integer integer) m, omega arith)
 integers Join M m = (own-least _ M 3 refl (one-state Join integer integer) m, omega arith)
 
-truths : (op : Operator) (M : ℕ → Type 0) → NoneMet M → Exact (sortOf op S.Boolean S.Boolean) (operatorKind op) (Both (OperatorMeets op truth truth) M)
+truths : (op : Operator) (M : ℕ → Type 0) → NoneMet M → Exact (operatorSort op (S.Of K.Truth) (S.Of K.Truth)) (operatorKind op) (Both (OperatorMeets op truth truth) M)
 truths (Arithmetic o) M m = (own-least _ M 6 (inl (inl refl)) (one-state (Arithmetic o) truth truth) m, omega arith)
 truths (Relation o) M m = (refl, none-both _ M (λ t h. h) m)
 truths (Logic o) M m = (refl, none-both _ M no-sum m)
 truths Join M m = (own-least _ M 3 refl (one-state Join truth truth) m, omega arith)
 
-unlike-left : (op : Operator) (M : ℕ → Type 0) → NoneMet M → Exact (sortOf op S.Number S.Boolean) (operatorKind op) (Both (OperatorMeets op integer truth) M)
+unlike-left : (op : Operator) (M : ℕ → Type 0) → NoneMet M → Exact (operatorSort op (S.Of K.Integer) (S.Of K.Truth)) (operatorKind op) (Both (OperatorMeets op integer truth) M)
 unlike-left (Arithmetic o) M m = (own-least _ M 6 (inr (inl refl)) (one-state (Arithmetic o) integer truth) m, omega arith)
 unlike-left (Relation o) M m = (own-least _ M 6 (inl refl) (one-state (Relation o) integer truth) m, omega arith)
 unlike-left (Logic o) M m = (own-least _ M 6 (inl (inl refl)) (one-state (Logic o) integer truth) m, omega arith)
 unlike-left Join M m = (own-least _ M 3 refl (one-state Join integer truth) m, omega arith)
 
-unlike-right : (op : Operator) (M : ℕ → Type 0) → NoneMet M → Exact (sortOf op S.Boolean S.Number) (operatorKind op) (Both (OperatorMeets op truth integer) M)
+unlike-right : (op : Operator) (M : ℕ → Type 0) → NoneMet M → Exact (operatorSort op (S.Of K.Truth) (S.Of K.Integer)) (operatorKind op) (Both (OperatorMeets op truth integer) M)
 unlike-right (Arithmetic o) M m = (own-least _ M 6 (inl (inl refl)) (one-state (Arithmetic o) truth integer) m, omega arith)
 unlike-right (Relation o) M m = (own-least _ M 6 (inl refl) (one-state (Relation o) truth integer) m, omega arith)
 unlike-right (Logic o) M m = (own-least _ M 6 (inr (inl refl)) (one-state (Logic o) truth integer) m, omega arith)
 unlike-right Join M m = (own-least _ M 3 refl (one-state Join truth integer) m, omega arith)
 
 pub operator-exact : (op : Operator) (x y : Sort) (k l : Kind) (M N : ℕ → Type 0) → Exact x k M → Exact y l N
-    → Exact (sortOf op x y) (operatorKind op) (Both (OperatorMeets op k l) (Both M N))
-operator-exact op S.Number S.Number k l M N h i = rw (h .0, i .0) (integers op (Both M N) (none-both M N (h .1) (i .1)))
-operator-exact op S.Number S.Boolean k l M N h i = rw (h .0, i .0) (unlike-left op (Both M N) (none-both M N (h .1) (i .1)))
-operator-exact op S.Number (S.Wrong t) k l M N h i = beside-wrong op k l (Both M N) t (right-only M N t (h .1) (i .0)) (i .1)
-operator-exact op S.Boolean S.Number k l M N h i = rw (h .0, i .0) (unlike-right op (Both M N) (none-both M N (h .1) (i .1)))
-operator-exact op S.Boolean S.Boolean k l M N h i = rw (h .0, i .0) (truths op (Both M N) (none-both M N (h .1) (i .1)))
-operator-exact op S.Boolean (S.Wrong t) k l M N h i = beside-wrong op k l (Both M N) t (right-only M N t (h .1) (i .0)) (i .1)
-operator-exact op (S.Wrong s) S.Number k l M N h i = beside-wrong op k l (Both M N) s (left-only M N s (h .0) (i .1)) (h .1)
-operator-exact op (S.Wrong s) S.Boolean k l M N h i = beside-wrong op k l (Both M N) s (left-only M N s (h .0) (i .1)) (h .1)
+    → Exact (operatorSort op x y) (operatorKind op) (Both (OperatorMeets op k l) (Both M N))
+operator-exact op (S.Of K.Integer) (S.Of K.Integer) k l M N h i = rw (h .0, i .0) (integers op (Both M N) (none-both M N (h .1) (i .1)))
+operator-exact op (S.Of K.Integer) (S.Of K.Truth) k l M N h i = rw (h .0, i .0) (unlike-left op (Both M N) (none-both M N (h .1) (i .1)))
+operator-exact op (S.Of K.Integer) (S.Wrong t) k l M N h i = beside-wrong op k l (Both M N) t (right-only M N t (h .1) (i .0)) (i .1)
+operator-exact op (S.Of K.Truth) (S.Of K.Integer) k l M N h i = rw (h .0, i .0) (unlike-right op (Both M N) (none-both M N (h .1) (i .1)))
+operator-exact op (S.Of K.Truth) (S.Of K.Truth) k l M N h i = rw (h .0, i .0) (truths op (Both M N) (none-both M N (h .1) (i .1)))
+operator-exact op (S.Of K.Truth) (S.Wrong t) k l M N h i = beside-wrong op k l (Both M N) t (right-only M N t (h .1) (i .0)) (i .1)
+operator-exact op (S.Wrong s) (S.Of K.Integer) k l M N h i = beside-wrong op k l (Both M N) s (left-only M N s (h .0) (i .1)) (h .1)
+operator-exact op (S.Wrong s) (S.Of K.Truth) k l M N h i = beside-wrong op k l (Both M N) s (left-only M N s (h .0) (i .1)) (h .1)
 operator-exact op (S.Wrong s) (S.Wrong t) k l M N h i = beside-wrong op k l (Both M N) (min s t) (least-both M N s t (h .0) (i .0)) (let a = h .1 in omega arith)
 
 -- ---- one operand
 
-on-integer : (o : Sign) (M : ℕ → Type 0) → NoneMet M → Exact (signSort o S.Number) (signKind o) (Both (SignMeets o integer) M)
+on-integer : (o : Sign) (M : ℕ → Type 0) → NoneMet M → Exact (signSort o (S.Of K.Integer)) (signKind o) (Both (SignMeets o integer) M)
 on-integer Plus M m = (refl, none-both _ M (λ t h. h) m)
 on-integer Minus M m = (refl, none-both _ M (λ t h. h) m)
 on-integer Absolute M m = (refl, none-both _ M (λ t h. h) m)
 on-integer Not M m = (own-least _ M 6 (inl refl) (sign-six Not integer) m, omega arith)
 
-on-truth : (o : Sign) (M : ℕ → Type 0) → NoneMet M → Exact (signSort o S.Boolean) (signKind o) (Both (SignMeets o truth) M)
+on-truth : (o : Sign) (M : ℕ → Type 0) → NoneMet M → Exact (signSort o (S.Of K.Truth)) (signKind o) (Both (SignMeets o truth) M)
 on-truth Plus M m = (own-least _ M 6 (inl refl) (sign-six Plus truth) m, omega arith)
 on-truth Minus M m = (own-least _ M 6 (inl refl) (sign-six Minus truth) m, omega arith)
 on-truth Absolute M m = (own-least _ M 6 (inl refl) (sign-six Absolute truth) m, omega arith)
 on-truth Not M m = (refl, none-both _ M (λ t h. h) m)
 
 sign-exact : (o : Sign) (x : Sort) (k : Kind) (M : ℕ → Type 0) → Exact x k M → Exact (signSort o x) (signKind o) (Both (SignMeets o k) M)
-sign-exact o S.Number k M h = rw (h .0) (on-integer o M (h .1))
-sign-exact o S.Boolean k M h = rw (h .0) (on-truth o M (h .1))
+sign-exact o (S.Of K.Integer) k M h = rw (h .0) (on-integer o M (h .1))
+sign-exact o (S.Of K.Truth) k M h = rw (h .0) (on-truth o M (h .1))
 sign-exact o (S.Wrong s) k M h = (plain M s (h .0) (h .1) (SignMeets o k) (sign-six o k), h .1)
 
 -- ---- what stands at a row
@@ -328,13 +326,13 @@ module _ (used : Element → Value) where
   taken-name x s (range-as-number e) = subst (λ (v : Value). Among 6 (nameStates v)) (sym e) (inl refl)
   taken-name x s (boolean-as-number e) = subst (λ (v : Value). Among 6 (nameStates v)) (sym e) (inl refl)
 
-  name-exact : (x : Element) → Sound late (used x) → Exact (operandOf (used x) .sort) (kindOf used (name x)) (Meets used (name x))
+  name-exact : (x : Element) → Sound late (used x) → Exact (operandOf (used x) .sort) (expressionKind used (name x)) (Meets used (name x))
   name-exact x h =
       exact-via (operandOf (used x) .sort) (nameKind (used x)) (λ s. Among s (nameStates (used x))) (Meets used (name x)) (λ s a. made-name x s (used x) refl a) (taken-name x)
       (states-exact (used x) h)
 
   -- a literal
-  literal-exact : (x : Element) → Exact (literalBy (x .kind) (x .bytes) .sort) (kindOf used (literal x)) (Meets used (literal x))
+  literal-exact : (x : Element) → Exact (literalBy (x .kind) (x .bytes) .sort) (expressionKind used (literal x)) (Meets used (literal x))
   unfolding literalBy
   literal-exact x = go (eqb (x .kind) 3) refl
     where
@@ -344,69 +342,69 @@ module _ (used : Element → Value) where
       three : (t : ℕ) → Meets used (literal x) t → 3 ≤ t
       three t (other-literal d) = omega arith
 
-      go : (b : Bool) → eqb (x .kind) 3 ≡ b → Exact (literalBy (x .kind) (x .bytes) .sort) (kindOf used (literal x)) (Meets used (literal x))
+      go : (b : Bool) → eqb (x .kind) 3 ≡ b → Exact (literalBy (x .kind) (x .bytes) .sort) (expressionKind used (literal x)) (Meets used (literal x))
       go true e = rw e (refl, none (eqb-true (x .kind) 3 e))
       go false e = rw e ((other-literal (eqb-false (x .kind) 3 e), three), omega arith)
 
-  form-exact : Exact (S.Wrong 3) (kindOf used unfolded) (Meets used unfolded)
+  form-exact : Exact (S.Wrong state.unfolded) (expressionKind used unfolded) (Meets used unfolded)
   form-exact = ((other-form, three), omega arith)
     where
       three : (t : ℕ) → Meets used unfolded t → 3 ≤ t
       three t other-form = omega arith
 
   -- a sign
-  made-sign : (o : Sign) (x : Expression) (s : ℕ) → Both (SignMeets o (kindOf used x)) (Meets used x) s → Meets used (unary o x) s
+  made-sign : (o : Sign) (x : Expression) (s : ℕ) → Both (SignMeets o (expressionKind used x)) (Meets used x) s → Meets used (unary o x) s
   made-sign o x s (inr h) = operand h
-  made-sign Plus x s (inl h) = let e = truth-of (kindOf used x) s h in subst (Meets used (unary Plus x)) (sym (e .1)) (plus-truth (e .0))
-  made-sign Minus x s (inl h) = let e = truth-of (kindOf used x) s h in subst (Meets used (unary Minus x)) (sym (e .1)) (minus-truth (e .0))
-  made-sign Absolute x s (inl h) = let e = truth-of (kindOf used x) s h in subst (Meets used (unary Absolute x)) (sym (e .1)) (absolute-truth (e .0))
-  made-sign Not x s (inl h) = let e = integer-of (kindOf used x) s h in subst (Meets used (unary Not x)) (sym (e .1)) (not-integer (e .0))
+  made-sign Plus x s (inl h) = let e = truth-of (expressionKind used x) s h in subst (Meets used (unary Plus x)) (sym (e .1)) (plus-truth (e .0))
+  made-sign Minus x s (inl h) = let e = truth-of (expressionKind used x) s h in subst (Meets used (unary Minus x)) (sym (e .1)) (minus-truth (e .0))
+  made-sign Absolute x s (inl h) = let e = truth-of (expressionKind used x) s h in subst (Meets used (unary Absolute x)) (sym (e .1)) (absolute-truth (e .0))
+  made-sign Not x s (inl h) = let e = integer-of (expressionKind used x) s h in subst (Meets used (unary Not x)) (sym (e .1)) (not-integer (e .0))
 
-  taken-sign : (o : Sign) (x : Expression) (s : ℕ) → Meets used (unary o x) s → Both (SignMeets o (kindOf used x)) (Meets used x) s
-  taken-sign o x s (plus-truth e) = inl (truth-met (kindOf used x) e)
-  taken-sign o x s (minus-truth e) = inl (truth-met (kindOf used x) e)
-  taken-sign o x s (absolute-truth e) = inl (truth-met (kindOf used x) e)
-  taken-sign o x s (not-integer e) = inl (integer-met (kindOf used x) e)
+  taken-sign : (o : Sign) (x : Expression) (s : ℕ) → Meets used (unary o x) s → Both (SignMeets o (expressionKind used x)) (Meets used x) s
+  taken-sign o x s (plus-truth e) = inl (truth-met (expressionKind used x) e)
+  taken-sign o x s (minus-truth e) = inl (truth-met (expressionKind used x) e)
+  taken-sign o x s (absolute-truth e) = inl (truth-met (expressionKind used x) e)
+  taken-sign o x s (not-integer e) = inl (integer-met (expressionKind used x) e)
   taken-sign o x s (operand h) = inr h
 
   -- an operator
-  own-operator : (o : Operator) (x y : Expression) (s : ℕ) → OperatorMeets o (kindOf used x) (kindOf used y) s → Meets used (binary o x y) s
-  own-operator (Arithmetic o) x y s (inl h) = let e = truth-of (kindOf used x) s h in subst (Meets used (binary (Arithmetic o) x y)) (sym (e .1)) (truth-left (e .0))
-  own-operator (Arithmetic o) x y s (inr h) = let e = truth-of (kindOf used y) s h in subst (Meets used (binary (Arithmetic o) x y)) (sym (e .1)) (truth-right (e .0))
-  own-operator (Relation o) x y s h = let e = mixed-of (kindOf used x) (kindOf used y) s h in subst (Meets used (binary (Relation o) x y)) (sym (e .1)) (by (e .0))
+  own-operator : (o : Operator) (x y : Expression) (s : ℕ) → OperatorMeets o (expressionKind used x) (expressionKind used y) s → Meets used (binary o x y) s
+  own-operator (Arithmetic o) x y s (inl h) = let e = truth-of (expressionKind used x) s h in subst (Meets used (binary (Arithmetic o) x y)) (sym (e .1)) (truth-left (e .0))
+  own-operator (Arithmetic o) x y s (inr h) = let e = truth-of (expressionKind used y) s h in subst (Meets used (binary (Arithmetic o) x y)) (sym (e .1)) (truth-right (e .0))
+  own-operator (Relation o) x y s h = let e = mixed-of (expressionKind used x) (expressionKind used y) s h in subst (Meets used (binary (Relation o) x y)) (sym (e .1)) (by (e .0))
     where
-      by : ((kindOf used x ≡ integer) × (kindOf used y ≡ truth)) ⊎ ((kindOf used x ≡ truth) × (kindOf used y ≡ integer)) → Meets used (binary (Relation o) x y) 6
+      by : ((expressionKind used x ≡ integer) × (expressionKind used y ≡ truth)) ⊎ ((expressionKind used x ≡ truth) × (expressionKind used y ≡ integer)) → Meets used (binary (Relation o) x y) 6
       by (inl h) = mixed-left (h .0) (h .1)
       by (inr h) = mixed-right (h .0) (h .1)
-  own-operator (Logic o) x y s (inl h) = let e = integer-of (kindOf used x) s h in subst (Meets used (binary (Logic o) x y)) (sym (e .1)) (integer-left (e .0))
-  own-operator (Logic o) x y s (inr h) = let e = integer-of (kindOf used y) s h in subst (Meets used (binary (Logic o) x y)) (sym (e .1)) (integer-right (e .0))
+  own-operator (Logic o) x y s (inl h) = let e = integer-of (expressionKind used x) s h in subst (Meets used (binary (Logic o) x y)) (sym (e .1)) (integer-left (e .0))
+  own-operator (Logic o) x y s (inr h) = let e = integer-of (expressionKind used y) s h in subst (Meets used (binary (Logic o) x y)) (sym (e .1)) (integer-right (e .0))
   own-operator Join x y s h = subst (Meets used (binary Join x y)) (sym h) join
 
-  made-operator : (o : Operator) (x y : Expression) (s : ℕ) → Both (OperatorMeets o (kindOf used x) (kindOf used y)) (Both (Meets used x) (Meets used y)) s → Meets used (binary o x y) s
+  made-operator : (o : Operator) (x y : Expression) (s : ℕ) → Both (OperatorMeets o (expressionKind used x) (expressionKind used y)) (Both (Meets used x) (Meets used y)) s → Meets used (binary o x y) s
   made-operator o x y s (inl h) = own-operator o x y s h
   made-operator o x y s (inr (inl h)) = left h
   made-operator o x y s (inr (inr h)) = right h
 
-  taken-operator : (o : Operator) (x y : Expression) (s : ℕ) → Meets used (binary o x y) s → Both (OperatorMeets o (kindOf used x) (kindOf used y)) (Both (Meets used x) (Meets used y)) s
+  taken-operator : (o : Operator) (x y : Expression) (s : ℕ) → Meets used (binary o x y) s → Both (OperatorMeets o (expressionKind used x) (expressionKind used y)) (Both (Meets used x) (Meets used y)) s
   taken-operator o x y s join = inl refl
-  taken-operator o x y s (mixed-left e f) = inl (mixed-met (kindOf used x) (kindOf used y) integer truth (inl refl) e f)
-  taken-operator o x y s (mixed-right e f) = inl (mixed-met (kindOf used x) (kindOf used y) truth integer (inl refl) e f)
-  taken-operator o x y s (truth-left e) = inl (inl (truth-met (kindOf used x) e))
-  taken-operator o x y s (truth-right e) = inl (inr (truth-met (kindOf used y) e))
-  taken-operator o x y s (integer-left e) = inl (inl (integer-met (kindOf used x) e))
-  taken-operator o x y s (integer-right e) = inl (inr (integer-met (kindOf used y) e))
+  taken-operator o x y s (mixed-left e f) = inl (mixed-met (expressionKind used x) (expressionKind used y) integer truth (inl refl) e f)
+  taken-operator o x y s (mixed-right e f) = inl (mixed-met (expressionKind used x) (expressionKind used y) truth integer (inl refl) e f)
+  taken-operator o x y s (truth-left e) = inl (inl (truth-met (expressionKind used x) e))
+  taken-operator o x y s (truth-right e) = inl (inr (truth-met (expressionKind used y) e))
+  taken-operator o x y s (integer-left e) = inl (inl (integer-met (expressionKind used x) e))
+  taken-operator o x y s (integer-right e) = inl (inr (integer-met (expressionKind used y) e))
   taken-operator o x y s (left h) = inr (inl h)
   taken-operator o x y s (right h) = inr (inr h)
 
-  unary-exact : (o : Sign) (x : Expression) (r : Sort) → Exact r (kindOf used x) (Meets used x) → Exact (signSort o r) (kindOf used (unary o x)) (Meets used (unary o x))
+  unary-exact : (o : Sign) (x : Expression) (r : Sort) → Exact r (expressionKind used x) (Meets used x) → Exact (signSort o r) (expressionKind used (unary o x)) (Meets used (unary o x))
   unary-exact o x r h =
-      exact-via (signSort o r) (signKind o) (Both (SignMeets o (kindOf used x)) (Meets used x)) (Meets used (unary o x)) (made-sign o x) (taken-sign o x) (sign-exact o r (kindOf used x) (Meets used x) h)
+      exact-via (signSort o r) (signKind o) (Both (SignMeets o (expressionKind used x)) (Meets used x)) (Meets used (unary o x)) (made-sign o x) (taken-sign o x) (sign-exact o r (expressionKind used x) (Meets used x) h)
 
-  binary-exact : (o : Operator) (x y : Expression) (r t : Sort) → Exact r (kindOf used x) (Meets used x) → Exact t (kindOf used y) (Meets used y)
-      → Exact (sortOf o r t) (kindOf used (binary o x y)) (Meets used (binary o x y))
+  binary-exact : (o : Operator) (x y : Expression) (r t : Sort) → Exact r (expressionKind used x) (Meets used x) → Exact t (expressionKind used y) (Meets used y)
+      → Exact (operatorSort o r t) (expressionKind used (binary o x y)) (Meets used (binary o x y))
   binary-exact o x y r t h i =
-      exact-via (sortOf o r t) (operatorKind o) (Both (OperatorMeets o (kindOf used x) (kindOf used y)) (Both (Meets used x) (Meets used y))) (Meets used (binary o x y))
-      (made-operator o x y) (taken-operator o x y) (operator-exact o r t (kindOf used x) (kindOf used y) (Meets used x) (Meets used y) h i)
+      exact-via (operatorSort o r t) (operatorKind o) (Both (OperatorMeets o (expressionKind used x) (expressionKind used y)) (Both (Meets used x) (Meets used y))) (Meets used (binary o x y))
+      (made-operator o x y) (taken-operator o x y) (operator-exact o r t (expressionKind used x) (expressionKind used y) (Meets used x) (Meets used y) h i)
 
 -- ---- an expression
 
@@ -425,11 +423,11 @@ module _ (p : Piece) (used : Element → Value) where
   unfolding rowOutcome
   row-name r x y e = rw e
 
-  pub row-called : (r : Row) (x y : Outcome) → r .form ≡ 25 → rowOf r x y ≡ wrongLeaf 3
+  pub row-called : (r : Row) (x y : Outcome) → r .form ≡ 25 → rowOf r x y ≡ wrongLeaf state.unfolded
   unfolding rowOutcome
   row-called r x y e = rw e
 
-  pub row-attribute : (r : Row) (x y : Outcome) → r .form ≡ 26 → rowOf r x y ≡ wrongLeaf 3
+  pub row-attribute : (r : Row) (x y : Outcome) → r .form ≡ 26 → rowOf r x y ≡ wrongLeaf state.unfolded
   unfolding rowOutcome
   row-attribute r x y e = rw e
 
@@ -446,7 +444,7 @@ module _ (p : Piece) (used : Element → Value) where
   row-binary r o x y e q = rw (e, q)
 
   module _ (u : SoundUse late used) where
-    pub exact-in : {rs : List Row} {x : Expression} → Is p rs x → (f : ℕ) → length rs ≤ f → Exact (out f rs .sort) (kindOf used x) (Meets used x)
+    pub exact-in : {rs : List Row} {x : Expression} → Is p rs x → (f : ℕ) → length rs ≤ f → Exact (out f rs .sort) (expressionKind used x) (Meets used x)
     unfolding outcomeIn
     exact-in (is-name {r = r} {rs = rs} e) zero h = absurd (omega arith)
     exact-in (is-name {r = r} {rs = rs} e) (suc f) h = rw (row-name r (out f rs) (out f (behind rs)) e) (name-exact used (at p (r .first)) (u (at p (r .first))))
@@ -464,6 +462,6 @@ module _ (p : Piece) (used : Element → Value) where
         rw (row-binary r o (out f rs) (out f (behind rs)) e q)
         (binary-exact used o x y (out f rs .sort) (out f (behind rs) .sort) (exact-in i f (omega arith)) (exact-in j f (omega (arith, behind-less rs))))
 
-    pub valued-exact : (rs : List Row) (x : Expression) → Is p rs x → Exact (valued p used rs .sort) (kindOf used x) (Meets used x)
+    pub valued-exact : (rs : List Row) (x : Expression) → Is p rs x → Exact (valued p used rs .sort) (expressionKind used x) (Meets used x)
     unfolding valued
     valued-exact rs x i = exact-in i (length rs) (omega arith)

@@ -1,3 +1,6 @@
+pub mod Tables
+pub mod Named
+pub mod Cutting
 pub mod Records
 pub mod Good
 pub mod Sound
@@ -15,9 +18,13 @@ pub mod Least
 pub mod Later
 pub mod Folding
 pub mod Counted
+pub mod Readings
 pub mod Begins
+pub mod Directions
 pub mod Shaped
 pub mod Made
 pub mod Promises
 pub mod Comes
+pub mod Trees
 pub mod Together
+pub mod Claimed

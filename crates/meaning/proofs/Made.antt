@@ -17,15 +17,16 @@ use Rattle.folding.specs.declared.Operator.the-variants as O
 use Rattle.folding.specs.declared.Sort.{Sort}
 use Rattle.folding.specs.declared.Sort.the-variants as S
 use Rattle.folding.specs.declared.Outcome.{Outcome}
-use Rattle.folding.specs.Outcomes.{sortOf, settle}
+use Rattle.folding.specs.Outcomes.{operatorSort, settle}
 use Rattle.marks.specs.Marks.{markSort, valueIn, constantOf, subtypeOf, boundsIn, rangedOf}
 use Rattle.marks.proofs.Sound.{late, Sound}
-use Rattle.folds.specs.Expressions.{behind}
+use Rattle.expressions.specs.Expressions.{behind}
 use Rattle.values.specs.declared.Value.{Value}
 use Rattle.values.specs.declared.Value.the-variants.{Number, Truth, Range, Truths, Without}
-use Rattle.worded.specs.Elements.{Element, Piece}
+use Rattle.integers.specs.declared.Kind.the-variants as K
+use Rattle.meaning.specs.Elements.{Element, Piece}
 use Rattle.meaning.specs.Forms.{Expression, Is, Item, constant, subtype, ranged}
-use Rattle.meaning.specs.States.{Kind, integer, truth, neither, kindOf, Meets, markOf, Least, NoneMet}
+use Rattle.meaning.specs.States.{Kind, integer, truth, neither, expressionKind, Meets, markOf, Least, NoneMet}
 use Rattle.meaning.specs.States.{ItemMeets, mark-without, number-as-type, truth-as-type, value, truth-in-range, integer-in-boolean, range-on-boolean, first, first-truth, second, second-truth}
 use Rattle.meaning.specs.Values.{Folds, Gives, value-stops, first-stops, second-stops, number-held, truth-held, same-range, boolean, upward, downward}
 use Rattle.meaning.specs.Items.{valued}
@@ -68,8 +69,8 @@ mark-exact (Without s) h = (one-least s, h .1)
 
 -- an expression whose sort is no state is settled by its value
 settled : (r : Sort) (k : Kind) (M : ℕ → Type 0) (f : Folded) → Exact r k M → NoneMet M → settle r f ≡ f
-settled S.Number k M f h n = refl
-settled S.Boolean k M f h n = refl
+settled (S.Of K.Integer) k M f h n = refl
+settled (S.Of K.Truth) k M f h n = refl
 settled (S.Wrong s) k M f h n = absurd (n s (h .0 .0))
 
 module _ (used : Element → Value) where
@@ -122,23 +123,23 @@ module _ (used : Element → Value) where
     -- ---- constant N : mark := expression
 
     module _ (m : Element) (x : Expression) where
-      mixed-made : (s : ℕ) (v : Value) → used m ≡ v → Among s (mixed (markKind v) (kindOf used x)) → ItemMeets used (constant m x) s
+      mixed-made : (s : ℕ) (v : Value) → used m ≡ v → Among s (mixed (markKind v) (expressionKind used x)) → ItemMeets used (constant m x) s
       mixed-made s (Number z) e h = absurd h
       mixed-made s (Truth t) e h = absurd h
       mixed-made s (Without t) e h = absurd h
-      mixed-made s (Range low high) e h = let q = mixed-of integer (kindOf used x) s h in subst (ItemMeets used (constant m x)) (sym (q .1)) (by (q .0))
+      mixed-made s (Range low high) e h = let q = mixed-of integer (expressionKind used x) s h in subst (ItemMeets used (constant m x)) (sym (q .1)) (by (q .0))
         where
-          by : ((integer ≡ integer) × (kindOf used x ≡ truth)) ⊎ ((integer ≡ truth) × (kindOf used x ≡ integer)) → ItemMeets used (constant m x) 6
+          by : ((integer ≡ integer) × (expressionKind used x ≡ truth)) ⊎ ((integer ≡ truth) × (expressionKind used x ≡ integer)) → ItemMeets used (constant m x) 6
           by (inl a) = truth-in-range e (a .1)
           by (inr a) = let b = a .0 in let z : _≡_ {A = ℕ} 0 1 = cc in clash z
-      mixed-made s Truths e h = let q = mixed-of truth (kindOf used x) s h in subst (ItemMeets used (constant m x)) (sym (q .1)) (by (q .0))
+      mixed-made s Truths e h = let q = mixed-of truth (expressionKind used x) s h in subst (ItemMeets used (constant m x)) (sym (q .1)) (by (q .0))
         where
-          by : ((truth ≡ integer) × (kindOf used x ≡ truth)) ⊎ ((truth ≡ truth) × (kindOf used x ≡ integer)) → ItemMeets used (constant m x) 6
+          by : ((truth ≡ integer) × (expressionKind used x ≡ truth)) ⊎ ((truth ≡ truth) × (expressionKind used x ≡ integer)) → ItemMeets used (constant m x) 6
           by (inl a) = let b = a .0 in let z : _≡_ {A = ℕ} 0 1 = cc in clash z
           by (inr a) = integer-in-boolean e (a .1)
 
       abbrev Constant : ℕ → Type 0
-      Constant s = Among s (mixed (markKind (used m)) (kindOf used x)) ⊎ (Among s (markStates (used m)) ⊎ Meets used x s)
+      Constant s = Among s (mixed (markKind (used m)) (expressionKind used x)) ⊎ (Among s (markStates (used m)) ⊎ Meets used x s)
 
       constant-there : (s : ℕ) → Constant s → ItemMeets used (constant m x) s
       constant-there s (inl a) = mixed-made s (used m) refl a
@@ -150,26 +151,26 @@ module _ (used : Element → Value) where
       constant-back s (number-as-type {z = z} e) = inr (inl (mark-taken m s (Number z) e (inl refl)))
       constant-back s (truth-as-type {t = t} e) = inr (inl (mark-taken m s (Truth t) e (inl refl)))
       constant-back s (value h) = inr (inr h)
-      constant-back s (truth-in-range {low = low} {high = high} e q) = inl (six-taken m (Range low high) (kindOf used x) e (mixed-met integer (kindOf used x) integer truth (inl refl) refl q))
-      constant-back s (integer-in-boolean e q) = inl (six-taken m Truths (kindOf used x) e (mixed-met truth (kindOf used x) truth integer (inl refl) refl q))
+      constant-back s (truth-in-range {low = low} {high = high} e q) = inl (six-taken m (Range low high) (expressionKind used x) e (mixed-met integer (expressionKind used x) integer truth (inl refl) refl q))
+      constant-back s (integer-in-boolean e q) = inl (six-taken m Truths (expressionKind used x) e (mixed-met truth (expressionKind used x) truth integer (inl refl) refl q))
 
       module _ (rs : List Row) (is : Is p rs x) where
         abbrev folded : Folded
         folded = valued p used rs .folded
 
         abbrev sortHere : Sort
-        sortHere = sortOf (O.Relation Equal) (markSort (used m)) (valued p used rs .sort)
+        sortHere = operatorSort (O.Relation Equal) (markSort (used m)) (valued p used rs .sort)
 
         constant-exact : Exact sortHere truth (ItemMeets used (constant m x))
         constant-exact =
             exact-via sortHere truth Constant (ItemMeets used (constant m x)) constant-there constant-back
-            (operator-exact (O.Relation Equal) (markSort (used m)) (valued p used rs .sort) (markKind (used m)) (kindOf used x) (λ s. Among s (markStates (used m))) (Meets used x) (mark-exact (used m) (sound m)) (valued-exact p used sound rs x is))
+            (operator-exact (O.Relation Equal) (markSort (used m)) (valued p used rs .sort) (markKind (used m)) (expressionKind used x) (λ s. Among s (markStates (used m))) (Meets used x) (mark-exact (used m) (sound m)) (valued-exact p used sound rs x is))
 
         constant-value : NoneMet (ItemMeets used (constant m x)) → constantOf (used m) (valued p used rs) ≡ valueIn (used m) folded
         unfolding constantOf
         constant-value n = ap (valueIn (used m)) (settled sortHere truth (ItemMeets used (constant m x)) folded constant-exact n)
 
-        constant-gives : NoneMet (ItemMeets used (constant m x)) → (v : Value) (f : Folded) → used m ≡ v → Folds used x f → OfKind p used (kindOf used x) f → Gives used (constant m x) (valueIn v f)
+        constant-gives : NoneMet (ItemMeets used (constant m x)) → (v : Value) (f : Folded) → used m ≡ v → Folds used x f → OfKind p used (expressionKind used x) f → Gives used (constant m x) (valueIn v f)
         constant-gives n (Number z) f e d k = absurd (n 6 (number-as-type e))
         constant-gives n (Truth t) f e d k = absurd (n 6 (truth-as-type e))
         constant-gives n (Range low high) (F.Whole z) e d k = number-held e d
@@ -213,7 +214,7 @@ module _ (used : Element → Value) where
       It = ranged m x down y
 
       abbrev Bounds : ℕ → Type 0
-      Bounds s = (Among s (noTruth (kindOf used x)) ⊎ Among s (noTruth (kindOf used y))) ⊎ (Meets used x s ⊎ Meets used y s)
+      Bounds s = (Among s (noTruth (expressionKind used x)) ⊎ Among s (noTruth (expressionKind used y))) ⊎ (Meets used x s ⊎ Meets used y s)
 
       abbrev Sum : ℕ → Type 0
       Sum s = (Among s (noTruth (markKind (used m))) ⊎ ⊥) ⊎ (Among s (markStates (used m)) ⊎ Bounds s)
@@ -230,8 +231,8 @@ module _ (used : Element → Value) where
       ranged-there s (inl (inl a)) = boolean-made s (used m) refl a
       ranged-there s (inl (inr a)) = absurd a
       ranged-there s (inr (inl a)) = mark-met It s (used m) refl a
-      ranged-there s (inr (inr (inl (inl a)))) = let q = truth-of (kindOf used x) s a in subst (ItemMeets used It) (sym (q .1)) (first-truth (q .0))
-      ranged-there s (inr (inr (inl (inr a)))) = let q = truth-of (kindOf used y) s a in subst (ItemMeets used It) (sym (q .1)) (second-truth (q .0))
+      ranged-there s (inr (inr (inl (inl a)))) = let q = truth-of (expressionKind used x) s a in subst (ItemMeets used It) (sym (q .1)) (first-truth (q .0))
+      ranged-there s (inr (inr (inl (inr a)))) = let q = truth-of (expressionKind used y) s a in subst (ItemMeets used It) (sym (q .1)) (second-truth (q .0))
       ranged-there s (inr (inr (inr (inl a)))) = first a
       ranged-there s (inr (inr (inr (inr a)))) = second a
 
@@ -241,9 +242,9 @@ module _ (used : Element → Value) where
       ranged-back s (truth-as-type {t = t} e) = inr (inl (mark-taken m s (Truth t) e (inl refl)))
       ranged-back s (range-on-boolean e) = inl (inl (subst (λ (v : Value). Among 6 (noTruth (markKind v))) (sym e) (inl refl)))
       ranged-back s (first a) = inr (inr (inr (inl a)))
-      ranged-back s (first-truth e) = inr (inr (inl (inl (truth-met (kindOf used x) e))))
+      ranged-back s (first-truth e) = inr (inr (inl (inl (truth-met (expressionKind used x) e))))
       ranged-back s (second a) = inr (inr (inr (inr a)))
-      ranged-back s (second-truth e) = inr (inr (inl (inr (truth-met (kindOf used y) e))))
+      ranged-back s (second-truth e) = inr (inr (inl (inr (truth-met (expressionKind used y) e))))
 
       module _ (rs : List Row) (is : Is p rs x) (js : Is p (behind rs) y) where
         abbrev a : Outcome
@@ -253,19 +254,19 @@ module _ (used : Element → Value) where
         b = valued p used (behind rs)
 
         abbrev sortThere : Sort
-        sortThere = sortOf (O.Arithmetic Add) (markSort (used m)) (sortOf (O.Arithmetic Add) (a .sort) (b .sort))
+        sortThere = operatorSort (O.Arithmetic Add) (markSort (used m)) (operatorSort (O.Arithmetic Add) (a .sort) (b .sort))
 
         ranged-exact : Exact sortThere integer (ItemMeets used It)
         ranged-exact =
             exact-via sortThere integer Sum (ItemMeets used It) ranged-there ranged-back
-            (operator-exact (O.Arithmetic Add) (markSort (used m)) (sortOf (O.Arithmetic Add) (a .sort) (b .sort)) (markKind (used m)) integer (λ s. Among s (markStates (used m))) Bounds (mark-exact (used m) (sound m))
-            (operator-exact (O.Arithmetic Add) (a .sort) (b .sort) (kindOf used x) (kindOf used y) (Meets used x) (Meets used y) (valued-exact p used sound rs x is) (valued-exact p used sound (behind rs) y js)))
+            (operator-exact (O.Arithmetic Add) (markSort (used m)) (operatorSort (O.Arithmetic Add) (a .sort) (b .sort)) (markKind (used m)) integer (λ s. Among s (markStates (used m))) Bounds (mark-exact (used m) (sound m))
+            (operator-exact (O.Arithmetic Add) (a .sort) (b .sort) (expressionKind used x) (expressionKind used y) (Meets used x) (Meets used y) (valued-exact p used sound rs x is) (valued-exact p used sound (behind rs) y js)))
 
         ranged-value : NoneMet (ItemMeets used It) → rangedOf (used m) a b down ≡ boundsIn (used m) down (a .folded) (b .folded)
         unfolding rangedOf
         ranged-value n = ap (λ (f : Folded). boundsIn (used m) down f (b .folded)) (settled sortThere integer (ItemMeets used It) (a .folded) ranged-exact n)
 
-        ranged-gives : NoneMet (ItemMeets used It) → (v : Value) (f g : Folded) → used m ≡ v → Folds used x f → OfKind p used (kindOf used x) f → Folds used y g → OfKind p used (kindOf used y) g
+        ranged-gives : NoneMet (ItemMeets used It) → (v : Value) (f g : Folded) → used m ≡ v → Folds used x f → OfKind p used (expressionKind used x) f → Folds used y g → OfKind p used (expressionKind used y) g
             → (d : Bool) → down ≡ d → Gives used (ranged m x d y) (boundsIn v d f g)
         ranged-gives n v (F.Truth t) g e c k i l d q = absurd (n 6 (first-truth k))
         ranged-gives n v (F.Stopped s) g e c k i l d q = first-stops c

@@ -8,9 +8,9 @@ use borrow.Author.Tests.{ltb-true, ltb-false}
 use lib.Dec.{ltb}
 use lib.ListN.{length, take, drop, replicate, length-append, length-replicate, take-append-drop, List·getD-eq-default}
 use lib.Seq.{take-at, drop-at}
-use Rattle.reading.specs.Rows.{Row, rowsOf}
-use Rattle.reading.specs.Table.{cells}
-use Rattle.reading.proofs.TableLaws.{length-cells}
+use Rattle.element_reading.specs.Rows.{Row, rowsOf}
+use Rattle.element_reading.specs.Table.{cells}
+use Rattle.element_reading.proofs.TableLaws.{length-cells}
 use Rattle.places.specs.Places.{kindsOf}
 use Rattle.pieces.specs.Kinds as by-kinds
 use Rattle.records.specs.Records.{wordAt}
@@ -19,12 +19,13 @@ use Rattle.tree.specs.Answers.{wordsOf}
 use Rattle.tree.specs.Items.{rowsOfPiece, pieceWords, itemsIn, itemRows}
 use Rattle.tree.proofs.Items as by-rows
 use Rattle.tree.proofs.Items.{item-rows-at, item-rows-size}
-use Rattle.folds.specs.Folds.{elementIn, literalAt, kindIn}
-use Rattle.items.specs.Items.{heldIn, rowsHeld, goesDownIn}
+use Rattle.expressions.specs.Folds.{elementIn, literalAt, kindInPiece}
+use Rattle.items.specs.code.Items.{rowsUntil, rowsHeld, goesDownIn}
 use Rattle.pieces.specs.Kinds.{anyDown}
-use Rattle.worded.specs.Elements.{Element, Piece, nothing, at, kinds, elementsOf, piecesOf}
-use Rattle.worded.proofs.Tables.{element-at, kinds-of, elementAt}
-use Rattle.worded.proofs.Cutting.{kindsEach, cut-kinds, joinAll, total, cut-joins, at-piece, total-append, total-joins, kinds-length}
+use Rattle.pieces.specs.Columns as column
+use Rattle.meaning.specs.Elements.{Element, Piece, nothing, at, kinds, elementsOf, piecesOf}
+use Rattle.meaning.proofs.Tables.{element-at, kinds-of, elementAt}
+use Rattle.meaning.proofs.Cutting.{kindsEach, cut-kinds, joinAll, total, cut-joins, at-piece, total-append, total-joins, kinds-length}
 use Rattle.meaning.proofs.Rows.{held-piece}
 
 -- the element table of a text, and its elements
@@ -74,7 +75,7 @@ kinds-more text (r ∷ rs) m l =
     let e : suc (length rs) + m ≡ suc (length rs + m) = omega arith in
     rw (e, kinds-more text rs m l)
 
--- a piece of a text, those before it and those behind it
+-- a piece of a text, those before it and those after it
 module _ (s : List ℕ) (z : ℕ) (before after : List Piece) (p : Piece) (split : before ++ p ∷ after ≡ piecesOf s) where
   joined : joinAll (before ++ p ∷ after) ≡ elements s
   unfolding piecesOf
@@ -124,7 +125,7 @@ module _ (s : List ℕ) (z : ℕ) (before after : List Piece) (p : Piece) (split
     piece-rows =
         rw (← kinds-length p, ← each-total before) (item-rows-at (tableOf s z) count 40960 (kindsEach before) (kindsEach after) (kinds p) pieces-read)
 
-    -- and what stands behind them
+    -- and what stands after them
     abbrev pub behindRows : List ℕ
     behindRows = replicate (5 * length (kinds p) - 5 * length (rowsOfPiece (kinds p))) 0 ++ drop (5 * length p) (drop (5 * total before) (itemRows (tableOf s z) count 40960))
 
@@ -140,14 +141,14 @@ module _ (s : List ℕ) (z : ℕ) (before after : List Piece) (p : Piece) (split
     rows-room : min (length p) (length (itemRows (tableOf s z) count 40960) / 5 - total before) ≡ length p
     rows-room = omega (arith, item-rows-size (tableOf s z) count 40960, piece-within)
 
-    pub rows-held : (items : List ℕ) (i : ℕ) → wordAt items i 1 ≡ total before → wordAt items i 2 ≡ length p → rowsHeld (itemRows (tableOf s z) count 40960) items i ≡ length (rowsOfPiece (kinds p))
+    pub rows-held : (items : List ℕ) (i : ℕ) → wordAt items i column.first ≡ total before → wordAt items i column.count ≡ length p → rowsHeld (itemRows (tableOf s z) count 40960) items i ≡ length (rowsOfPiece (kinds p))
     unfolding rowsHeld
     rows-held items i w1 w2 =
         let l : List ℕ = drop (5 * length p) (drop (5 * total before) (itemRows (tableOf s z) count 40960)) in
-        rw (w1, w2, rows-room, words-here) (ap (λ (k : ℕ). heldIn k (pieceWords (kinds p) ++ l)) (sym (kinds-length p)) ∙ held-piece (kinds p) l)
+        rw (w1, w2, rows-room, words-here) (ap (λ (k : ℕ). rowsUntil k (pieceWords (kinds p) ++ l)) (sym (kinds-length p)) ∙ held-piece (kinds p) l)
 
   -- the piece's record in an item table
-  module _ (items : List ℕ) (i : ℕ) (w1 : wordAt items i 1 ≡ total before) (w2 : wordAt items i 2 ≡ length p) where
+  module _ (items : List ℕ) (i : ℕ) (w1 : wordAt items i column.first ≡ total before) (w2 : wordAt items i column.count ≡ length p) where
     pub goes-down : goesDownIn (tableOf s z) items i ≡ anyDown (kinds p)
     unfolding goesDownIn
     goes-down = rw (w1, w2) (ap anyDown piece-kinds)
@@ -169,8 +170,8 @@ module _ (s : List ℕ) (z : ℕ) (before after : List Piece) (p : Piece) (split
     element-here : (j : ℕ) → elementAt s (tableOf s z) (elementIn (tableOf s z) items i j) ≡ at p j
     element-here j = element-at s (rowsOf s) z (elementIn (tableOf s z) items i j) ∙ piece-element j
 
-    pub kind-in : (j : ℕ) → kindIn (tableOf s z) items i j ≡ at p j .kind
-    unfolding kindIn elementAt
+    pub kind-in : (j : ℕ) → kindInPiece (tableOf s z) items i j ≡ at p j .kind
+    unfolding kindInPiece elementAt
     kind-in j = ap (λ (x : Element). x .kind) (element-here j)
 
     pub literal-at : (j : ℕ) → literalAt s (tableOf s z) items i j ≡ literalBy (at p j .kind) (at p j .bytes)

@@ -16,7 +16,7 @@ use Rattle.tree.proofs.Items.{Rows, constant-rows, subtype-rows, other-rows}
 use Rattle.values.specs.Words.{stateOf}
 use Rattle.values.specs.declared.Value.{Value}
 use Rattle.values.specs.declared.Value.the-variants.{Number, Truth, Range, Truths, Without}
-use Rattle.worded.specs.Elements.{Piece, at, kinds}
+use Rattle.meaning.specs.Elements.{Piece, at, kinds}
 use Rattle.meaning.specs.Names.{classOf, ownDoubled, Done, useOf}
 use Rattle.meaning.specs.Forms.{Item, HasForm, is-constant, is-subtype, is-ranged}
 use Rattle.meaning.specs.Items.{formed, unlessDoubled, valueOf}
@@ -24,7 +24,8 @@ use Rattle.meaning.specs.Promises.{Fits, BrokenExactly, DoubledExactly, 
 use Rattle.marks.proofs.Sound.{Between}
 use Rattle.meaning.proofs.States.{Late, marked-late}
 use Rattle.meaning.proofs.Counted.{all-counted-by}
-use Rattle.meaning.proofs.Begins.{constant-begins, subtype-begins}
+use Rattle.meaning.proofs.Readings.{constant-reading, subtype-reading}
+use Rattle.meaning.proofs.Begins.{constant-tree-begins, subtype-tree-begins}
 use Rattle.meaning.proofs.Shaped.{constant-form, subtype-form}
 
 -- ---- the rows of a piece
@@ -43,27 +44,27 @@ abbrev pub Ways : Piece → Type 0
 Ways p = ((rowsOfPiece (kinds p) ≡ []) × (Fits p → ⊥)) ⊎ (Fits p × HasRows p)
 
 pub form-class : (p : Piece) (i : Item) → HasForm p i → ((at p 0 .kind ≡ 53) × (classOf p ≡ 3)) ⊎ ((at p 0 .kind ≡ 129) × (classOf p ≡ 4))
-form-class p i (is-constant (s, (r, e)) x) = let b = constant-begins p s r in inl (b .first, b .classed)
-form-class p i (is-subtype (s, (r, e))) = let b = subtype-begins p s r in inr (b .first, b .classed)
-form-class p i (is-ranged (s, (r, e)) x y) = let b = subtype-begins p s r in inr (b .first, b .classed)
+form-class p i (is-constant t x) = let b = constant-tree-begins p _ t in inl (b .first, b .classed)
+form-class p i (is-subtype t) = let b = subtype-tree-begins p _ t in inr (b .first, b .classed)
+form-class p i (is-ranged t g x y) = let b = subtype-tree-begins p _ t in inr (b .first, b .classed)
 
 module _ (p : Piece) where
   constant-ways : getD (kinds p) 0 0 ≡ 53 → Rows constant 4 (kinds p) → Ways p
   constant-ways e (inl h) = inl (h .0, λ f. none (f .0) (f .1))
     where
       none : (i : Item) → HasForm p i → ⊥
-      none i (is-constant (s, (r, q)) x) = h .1 unlike s r
-      none i (is-subtype (s, (r, q))) = absurd (omega (arith, e, first-kind p, subtype-begins p s r .first))
-      none i (is-ranged (s, (r, q)) x y) = absurd (omega (arith, e, first-kind p, subtype-begins p s r .first))
+      none i (is-constant t x) = let r = constant-reading p _ .0 t in h .1 unlike (r .0) (r .1 .0)
+      none i (is-subtype t) = absurd (omega (arith, e, first-kind p, subtype-tree-begins p _ t .first))
+      none i (is-ranged t g x y) = absurd (omega (arith, e, first-kind p, subtype-tree-begins p _ t .first))
   constant-ways e (inr (m, (q, (s, (r, t))))) = inr (constant-form p s r, (_, (_, (m, q))))
 
   subtype-ways : getD (kinds p) 0 0 ≡ 129 → Rows subtype 5 (kinds p) → Ways p
   subtype-ways e (inl h) = inl (h .0, λ f. none (f .0) (f .1))
     where
       none : (i : Item) → HasForm p i → ⊥
-      none i (is-constant (s, (r, q)) x) = absurd (omega (arith, e, first-kind p, constant-begins p s r .first))
-      none i (is-subtype (s, (r, q))) = h .1 unlike s r
-      none i (is-ranged (s, (r, q)) x y) = h .1 unlike s r
+      none i (is-constant t x) = absurd (omega (arith, e, first-kind p, constant-tree-begins p _ t .first))
+      none i (is-subtype t) = let r = subtype-reading p _ .0 t in h .1 unlike (r .0) (r .1 .0)
+      none i (is-ranged t g x y) = let r = subtype-reading p _ .0 t in h .1 unlike (r .0) (r .1 .0)
   subtype-ways e (inr (m, (q, (s, (r, t))))) = inr (subtype-form p s r, (_, (_, (m, q))))
 
   pub ways : Ways p

@@ -15,10 +15,12 @@ use Rattle.records.specs.Records.{wordAt, isItem}
 use Rattle.values.specs.declared.Value.{Value}
 use Rattle.values.specs.declared.Value.the-variants.{Without}
 use Rattle.values.specs.Words.{valueWords}
-use Rattle.worded.specs.Elements.{Piece, kinds}
-use Rattle.worded.proofs.Cutting.{kindsEach, total, kinds-length}
+use Rattle.pieces.specs.Columns.{recordWords}
+use Rattle.pieces.specs.Columns as column
+use Rattle.meaning.specs.Elements.{Piece, kinds}
+use Rattle.meaning.proofs.Cutting.{kindsEach, total, kinds-length}
 use Rattle.meaning.specs.Names.{Done, classOf}
-use Rattle.meaning.specs.Items.{itemWords, recordOf, recordsFrom}
+use Rattle.meaning.specs.Items.{itemValueWords, recordOf, recordsFrom}
 
 -- a piece that waits: the four last words of its record are zeros
 abbrev pub pending : Piece → Done
@@ -47,15 +49,15 @@ unfolding piecesDone
 pieces-length [] = refl
 pieces-length (d ∷ ds) = ap suc (pieces-length ds)
 
-words-four : (b : Bool) (v : Value) → length (itemWords b v) ≡ 4
+words-four : (b : Bool) (v : Value) → length (itemValueWords b v) ≡ 4
 words-four true v = refl
 words-four false v = refl
 
-pub record-length : (from : ℕ) (d : Done) → length (recordOf from d) ≡ 8
+pub record-length : (from : ℕ) (d : Done) → length (recordOf from d) ≡ recordWords
 unfolding recordOf
 record-length from d = omega (arith, words-four (isItem (markOf (kinds (d .piece)) .class)) (d .value))
 
-pub records-length : (from : ℕ) (ds : List Done) → length (recordsFrom from ds) ≡ 8 * length ds
+pub records-length : (from : ℕ) (ds : List Done) → length (recordsFrom from ds) ≡ recordWords * length ds
 unfolding recordsFrom
 records-length from [] = refl
 records-length from (d ∷ ds) =
@@ -98,34 +100,34 @@ pub word-at-record : (ds es : List Done) (d : Done) (rest : List ℕ) (j : ℕ) 
     → wordAt (recordsFrom 0 (ds ++ d ∷ es) ++ rest) (length ds) j ≡ getD (recordOf (total (piecesDone ds)) d) j 0
 unfolding wordAt
 word-at-record ds es d rest j h =
-    let a : 8 * length ds + 8 ≤ length (recordsFrom 0 (ds ++ d ∷ es) ++ rest) = omega (arith, ap length (split ds es d rest), length-append (recordsFrom 0 ds) (recordOf (0 + total (piecesDone ds)) d ++ (recordsFrom (0 + total (piecesDone ds) + length (d .piece)) es ++ rest)), length-append (recordOf (0 + total (piecesDone ds)) d) (recordsFrom (0 + total (piecesDone ds) + length (d .piece)) es ++ rest), records-length 0 ds, record-length (0 + total (piecesDone ds)) d) in
+    let a : recordWords * length ds + recordWords ≤ length (recordsFrom 0 (ds ++ d ∷ es) ++ rest) = omega (arith, ap length (split ds es d rest), length-append (recordsFrom 0 ds) (recordOf (0 + total (piecesDone ds)) d ++ (recordsFrom (0 + total (piecesDone ds) + length (d .piece)) es ++ rest)), length-append (recordOf (0 + total (piecesDone ds)) d) (recordsFrom (0 + total (piecesDone ds) + length (d .piece)) es ++ rest), records-length 0 ds, record-length (0 + total (piecesDone ds)) d) in
     let z : 0 + total (piecesDone ds) ≡ total (piecesDone ds) = omega arith in
-    rw (lt-ltb j 8 (omega arith), lt-ltb (length ds) (length (recordsFrom 0 (ds ++ d ∷ es) ++ rest) / 8) (omega arith))
-    (ap (λ (l : List ℕ). getD l (8 * length ds + j) 0) (split ds es d rest)
-    ∙ getD-behind (recordsFrom 0 ds) (recordOf (0 + total (piecesDone ds)) d ++ (recordsFrom (0 + total (piecesDone ds) + length (d .piece)) es ++ rest)) j (8 * length ds + j) (omega (arith, records-length 0 ds))
+    rw (lt-ltb j recordWords (omega arith), lt-ltb (length ds) (length (recordsFrom 0 (ds ++ d ∷ es) ++ rest) / recordWords) (omega arith))
+    (ap (λ (l : List ℕ). getD l (recordWords * length ds + j) 0) (split ds es d rest)
+    ∙ getD-behind (recordsFrom 0 ds) (recordOf (0 + total (piecesDone ds)) d ++ (recordsFrom (0 + total (piecesDone ds) + length (d .piece)) es ++ rest)) j (recordWords * length ds + j) (omega (arith, records-length 0 ds))
     ∙ getD-front (recordOf (0 + total (piecesDone ds)) d) (recordsFrom (0 + total (piecesDone ds) + length (d .piece)) es ++ rest) j (omega (arith, record-length (0 + total (piecesDone ds)) d))
     ∙ ap (λ (n : ℕ). getD (recordOf n d) j 0) z)
 
 -- past the last record there are zeros
 pub word-past : (ds : List Done) (y i j : ℕ) → length ds ≤ i → wordAt (recordsFrom 0 ds ++ replicate y 0) i j ≡ 0
 unfolding wordAt
-word-past ds y i j h = go (ltb j 8 && ltb i (length (recordsFrom 0 ds ++ replicate y 0) / 8))
+word-past ds y i j h = go (ltb j recordWords && ltb i (length (recordsFrom 0 ds ++ replicate y 0) / recordWords))
   where
-    go : (b : Bool) → cond b (getD (recordsFrom 0 ds ++ replicate y 0) (8 * i + j) 0) 0 ≡ 0
+    go : (b : Bool) → cond b (getD (recordsFrom 0 ds ++ replicate y 0) (recordWords * i + j) 0) 0 ≡ 0
     go true =
-        let e : 8 * i + j ≡ length (recordsFrom 0 ds) + (8 * i + j - 8 * length ds) = omega (arith, records-length 0 ds) in
-        getD-behind (recordsFrom 0 ds) (replicate y 0) (8 * i + j - 8 * length ds) (8 * i + j) e ∙ zeros-at y (8 * i + j - 8 * length ds)
+        let e : recordWords * i + j ≡ length (recordsFrom 0 ds) + (recordWords * i + j - recordWords * length ds) = omega (arith, records-length 0 ds) in
+        getD-behind (recordsFrom 0 ds) (replicate y 0) (recordWords * i + j - recordWords * length ds) (recordWords * i + j) e ∙ zeros-at y (recordWords * i + j - recordWords * length ds)
     go false = refl
 
 -- what marking the pieces leaves
-pub marked-records : (from : ℕ) (ps : List Piece) → marks.recordsFrom from (kindsEach ps) ≡ recordsFrom from (pendings ps)
-unfolding marks.recordsFrom marks.recordOf recordsFrom recordOf pendings kindsEach
+pub marked-records : (from : ℕ) (ps : List Piece) → marks.pendingRecords from (kindsEach ps) ≡ recordsFrom from (pendings ps)
+unfolding marks.pendingRecords marks.pendingRecord recordsFrom recordOf pendings kindsEach
 marked-records from [] = refl
 marked-records from (p ∷ ps) =
-    ap (λ (n : ℕ). (markOf (kinds p) .class ∷ from ∷ n ∷ marks.nameOf from (markOf (kinds p) .place) ∷ 0 ∷ 0 ∷ 0 ∷ 0 ∷ []) ++ marks.recordsFrom (from + n) (kindsEach ps)) (kinds-length p)
+    ap (λ (n : ℕ). (markOf (kinds p) .class ∷ from ∷ n ∷ marks.nameOf from (markOf (kinds p) .place) ∷ 0 ∷ 0 ∷ 0 ∷ 0 ∷ []) ++ marks.pendingRecords (from + n) (kindsEach ps)) (kinds-length p)
     ∙ ap₂ (λ (a b : List ℕ). (markOf (kinds p) .class ∷ from ∷ length p ∷ marks.nameOf from (markOf (kinds p) .place) ∷ a) ++ b) (waits (isItem (markOf (kinds p) .class))) (marked-records (from + length p) ps)
   where
-    waits : (b : Bool) → _≡_ {A = List ℕ} (0 ∷ 0 ∷ 0 ∷ 0 ∷ []) (itemWords b (Without 0))
+    waits : (b : Bool) → _≡_ {A = List ℕ} (0 ∷ 0 ∷ 0 ∷ 0 ∷ []) (itemValueWords b (Without 0))
     waits true = refl
     waits false = refl
 
@@ -142,8 +144,8 @@ module _ (ds es : List Done) (p : Piece) (v : Value) (rest : List ℕ) where
       ∙ sym (split ds es done rest)
     where
       same : (b : Bool) → b ≡ false
-          → _≡_ {A = List ℕ} (classOf p ∷ (0 + total (piecesDone ds)) ∷ length p ∷ marks.nameOf (0 + total (piecesDone ds)) (markOf (kinds p) .place) ∷ itemWords b (Without 0))
-          (classOf p ∷ (0 + total (piecesDone ds)) ∷ length p ∷ marks.nameOf (0 + total (piecesDone ds)) (markOf (kinds p) .place) ∷ itemWords b v)
+          → _≡_ {A = List ℕ} (classOf p ∷ (0 + total (piecesDone ds)) ∷ length p ∷ marks.nameOf (0 + total (piecesDone ds)) (markOf (kinds p) .place) ∷ itemValueWords b (Without 0))
+          (classOf p ∷ (0 + total (piecesDone ds)) ∷ length p ∷ marks.nameOf (0 + total (piecesDone ds)) (markOf (kinds p) .place) ∷ itemValueWords b v)
       same true e = let z : _≡_ {A = ℕ} 0 1 = cc in absurd (omega arith)
       same false e = refl
 
@@ -157,16 +159,16 @@ module _ (ds es : List Done) (p : Piece) (v : Value) (rest : List ℕ) where
       set-behind (x ∷ l) m i zero w e = absurd (omega arith)
       set-behind (x ∷ l) m i (suc k) w e = ap (λ (n : List ℕ). x ∷ n) (set-behind l m i k w (omega arith))
 
-  pub complete-record : isItem (classOf p) ≡ true → sets (recordsFrom 0 (ds ++ pending p ∷ es) ++ rest) (8 * length ds + 4) (valueWords v) ≡ recordsFrom 0 (ds ++ done ∷ es) ++ rest
+  pub complete-record : isItem (classOf p) ≡ true → sets (recordsFrom 0 (ds ++ pending p ∷ es) ++ rest) (recordWords * length ds + column.state) (valueWords v) ≡ recordsFrom 0 (ds ++ done ∷ es) ++ rest
   unfolding recordOf
   complete-record h =
-      ap (λ (l : List ℕ). sets l (8 * length ds + 4) (valueWords v)) (split ds es (pending p) rest)
-      ∙ sets-behind (recordsFrom 0 ds) (recordOf (0 + total (piecesDone ds)) (pending p) ++ (recordsFrom (0 + total (piecesDone ds) + length p) es ++ rest)) (valueWords v) 4 (8 * length ds + 4) (omega (arith, records-length 0 ds))
+      ap (λ (l : List ℕ). sets l (recordWords * length ds + column.state) (valueWords v)) (split ds es (pending p) rest)
+      ∙ sets-behind (recordsFrom 0 ds) (recordOf (0 + total (piecesDone ds)) (pending p) ++ (recordsFrom (0 + total (piecesDone ds) + length p) es ++ rest)) (valueWords v) 4 (recordWords * length ds + column.state) (omega (arith, records-length 0 ds))
       ∙ ap (λ (l : List ℕ). recordsFrom 0 ds ++ l) (filled (isItem (classOf p)) h (recordsFrom (0 + total (piecesDone ds) + length p) es ++ rest))
       ∙ sym (split ds es done rest)
     where
       filled : (b : Bool) → b ≡ true → (l : List ℕ)
-          → _≡_ {A = List ℕ} (sets ((classOf p ∷ (0 + total (piecesDone ds)) ∷ length p ∷ marks.nameOf (0 + total (piecesDone ds)) (markOf (kinds p) .place) ∷ itemWords b (Without 0)) ++ l) 4 (valueWords v))
-          ((classOf p ∷ (0 + total (piecesDone ds)) ∷ length p ∷ marks.nameOf (0 + total (piecesDone ds)) (markOf (kinds p) .place) ∷ itemWords b v) ++ l)
+          → _≡_ {A = List ℕ} (sets ((classOf p ∷ (0 + total (piecesDone ds)) ∷ length p ∷ marks.nameOf (0 + total (piecesDone ds)) (markOf (kinds p) .place) ∷ itemValueWords b (Without 0)) ++ l) 4 (valueWords v))
+          ((classOf p ∷ (0 + total (piecesDone ds)) ∷ length p ∷ marks.nameOf (0 + total (piecesDone ds)) (markOf (kinds p) .place) ∷ itemValueWords b v) ++ l)
       filled true e l = refl
       filled false e l = let z : _≡_ {A = ℕ} 0 1 = cc in absurd (omega arith)

@@ -1,15 +1,15 @@
 -- The rows of a piece: none has form 0, and their words give them back. Assumes nothing.
-use mathlib.Core.Path.{_≡_, refl, sym, ap, _∙_}
+use mathlib.Core.Path.{_≡_, refl, ap, _∙_}
 use mathlib.Core.Logic.{inl, inr}
 use mathlib.Core.Bool.{Bool, true, false, cond}
-use mathlib.Core.List.{List, [], _∷_, _++_, append-nil, append-assoc}
+use mathlib.Core.List.{List, [], _∷_, _++_, append-assoc}
 use Prim.Native.Nat.{ℕ, zero, suc, _+_, _-_, _*_, _≤_}
 use native.Mathlib.Omega.{arith}
 use lib.Dec.{eqb}
 use borrow.Author.Tests.{ne-eqb}
 use lib.ListN.{length, getD, take, drop, replicate, length-drop}
 use Rattle.laws.proofs.Laws.{clash}
-use Rattle.ll.specs.Actions.{End, read, bad, stopped, spent}
+use Rattle.grammars.specs.Actions.{End, read, bad, stopped, spent}
 use Rattle.forms.specs.Names.{constant, subtype}
 use Rattle.forms.specs.Tree.{Row, State, Refusal, rowsOf}
 use Rattle.forms.specs.Reading.{readingFrom}
@@ -18,8 +18,8 @@ use Rattle.forms.proofs.Positive.{Positive, all-positive, top-positive}
 use Rattle.tree.specs.Answers.{terminalsIn, wordsOf}
 use Rattle.tree.specs.Items.{unlike, readingBy, readingOfPiece, rowsRead, rowsOfPiece, pieceWords}
 use Rattle.tree.proofs.Pieces.{rows-few}
-use Rattle.items.specs.Items.{heldIn}
-use Rattle.folds.specs.Rows.{rowsIn}
+use Rattle.items.specs.code.Items.{rowsUntil}
+use Rattle.forms.specs.Words.{rowsIn}
 
 -- ---- no row has form 0
 
@@ -68,29 +68,26 @@ pub words-part : (rs : List Row) (l : List ℕ) (a : ℕ) → a ≤ length rs �
 words-part rs l a h =
     rw (words-drop rs l a h, ← length-drop a rs) (words-taken (drop a rs) l)
 
-pub rows-part : (rs : List Row) (l : List ℕ) (a : ℕ) → a ≤ length rs → rowsIn (length rs - a) (take (5 * (length rs - a)) (drop (5 * a) (wordsOf rs ++ l))) ≡ drop a rs
-rows-part rs l a h = rw (words-part rs l a h, ← length-drop a rs) (ap (rowsIn (length (drop a rs))) (sym (append-nil (wordsOf (drop a rs)))) ∙ rows-back (drop a rs) [])
-
 -- ---- how many rows stand there
 
-held-none : (m : ℕ) (l : List ℕ) → heldIn m (replicate (5 * m) 0 ++ l) ≡ 0
-unfolding heldIn
+held-none : (m : ℕ) (l : List ℕ) → rowsUntil m (replicate (5 * m) 0 ++ l) ≡ 0
+unfolding rowsUntil
 held-none zero l = refl
 held-none (suc m) l = let e : 5 * suc m ≡ suc (suc (suc (suc (suc (5 * m))))) = omega arith in rw e
 
-pub held-rows : (rs : List Row) (m : ℕ) (l : List ℕ) → Positive rs → heldIn (length rs + m) (wordsOf rs ++ (replicate (5 * m) 0 ++ l)) ≡ length rs
-unfolding heldIn
+pub held-rows : (rs : List Row) (m : ℕ) (l : List ℕ) → Positive rs → rowsUntil (length rs + m) (wordsOf rs ++ (replicate (5 * m) 0 ++ l)) ≡ length rs
+unfolding rowsUntil
 held-rows [] m l p = let e : 0 + m ≡ m = omega arith in rw e (held-none m l)
 held-rows (r ∷ rs) m l p =
     let e : suc (length rs) + m ≡ suc (length rs + m) = omega arith in
     rw (e, ne-eqb (r .form) 0 (λ z. omega (arith, p .0))) (ap suc (held-rows rs m l (p .1)))
 
-pub held-piece : (k : List ℕ) (l : List ℕ) → heldIn (length k) (pieceWords k ++ l) ≡ length (rowsOfPiece k)
+pub held-piece : (k : List ℕ) (l : List ℕ) → rowsUntil (length k) (pieceWords k ++ l) ≡ length (rowsOfPiece k)
 unfolding pieceWords
 held-piece k l =
     let n : ℕ = length (rowsOfPiece k) in
     let m : ℕ = length k - n in
     let e : length k ≡ n + m = omega (arith, rows-few k) in
     let z : 5 * length k - 5 * n ≡ 5 * m = omega arith in
-    ap (λ (j : ℕ). heldIn j ((wordsOf (rowsOfPiece k) ++ replicate (5 * length k - 5 * n) 0) ++ l)) e
+    ap (λ (j : ℕ). rowsUntil j ((wordsOf (rowsOfPiece k) ++ replicate (5 * length k - 5 * n) 0) ++ l)) e
     ∙ rw (z, append-assoc) (held-rows (rowsOfPiece k) m l (rows-positive k))

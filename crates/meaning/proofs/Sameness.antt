@@ -6,14 +6,15 @@ use Prim.Native.Nat.{ℕ, zero, suc, _+_}
 use borrow.Author.Tests.{eq-eqb, eqb-true}
 use lib.Dec.{eqb}
 use Rattle.laws.proofs.Laws.{chosen, both-left, both-right}
-use Rattle.alike.specs.Alike.{counts, byKind}
-use Rattle.alike.specs.Spelling.{spelt}
+use Rattle.same_names.specs.Alike.{counts, byKind}
+use Rattle.same_names.specs.Spelling.{spelt}
 use Rattle.pieces.specs.Kinds.{isName}
 use Rattle.records.specs.Records.{isClaim}
 use Rattle.records.specs.Tallies.{oneIf}
-use Rattle.names.specs.Language.{languageNames, numberOf}
-use Rattle.worded.specs.Elements.{Element, Piece}
-use Rattle.worded.specs.Names.{sameAs}
+use Rattle.names.specs.Language.{languageNames, languageNumber}
+use Rattle.meaning.proofs.Claimed.{claims-one, claims-class, claims-name, claims-by}
+use Rattle.meaning.specs.Elements.{Element, Piece}
+use Rattle.meaning.specs.Sameness.{sameAs}
 use Rattle.meaning.specs.Names.{classOf, ownName, claims, language, claimsIn, doubled}
 use Rattle.meaning.proofs.Claims.{claim-name}
 
@@ -117,13 +118,13 @@ same-right c x y h = both-ways (sameAs c x) (sameAs c y) (λ g. same-on c x y g 
 
 -- ---- the language's names
 
-pub number-same : (p q : List ℕ → Bool) → ((w : List ℕ) → p w ≡ q w) → (k : ℕ) (ws : List (List ℕ)) → numberOf p k ws ≡ numberOf q k ws
+pub number-same : (p q : List ℕ → Bool) → ((w : List ℕ) → p w ≡ q w) → (k : ℕ) (ws : List (List ℕ)) → languageNumber p k ws ≡ languageNumber q k ws
 number-same p q h k [] = refl
 number-same p q h k (w ∷ ws) = rw (h w) (ap (λ (n : ℕ). cond (q w) k n) (number-same p q h (suc k) ws))
 
 -- by kind and bytes
 abbrev languageBy : ℕ → List ℕ → ℕ
-languageBy k a = cond (eqb k 1) (numberOf (spelt true a) 1 languageNames) 0
+languageBy k a = cond (eqb k 1) (languageNumber (spelt true a) 1 languageNames) 0
 
 language-by : (k : ℕ) (a b : List ℕ) → spell k a b ≡ true → languageBy k a ≡ languageBy k b
 language-by zero a b h = absurd (false≢true h)
@@ -138,8 +139,7 @@ language-same x y h =
 -- ---- claims
 
 pub claims-same : (x y : Element) (p : Piece) → sameAs x y ≡ true → claims x p ≡ claims y p
-unfolding claims
-claims-same x y p h = ap (λ (b : Bool). isClaim (classOf p) && b) (same-right (ownName p) x y h)
+claims-same x y p h = claims-one x p ∙ ap (λ (b : Bool). isClaim (classOf p) && b) (same-right (ownName p) x y h) ∙ sym (claims-one y p)
 
 pub claims-in-same : (x y : Element) (ps : List Piece) → sameAs x y ≡ true → claimsIn x ps ≡ claimsIn y ps
 unfolding claimsIn
@@ -148,20 +148,14 @@ claims-in-same x y (p ∷ ps) h = rw (claims-same x y p h) (ap (λ (n : ℕ). on
 
 -- a piece claims its own name
 pub own-claimed : (p : Piece) → isClaim (classOf p) ≡ true → claims (ownName p) p ≡ true
-unfolding claims
-own-claimed p h = rw h (same-self (ownName p) (claim-name p h))
+own-claimed p h = claims-by (ownName p) p h (same-self (ownName p) (claim-name p h))
 
 module _ (x : Element) (p : Piece) (h : claims x p ≡ true) where
   pub claimed-class : isClaim (classOf p) ≡ true
-  unfolding claims
-  claimed-class = both-left (isClaim (classOf p)) (sameAs (ownName p) x) h
+  claimed-class = claims-class x p h
 
   pub claimed-name : sameAs (ownName p) x ≡ true
-  unfolding claims
-  claimed-name = both-right (isClaim (classOf p)) (sameAs (ownName p) x) h
-
-  pub claimed-language : language x ≡ language (ownName p)
-  claimed-language = sym (language-same (ownName p) x claimed-name)
+  claimed-name = claims-name x p h
 
   pub claimed-count : (ps : List Piece) → claimsIn x ps ≡ claimsIn (ownName p) ps
   claimed-count ps = sym (claims-in-same (ownName p) x ps claimed-name)

@@ -1,5 +1,5 @@
--- A reading's rows are an item's: each row's children are those of its form's line (`RowsFit`), so behind an operator stand its operands, and
--- behind an item's mark its expression, or its range and the bounds. Assumes nothing.
+-- A reading's rows are an item's: each row's children are those of its form's line (`RowsFit`), so after an operator stand its operands, and
+-- after an item's mark its expression, or its range and the bounds. Assumes nothing.
 use Prim.Native.Nat.{ℕ, zero, suc, _+_, _-_, _*_, _≤_, _<_}
 use mathlib.Core.Path.{_≡_, refl, sym, ap, ap₂, subst, _∙_}
 use mathlib.Core.Logic.{_⊎_, inl, inr, ⊎-elim}
@@ -10,22 +10,24 @@ use borrow.Author.Tests.{eqb-true, eqb-false, ltb-true}
 use lib.Dec.{T, eqb, leb, ltb, eqb→eq, leb→le}
 use lib.ListN.{length, getD, take, drop, length-drop}
 use Rattle.laws.proofs.Laws.{clash}
-use Rattle.ll.proofs.Theory.{or-cases, and-left, and-right}
-use Rattle.forms.specs.Kinds.{word-range, semicolon}
+use Rattle.grammars.proofs.Theory.{or-cases, and-left, and-right}
+use Rattle.forms.specs.Kinds.{numberOf, word-range, word-to, word-downto, semicolon}
 use Rattle.forms.specs.Names as form
-use Rattle.forms.specs.Lines.{Item, at, row, isIn, sort, sortOf, telling, operates, branches, Pattern, nothing, one, both, opt, seq, e, Fits, none, this, bare, inside, then, left, right, operand, line, rows, elements, itemsIn, ownItems, operatorOf, RowsFit}
+use Rattle.forms.specs.Lines.{Item, at, row, isIn, sort, sortOf, telling, operates, branches, Pattern, nothing, one, both, opt, seq, Fits, none, this, bare, inside, then, left, right, operand, line, rows, elements, itemsIn, ownItems, IsAmong, operatorOf, RowsFit}
+use Rattle.forms.specs.code.Shapes.{e}
 use Rattle.forms.specs.Tree.{Row, State, rowsOf}
 use Rattle.forms.specs.Items.{ItemReading, itemRow, markRow}
 use Rattle.forms.proofs.Shapes.{begin-with-mark}
 use Rattle.forms.proofs.Fitting.{constant-rows-fit, subtype-rows-fit}
-use Rattle.tables.proofs.Tables.{terminal-small}
-use Rattle.folds.specs.Expressions.{behind}
-use Rattle.worded.specs.Elements.{Piece, kinds}
-use Rattle.worded.specs.Elements as worded
+use Rattle.form_table.proofs.Tables.{terminal-small}
+use Rattle.expressions.specs.Expressions.{behind}
+use Rattle.meaning.specs.Elements.{Piece, kinds}
+use Rattle.meaning.specs.Elements as worded
 use Rattle.tree.specs.Answers.{terminalsIn}
 use Rattle.tree.specs.Items.{unlike}
-use Rattle.meaning.specs.Forms.{Item as Item′, constant, subtype, ranged, HasForm, is-constant, is-subtype, is-ranged}
+use Rattle.meaning.specs.Forms.{Item as Item′, constant, subtype, ranged, Goes, to, downto, HasForm, is-constant, is-subtype, is-ranged}
 use Rattle.meaning.specs.Forms.{Expression, name, literal, unfolded, unary, binary, Is, is-name, is-called, is-attribute, is-literal, is-unary, is-binary}
+use Rattle.meaning.proofs.Readings.{to-forms, constant-reading, subtype-reading}
 use Rattle.meaning.proofs.Least.{behind-less}
 
 -- ---- the children among items, by their sorts
@@ -188,7 +190,23 @@ module _ (w : List ℕ) where
       let d = behind-operand (o .1 .0) tt in
       (c .0, (d .0, (c .1 .1 .1 .1 ∙ ap (λ (m : List ℕ). c .0 ∷ m) (o .1 .1 ∙ d .1 .1 .1 .1 ∙ ap (λ (m : List ℕ). d .0 ∷ m) (no-more-children (d .1 .1 .1 .0))), (c .1 .0, d .1 .0))))
 
-  -- ---- the rows behind a row
+  -- and to or downto between them
+  among-right : (i : ℕ) (x y : List Item) → IsAmong (at i) y → IsAmong (at i) (x ++ y)
+  among-right i [] y h = h
+  among-right i (z ∷ x) y h = inr (among-right i x y h)
+
+  goes-by : (i : ℕ) (x : List Item) → IsAmong (at i) x → T (eqb (getD w i 0) (numberOf word-to)) ⊎ T (eqb (getD w i 0) (numberOf word-downto) || false) → (down : Bool) × Goes w x down
+  goes-by i x m (inl h) = (false, to i m (eqb→eq (getD w i 0) (numberOf word-to) h))
+  goes-by i x m (inr h) =
+      (true, downto i m (eqb→eq (getD w i 0) (numberOf word-downto) (⊎-elim (λ k. k) (λ k. absurd k) (or-cases (eqb (getD w i 0) (numberOf word-downto)) false h))))
+
+  goes-10 : {q : ℕ} {x : List Item} → Fits w q (line 10) x → (down : Bool) × Goes w x down
+  goes-10 {x = x} (then {x = a} {y = b} f (then {y = c} (this {x = at i} u v) g d) h) =
+      goes-by i x (subst (IsAmong (at i)) (sym h) (among-right i a b (subst (IsAmong (at i)) (sym d) (inl refl))))
+      (or-cases (eqb (getD w i 0) (numberOf word-to)) (eqb (getD w i 0) (numberOf word-downto) || false) v)
+  goes-10 (then f (then (this {x = row s} u v) g d) h) = absurd u
+
+  -- ---- the rows after a row
 
   take-none : (n : ℕ) → [] ≡ take {A = Row} n []
   take-none zero = refl
@@ -201,7 +219,7 @@ module _ (w : List ℕ) where
   dropped (suc k) (suc m) [] = take-none (suc m - suc k)
   dropped (suc k) (suc m) (r ∷ l) = let z : suc m - suc k ≡ m - k = omega arith in dropped k m l ∙ ap (λ (n : ℕ). take n (drop k l)) (sym z)
 
-  -- the first child among the first n rows, and what is left behind it
+  -- the first child among the first n rows, and what is left after it
   pub record First (n hi : ℕ) (rs : List Row) (s : ℕ) (t : List ℕ) : Type 0 where
     pub one : Row
     pub others : List Row
@@ -256,7 +274,7 @@ module _ (w : List ℕ) where
   headed-behind : (rs : List Row) (r : Row) (l : List Row) → rs ≡ r ∷ l → T (isExpression (sortOf w r)) → Headed (drop (r .rows - 1) l) → Headed (behind rs)
   headed-behind rs r l e h k = subst (λ (x : List Row). Headed (behind x)) (sym e) (headed-drop (r .rows) r l h k)
 
-  -- two expressions stand behind a row with two children
+  -- two expressions stand after a row with two children
   two-behind : (n lo hi : ℕ) (rs : List Row) → TwoChildren (itemsIn w 0 lo hi (take n rs)) → Headed rs × Headed (behind rs)
   two-behind n lo hi rs c =
       let a = first-of n lo hi rs (c .0) (c .1 .0 ∷ []) (c .1 .1 .0) in
@@ -356,7 +374,7 @@ module _ (p : Piece) where
   abbrev smalls : (i : ℕ) → getD w i 0 < 128
   smalls = terminals-small (kinds p)
 
-  -- what stands behind the mark's row
+  -- what stands after the mark's row
   behind-mark : (m : List Row) (hi a : ℕ) (t : List ℕ) → children (itemsIn w 0 0 hi (take (length m + 2 - 1) (markRow ∷ m))) ≡ a ∷ t
       → (lo : ℕ) × (t ≡ children (itemsIn w 0 lo hi (take (length m) m)))
   behind-mark m hi a t e =
@@ -374,7 +392,7 @@ module _ (p : Piece) where
           let c = on-4 w (f .1) in
           let a = behind-mark m (0 + length w) (c .0) (c .1 .0 ∷ []) (c .1 .1 .0) in
           let x = is-expression w smalls p (length m) m (omega arith) (f .2 .2) (one-behind w (length m) (a .0) (0 + length w) m (c .1 .0, (sym (a .1), c .1 .1 .1))) in
-          (constant _ (x .0), is-constant (s, (r, e)) (x .1))
+          (constant _ (x .0), is-constant (constant-reading p _ .1 (s, (r, e))) (x .1))
 
   -- and so has a subtype
   ten : (r : Row) (s : ℕ) → sortOf w r ≡ s → s ≡ sort 10 0 → r .form ≡ 10
@@ -385,11 +403,13 @@ module _ (p : Piece) where
   ranged-form m s lo hi a r e t c q =
       let o = first-of w (length m) lo hi m a [] c in
       let u = subst (RowsFit w) (o .is) t in
-      let d = on-10 w (subst (λ (n : ℕ). Fits w (operatorOf (o .one)) (line n) (ownItems w (o .one) (o .others))) (ten (o .one) a (o .sorted) q) (u .1)) in
+      let f = subst (λ (n : ℕ). Fits w (operatorOf (o .one)) (line n) (ownItems w (o .one) (o .others))) (ten (o .one) a (o .sorted) q) (u .1) in
+      let d = on-10 w f in
+      let g = goes-10 w f in
       let b = two-behind w (o .one .rows - 1) (o .one .first) (o .one .first + o .one .count) (o .others) d in
       let x = is-expression w smalls p (length (o .others)) (o .others) (omega arith) (u .2) (b .0) in
       let y = is-expression w smalls p (length (o .others)) (behind (o .others)) (behind-less (o .others)) (rows-fit-behind w (o .others) (u .2)) (b .1) in
-      (ranged _ (x .0) _ (y .0), is-ranged (s, (r, e ∙ ap (λ (l : List Row). itemRow 5 (length w) m ∷ (markRow ∷ l)) (o .is))) (x .1) (y .1))
+      (ranged _ (x .0) (g .0) (y .0), is-ranged (subtype-reading p _ .1 (s, (r, e ∙ ap (λ (l : List Row). itemRow 5 (length w) m ∷ (markRow ∷ l)) (o .is)))) (subst (λ (v : List ℕ). Goes v (ownItems v (o .one) (o .others)) (g .0)) (sym (to-forms p)) (g .1)) (x .1) (y .1))
 
   pub subtype-form : (s : State) → ItemReading form.subtype unlike w s → (i : Item′) × HasForm p i
   subtype-form s r = by (begin-with-mark .1 unlike w s r) (subtype-rows-fit unlike w s r .1)
@@ -405,5 +425,5 @@ module _ (p : Piece) where
           on (a, inl c) =
               let d = behind-mark m (0 + length w) a [] c in
               let n = none-of w (length m) (d .0) (0 + length w) m (d .1) (omega arith) in
-              (subtype _, is-subtype (s, (r, e ∙ ap (λ (l : List Row). itemRow 5 (length w) m ∷ (markRow ∷ l)) n)))
+              (subtype _, is-subtype (subtype-reading p _ .1 (s, (r, e ∙ ap (λ (l : List Row). itemRow 5 (length w) m ∷ (markRow ∷ l)) n))))
           on (a, inr (b, (c, q))) = let d = behind-mark m (0 + length w) a (b ∷ []) c in ranged-form m s (d .0) (0 + length w) b r e (f .2 .2) (sym (d .1)) q

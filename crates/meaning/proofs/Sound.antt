@@ -8,7 +8,7 @@ use Prim.Native.Nat.{ℕ, zero, suc}
 use native.Mathlib.Omega.{arith}
 use borrow.Author.Tests.{eqb-true}
 use lib.Dec.{eqb}
-use Rattle.laws.proofs.Laws.{clash, both-left}
+use Rattle.laws.proofs.Laws.{clash}
 use Rattle.forms.specs.Tree.{Row}
 use Rattle.records.specs.Records.{isClaim}
 use Rattle.tree.specs.Items.{rowsOfPiece}
@@ -20,9 +20,11 @@ use Rattle.values.specs.declared.Value.{Value}
 use Rattle.values.specs.declared.Value.the-variants.{Without}
 use Rattle.marks.proofs.Sound.{Keeps, small, SoundOutcome, Sound, wrong-leaf-sound, literal-sound, combined-sound, signed-sound, operand-sound, lean-sound, language-sound, choose-sound}
 use Rattle.marks.proofs.Laws.{Constant, Subtype, Fits, fits-sound, constant-fits, subtype-fits, ranged-fits}
-use Rattle.folds.specs.Expressions.{behind, rowOutcome, outcomeIn}
+use Rattle.expressions.specs.Expressions.{behind, rowOutcome, outcomeIn}
 use Rattle.pieces.specs.Kinds.{anyDown}
-use Rattle.worded.specs.Elements.{Element, Piece, at, kinds}
+use Rattle.states.specs.States as state
+use Rattle.meaning.proofs.Claimed.{claims-class}
+use Rattle.meaning.specs.Elements.{Element, Piece, at, kinds}
 use Rattle.meaning.specs.Names.{classOf, language, claims, doubled, ownDoubled, Done, claimedAbove, firstAbove, useOf}
 use Rattle.meaning.specs.Items.{valued, bounded, formed, unlessDoubled, valueOf, doneOf}
 use Rattle.meaning.proofs.Good.{GoodDone, Good}
@@ -87,23 +89,19 @@ is-claim c e P x y = go (eqb c 3) (eqb c 4) refl refl e
     go false true q r e = subst P (sym (eqb-true c 4 r)) y
     go false false q r e = let z : _≡_ {A = ℕ} 0 1 = cc in clash z
 
-claim-class : (x : Element) (p : Piece) → claims x p ≡ true → isClaim (classOf p) ≡ true
-unfolding claims
-claim-class x p e = both-left (isClaim (classOf p)) _ e
-
 first-sound : (all : List Piece) (ds : List Done) → Good all ds → (x : Element) → Sound small (leanOf (firstAbove x ds))
 unfolding firstAbove
 first-sound all [] g x = lean-sound small (languageValue (language x)) (language-sound (language x))
 first-sound all (d ∷ ds) g x = go (claims x (d .piece)) refl (first-sound all ds (g .1) x)
   where
     go : (b : Bool) → claims x (d .piece) ≡ b → Sound small (leanOf (firstAbove x ds)) → Sound small (leanOf (elim b [ true ↦ d .value | false ↦ firstAbove x ds ]))
-    go true e h = fits-sound (classOf (d .piece)) (d .value) (g .0 (claim-class x (d .piece) e) .0)
+    go true e h = fits-sound (classOf (d .piece)) (d .value) (g .0 (claims-class x (d .piece) e) .0)
     go false e h = h
 
 pub use-sound : (all : List Piece) (ds : List Done) → Good all ds → SoundUse small (useOf all ds)
 unfolding useOf
 use-sound all ds g x =
-    choose-sound small (claimedAbove x ds) _ _ (choose-sound small (doubled all x) (Without 5) _ (omega arith) (first-sound all ds g x)) (omega arith)
+    choose-sound small (claimedAbove x ds) _ _ (choose-sound small (doubled all x) (Without state.leans) _ (omega arith) (first-sound all ds g x)) (omega arith)
 
 -- ---- pieces
 
@@ -117,7 +115,7 @@ unless-subtype d [] v h = omega arith
 unless-subtype true (r ∷ rs) v h = omega arith
 unless-subtype false (r ∷ rs) v h = h
 
-unless-lean : (d : Bool) (rs : List Row) (v : Value) → d ≡ true → leanOf (unlessDoubled d rs v) ≡ Without 5
+unless-lean : (d : Bool) (rs : List Row) (v : Value) → d ≡ true → leanOf (unlessDoubled d rs v) ≡ Without state.leans
 unless-lean d [] v e = refl
 unless-lean true (r ∷ rs) v e = refl
 unless-lean false (r ∷ rs) v e = let z : _≡_ {A = ℕ} 0 1 = cc in clash z
@@ -136,7 +134,7 @@ module _ (all : List Piece) (ds : List Done) (g : Good all ds) (p : Piece) where
       is-claim (classOf p) e (λ c. classOf p ≡ c → Fits c (valueOf all ds p)) (λ q. inl (refl, constant-value q)) (λ q. inr (refl, subtype-value q)) refl
 
   -- a doubled name's item gives nothing
-  pub doubled-lean : ownDoubled all p ≡ true → leanOf (valueOf all ds p) ≡ Without 5
+  pub doubled-lean : ownDoubled all p ≡ true → leanOf (valueOf all ds p) ≡ Without state.leans
   unfolding valueOf
   doubled-lean e = unless-lean (ownDoubled all p) (rowsOfPiece (kinds p)) _ e
 

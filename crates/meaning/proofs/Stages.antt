@@ -7,15 +7,17 @@ use Prim.Native.Nat.{ℕ, suc, _+_, _*_, _/_, _≤_, min}
 use native.Mathlib.Omega.{arith}
 use lib.ListN.{length, length-append}
 use lib.Seq.{sets}
-use Rattle.reading.specs.Rows.{rowsOf}
+use Rattle.element_reading.specs.Rows.{rowsOf}
 use Rattle.records.specs.Records.{wordAt, isItem}
 use Rattle.tree.specs.Items.{itemRows}
 use Rattle.values.specs.declared.Value.{Value}
-use Rattle.uses.specs.Uses.{useIn}
-use Rattle.items.specs.Items.{doubledIn, valueAt, completedAt, completedFrom, completed}
+use Rattle.uses.specs.code.Uses.{useIn}
+use Rattle.items.specs.code.Items.{doubledIn, valueAt, completedAt, completedFrom, completed}
 use Rattle.values.specs.Words.{valueWords}
-use Rattle.worded.specs.Elements.{Piece, at, piecesOf}
-use Rattle.worded.proofs.Cutting.{total}
+use Rattle.pieces.specs.Columns as column
+use Rattle.pieces.specs.Columns.{recordWords}
+use Rattle.meaning.specs.Elements.{Piece, at, piecesOf}
+use Rattle.meaning.proofs.Cutting.{total}
 use Rattle.meaning.specs.Names.{classOf, ownDoubled, Done, useOf}
 use Rattle.meaning.specs.Items.{recordOf, recordsFrom, valueOf, doneOf, donesFrom, donesOf, recordsOf}
 use Rattle.meaning.proofs.Records.{pending, pendings, piecesDone, pieces-pending, pieces-append, pieces-length, records-length, word-at-record, skip-record, complete-record}
@@ -29,15 +31,15 @@ module _ (ds es : List Done) (p : Piece) (rest : List ℕ) where
   abbrev pub stage : List ℕ
   stage = recordsFrom 0 (ds ++ pending p ∷ es) ++ rest
 
-  pub class-waiting : wordAt stage (length ds) 0 ≡ classOf p
+  pub class-waiting : wordAt stage (length ds) column.class ≡ classOf p
   unfolding recordOf
   class-waiting = word-at-record ds es (pending p) rest 0 (omega arith)
 
-  pub first-waiting : wordAt stage (length ds) 1 ≡ total (piecesDone ds)
+  pub first-waiting : wordAt stage (length ds) column.first ≡ total (piecesDone ds)
   unfolding recordOf
   first-waiting = word-at-record ds es (pending p) rest 1 (omega arith)
 
-  pub count-waiting : wordAt stage (length ds) 2 ≡ length p
+  pub count-waiting : wordAt stage (length ds) column.count ≡ length p
   unfolding recordOf
   count-waiting = word-at-record ds es (pending p) rest 2 (omega arith)
 
@@ -49,7 +51,7 @@ module _ (s : List ℕ) (z : ℕ) (links twins rest : List ℕ) (count : ℕ) (w
   abbrev rows : List ℕ
   rows = itemRows (tableOf s z) count 40960
 
-  -- names used in a piece that waits, behind those done, come to what they do by the text; and so does its own name's being doubled
+  -- names used in a piece that waits, after those done, come to what they do by the text; and so does its own name's being doubled
   abbrev pub Told : List Done → Piece → List Done → Type 0
   Told ds p es =
       ((e : ℕ) → useIn s (tableOf s z) (stage ds es p rest) links (length ds) e ≡ useOf (piecesOf s) ds (at (elements s) e))
@@ -65,12 +67,12 @@ module _ (s : List ℕ) (z : ℕ) (links twins rest : List ℕ) (count : ℕ) (w
     pub completed-one : completedAt s (tableOf s z) links twins rows (stage ds es p rest) (length ds) ≡ recordsFrom 0 (ds ++ doneOf (piecesOf s) ds p ∷ es) ++ rest
     unfolding completedAt
     completed-one =
-        ap (λ (v : Value). cond (isItem (wordAt (stage ds es p rest) (length ds) 0)) (sets (stage ds es p rest) (8 * length ds + 4) (valueWords v)) (stage ds es p rest)) value-here
-        ∙ ap (λ (c : ℕ). cond (isItem c) (sets (stage ds es p rest) (8 * length ds + 4) (valueWords (valueOf (piecesOf s) ds p))) (stage ds es p rest)) (class-waiting ds es p rest)
+        ap (λ (v : Value). cond (isItem (wordAt (stage ds es p rest) (length ds) column.class)) (sets (stage ds es p rest) (recordWords * length ds + column.state) (valueWords v)) (stage ds es p rest)) value-here
+        ∙ ap (λ (c : ℕ). cond (isItem c) (sets (stage ds es p rest) (recordWords * length ds + column.state) (valueWords (valueOf (piecesOf s) ds p))) (stage ds es p rest)) (class-waiting ds es p rest)
         ∙ go (isItem (classOf p)) refl
       where
         go : (b : Bool) → isItem (classOf p) ≡ b
-            → cond b (sets (stage ds es p rest) (8 * length ds + 4) (valueWords (valueOf (piecesOf s) ds p))) (stage ds es p rest) ≡ recordsFrom 0 (ds ++ doneOf (piecesOf s) ds p ∷ es) ++ rest
+            → cond b (sets (stage ds es p rest) (recordWords * length ds + column.state) (valueWords (valueOf (piecesOf s) ds p))) (stage ds es p rest) ≡ recordsFrom 0 (ds ++ doneOf (piecesOf s) ds p ∷ es) ++ rest
         go true h = complete-record ds es p (valueOf (piecesOf s) ds p) rest h
         go false h = skip-record ds es p (valueOf (piecesOf s) ds p) rest h
 
@@ -98,6 +100,6 @@ module _ (s : List ℕ) (z : ℕ) (links twins rest : List ℕ) (count : ℕ) (w
   completed-all told =
       let ps : List Piece = piecesOf s in
       let items : List ℕ = recordsFrom 0 (pendings ps) ++ rest in
-      let e : min (length ps) (length items / 8) ≡ length ps =
+      let e : min (length ps) (length items / recordWords) ≡ length ps =
       omega (arith, length-append (recordsFrom 0 (pendings ps)) rest, records-length 0 (pendings ps), pieces-length (pendings ps), ap length (pieces-pending ps)) in
       ap (completedFrom s (tableOf s z) links twins rows items 0) e ∙ completed-rest told [] ps refl tt

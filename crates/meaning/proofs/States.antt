@@ -11,7 +11,8 @@ use Rattle.marks.specs.Marks.{constantOf}
 use Rattle.values.specs.Words.{leanOf}
 use Rattle.marks.proofs.Sound.{Between, late, Sound, choose-sound}
 use Rattle.marks.proofs.Laws.{Constant, Subtype, constant-fits}
-use Rattle.worded.specs.Elements.{Element, Piece}
+use Rattle.states.specs.States as state
+use Rattle.meaning.specs.Elements.{Element, Piece}
 use Rattle.meaning.specs.Names.{classOf, doubled, Done, claimedAbove, firstAbove, useOf}
 use Rattle.meaning.specs.Items.{valued, bounded, marked}
 use Rattle.meaning.proofs.Sound.{SoundUse, valued-sound, bounded-fits}
@@ -51,7 +52,7 @@ lean-late (Without s) = (omega arith, omega arith)
 pub use-late : (all : List Piece) (above : List Done) → SoundUse late (useOf all above)
 unfolding useOf
 use-late all above x =
-    choose-sound late (claimedAbove x above) _ _ (choose-sound late (doubled all x) (Without 5) _ (omega arith, omega arith) (lean-late (firstAbove x above))) (omega arith, omega arith)
+    choose-sound late (claimedAbove x above) _ _ (choose-sound late (doubled all x) (Without state.leans) _ (omega arith, omega arith) (lean-late (firstAbove x above))) (omega arith, omega arith)
 
 -- an item with rows, whatever stands above it
 pub marked-late : (all : List Piece) (above : List Done) (p : Piece) (mark : Element) (rs : List Row) → Late (marked p (useOf all above) (useOf all above mark) rs)

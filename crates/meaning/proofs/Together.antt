@@ -10,7 +10,7 @@ use lib.Dec.{eqb, ltb}
 use lib.ListN.{length, getD, replicate, take, drop, length-append}
 use lib.Seq.{split-at}
 use Rattle.laws.proofs.Laws.{clash, both-left, both-right}
-use Rattle.alike.specs.Alike.{sameName}
+use Rattle.same_names.specs.Alike.{sameName}
 use Rattle.pieces.specs.Kinds.{markOf, isName, isHeading, isClosing, endsAt, hasName, behindWord, claimMark, mark}
 use Rattle.pieces.specs.declared.Mark.{Mark}
 use Rattle.pieces.specs.Records.{nameOf}
@@ -23,10 +23,11 @@ use Rattle.pairs.specs.declared.Pair.{Pair}
 use Rattle.pairs.specs.declared.Pair.the-variants.{Both, Neither}
 use Rattle.names.specs.Names.{share, sharedPair}
 use Rattle.values.specs.Words.{stateOf}
-use Rattle.worded.specs.Elements.{Element, Piece, at, kinds, piecesOf}
-use Rattle.worded.specs.Names.{sameAs}
-use Rattle.worded.proofs.Cutting.{total, joinAll, at-piece, kinds-length}
-use Rattle.worded.proofs.Names.{same-name}
+use Rattle.pieces.specs.Columns as column
+use Rattle.meaning.specs.Elements.{Element, Piece, at, kinds, piecesOf}
+use Rattle.meaning.specs.Sameness.{sameAs}
+use Rattle.meaning.proofs.Cutting.{total, joinAll, at-piece, kinds-length}
+use Rattle.meaning.proofs.Named.{same-name}
 use Rattle.meaning.specs.Names.{classOf, ownName, claims, Done}
 use Rattle.meaning.specs.Items.{recordsFrom}
 use Rattle.meaning.specs.Together.{GoodFrame, Agrees, namePlace, shares, FirstPair, both, neither, countIn, AllFold}
@@ -171,7 +172,7 @@ one-pair ps o q (both {i = i} {j = j} l t least) (neither none) = absurd (none i
 one-pair ps o q (neither none) (both {i = i} {j = j} l t least) = absurd (none i j l t)
 one-pair ps o q (neither none) (neither other) = refl
 
-no-share : (text table items : List ℕ) (i j : ℕ) → isClaim (wordAt items i 0) ≡ false → share text table items i j ≡ false
+no-share : (text table items : List ℕ) (i j : ℕ) → isClaim (wordAt items i column.class) ≡ false → share text table items i j ≡ false
 unfolding share
 no-share text table items i j e = rw e
 
@@ -195,20 +196,20 @@ module _ (s : List ℕ) (z y : ℕ) (ds : List Done) (cuts : piecesDone ds ≡ p
 -- ---- the frame
 
 -- each of m records from the i-th on is an item
-items-there : (items : List ℕ) (i m : ℕ) → allItems items i m ≡ true → (j : ℕ) → i ≤ j → j < i + m → isItem (wordAt items j 0) ≡ true
+items-there : (items : List ℕ) (i m : ℕ) → allItems items i m ≡ true → (j : ℕ) → i ≤ j → j < i + m → isItem (wordAt items j column.class) ≡ true
 unfolding allItems
 items-there items i zero h j a b = absurd (omega arith)
-items-there items i (suc m) h j a b = go (isItem (wordAt items i 0)) refl (λ k c. items-there items (suc i) m k j c (omega arith))
+items-there items i (suc m) h j a b = go (isItem (wordAt items i column.class)) refl (λ k c. items-there items (suc i) m k j c (omega arith))
   where
-    go : (t : Bool) → isItem (wordAt items i 0) ≡ t → (allItems items (suc i) m ≡ true → suc i ≤ j → isItem (wordAt items j 0) ≡ true) → isItem (wordAt items j 0) ≡ true
+    go : (t : Bool) → isItem (wordAt items i column.class) ≡ t → (allItems items (suc i) m ≡ true → suc i ≤ j → isItem (wordAt items j column.class) ≡ true) → isItem (wordAt items j column.class) ≡ true
     go true e again = by (eqb j i) refl
       where
-        by : (c : Bool) → eqb j i ≡ c → isItem (wordAt items j 0) ≡ true
-        by true q = let x = eqb-true j i q in subst (λ (k : ℕ). isItem (wordAt items k 0) ≡ true) (sym x) e
+        by : (c : Bool) → eqb j i ≡ c → isItem (wordAt items j column.class) ≡ true
+        by true q = let x = eqb-true j i q in subst (λ (k : ℕ). isItem (wordAt items k column.class) ≡ true) (sym x) e
         by false q = let x = eqb-false j i q in again (rw (e, allItems) at h) (omega arith)
     go false e again = absurd (false≢true (rw (e, allItems) at h))
 
-items-back : (items : List ℕ) (i m : ℕ) → ((j : ℕ) → i ≤ j → j < i + m → isItem (wordAt items j 0) ≡ true) → allItems items i m ≡ true
+items-back : (items : List ℕ) (i m : ℕ) → ((j : ℕ) → i ≤ j → j < i + m → isItem (wordAt items j column.class) ≡ true) → allItems items i m ≡ true
 unfolding allItems
 items-back items i zero h = refl
 items-back items i (suc m) h = rw (h i (omega arith) (omega arith), allItems) (items-back items (suc i) m (λ j a b. h j (omega arith) (omega arith)))
@@ -277,10 +278,10 @@ module _ (s : List ℕ) (z y : ℕ) (ds : List Done) (cuts : piecesDone ds ≡ p
   abbrev items : List ℕ
   items = itemTable ds y
 
-  class-here : (j : ℕ) → j < n → wordAt items j 0 ≡ classOf (pieceAt ps j)
+  class-here : (j : ℕ) → j < n → wordAt items j column.class ≡ classOf (pieceAt ps j)
   class-here j h = class-at ds y j (omega (arith, dones-length s z y ds cuts)) ∙ ap classOf (piece-is s z y ds cuts j)
 
-  name-here : (j : ℕ) → j < n → wordAt items j 3 ≡ nameOf (total (take j ps)) (namePlace (pieceAt ps j))
+  name-here : (j : ℕ) → j < n → wordAt items j column.name ≡ nameOf (total (take j ps)) (namePlace (pieceAt ps j))
   name-here j h =
       name-at ds y j (omega (arith, dones-length s z y ds cuts)) ∙ ap₂ (λ (qs : List Piece) (p : Piece). nameOf (total (take j qs)) (namePlace p)) cuts (piece-is s z y ds cuts j)
 
@@ -296,32 +297,32 @@ module _ (s : List ℕ) (z y : ℕ) (ds : List Done) (cuts : piecesDone ds ≡ p
   abbrev c : Piece
   c = pieceAt ps (n - 1)
 
-  agrees-is : 2 ≤ n → classOf h ≡ 1 → classOf c ≡ 2 → (nameAgrees s (tableOf s z) (wordAt items 0 3) (wordAt items (n - 1) 3) ≡ true) ↔ Agrees h c
+  agrees-is : 2 ≤ n → classOf h ≡ 1 → classOf c ≡ 2 → (nameAgrees s (tableOf s z) (wordAt items 0 column.name) (wordAt items (n - 1) column.name) ≡ true) ↔ Agrees h c
   unfolding nameAgrees nameOf
   agrees-is two a b = go (eqb (namePlace c) 0) refl
     where
       -- the two names as elements
-      hw : wordAt items 0 3 ≡ total (take 0 ps) + 1
+      hw : wordAt items 0 column.name ≡ total (take 0 ps) + 1
       hw = name-here 0 (omega arith) ∙ ap (nameOf (total (take 0 ps))) (heading-place (kinds h) a .0)
 
-      go : (t : Bool) → eqb (namePlace c) 0 ≡ t → (nameAgrees s (tableOf s z) (wordAt items 0 3) (wordAt items (n - 1) 3) ≡ true) ↔ Agrees h c
+      go : (t : Bool) → eqb (namePlace c) 0 ≡ t → (nameAgrees s (tableOf s z) (wordAt items 0 column.name) (wordAt items (n - 1) column.name) ≡ true) ↔ Agrees h c
       go true e =
           let k = eqb-true (namePlace c) 0 e in
-          let w : wordAt items (n - 1) 3 ≡ 0 = name-here (n - 1) (omega arith) ∙ ap (nameOf (total (take (n - 1) ps))) k in
+          let w : wordAt items (n - 1) column.name ≡ 0 = name-here (n - 1) (omega arith) ∙ ap (nameOf (total (take (n - 1) ps))) k in
           ((λ x. inl k), λ x. rw w)
       go false e =
           let k = eqb-false (namePlace c) 0 e in
-          let w : wordAt items (n - 1) 3 ≡ total (take (n - 1) ps) + namePlace c = name-here (n - 1) (omega arith) ∙ rw e in
-          let far : eqb (wordAt items (n - 1) 3) 0 ≡ false = ne-eqb (wordAt items (n - 1) 3) 0 (λ q. absurd (omega arith)) in
-          let same : sameName s (tableOf s z) (wordAt items 0 3) (wordAt items (n - 1) 3) ≡ sameAs (at h (namePlace h)) (at c (namePlace c)) =
-          same-name s z (wordAt items 0 3) (wordAt items (n - 1) 3) ∙ ap₂ sameAs (heads (heading-place (kinds h) a)) (tails w k (closing-place (kinds c) b)) in
+          let w : wordAt items (n - 1) column.name ≡ total (take (n - 1) ps) + namePlace c = name-here (n - 1) (omega arith) ∙ rw e in
+          let far : eqb (wordAt items (n - 1) column.name) 0 ≡ false = ne-eqb (wordAt items (n - 1) column.name) 0 (λ q. absurd (omega arith)) in
+          let same : sameName s (tableOf s z) (wordAt items 0 column.name) (wordAt items (n - 1) column.name) ≡ sameAs (at h (namePlace h)) (at c (namePlace c)) =
+          same-name s z (wordAt items 0 column.name) (wordAt items (n - 1) column.name) ∙ ap₂ sameAs (heads (heading-place (kinds h) a)) (tails w k (closing-place (kinds c) b)) in
           ((λ x. inr (sym same ∙ rw far at x)), λ x. rw far (same ∙ agree k x))
         where
-          heads : (namePlace h ≡ 1) × (isName (getD (kinds h) 1 0) ≡ true) → at (elements s) (wordAt items 0 3) ≡ at h (namePlace h)
+          heads : (namePlace h ≡ 1) × (isName (getD (kinds h) 1 0) ≡ true) → at (elements s) (wordAt items 0 column.name) ≡ at h (namePlace h)
           heads (p, q) = ap (at (elements s)) hw ∙ element-here 0 1 (omega arith) q ∙ ap (at h) (sym p)
 
-          tails : wordAt items (n - 1) 3 ≡ total (take (n - 1) ps) + namePlace c → (namePlace c ≡ 0 → ⊥) → (namePlace c ≡ 0) ⊎ (isName (getD (kinds c) (namePlace c) 0) ≡ true)
-              → at (elements s) (wordAt items (n - 1) 3) ≡ at c (namePlace c)
+          tails : wordAt items (n - 1) column.name ≡ total (take (n - 1) ps) + namePlace c → (namePlace c ≡ 0 → ⊥) → (namePlace c ≡ 0) ⊎ (isName (getD (kinds c) (namePlace c) 0) ≡ true)
+              → at (elements s) (wordAt items (n - 1) column.name) ≡ at c (namePlace c)
           tails w k (inl q) = absurd (k q)
           tails w k (inr q) = ap (at (elements s)) w ∙ element-here (n - 1) (namePlace c) (omega arith) q
 
@@ -335,18 +336,18 @@ module _ (s : List ℕ) (z y : ℕ) (ds : List Done) (cuts : piecesDone ds ≡ p
     where
       there : frameGood s (tableOf s z) items n ≡ true → GoodFrame ps
       there g =
-          go (ltb n 2) (eqb (wordAt items 0 0) 1) (eqb (wordAt items (n - 1) 0) 2) (allItems items 1 (n - 2)) refl refl refl refl g
+          go (ltb n 2) (eqb (wordAt items 0 column.class) 1) (eqb (wordAt items (n - 1) column.class) 2) (allItems items 1 (n - 2)) refl refl refl refl g
         where
-          go : (p q r t : Bool) → ltb n 2 ≡ p → eqb (wordAt items 0 0) 1 ≡ q → eqb (wordAt items (n - 1) 0) 2 ≡ r → allItems items 1 (n - 2) ≡ t
-              → cond p false (cond (q && r) (cond t (nameAgrees s (tableOf s z) (wordAt items 0 3) (wordAt items (n - 1) 3)) false) false) ≡ true → GoodFrame ps
+          go : (p q r t : Bool) → ltb n 2 ≡ p → eqb (wordAt items 0 column.class) 1 ≡ q → eqb (wordAt items (n - 1) column.class) 2 ≡ r → allItems items 1 (n - 2) ≡ t
+              → cond p false (cond (q && r) (cond t (nameAgrees s (tableOf s z) (wordAt items 0 column.name) (wordAt items (n - 1) column.name)) false) false) ≡ true → GoodFrame ps
           go true q r t d e f i x = absurd (false≢true x)
           go false false r t d e f i x = absurd (false≢true x)
           go false true false t d e f i x = absurd (false≢true x)
           go false true true false d e f i x = absurd (false≢true x)
           go false true true true d e f i x =
               let two = ltb-false n 2 d in
-              let a = sym (class-here 0 (omega arith)) ∙ eqb-true (wordAt items 0 0) 1 e in
-              let b = sym (class-here (n - 1) (omega arith)) ∙ eqb-true (wordAt items (n - 1) 0) 2 f in
+              let a = sym (class-here 0 (omega arith)) ∙ eqb-true (wordAt items 0 column.class) 1 e in
+              let b = sym (class-here (n - 1) (omega arith)) ∙ eqb-true (wordAt items (n - 1) column.class) 2 f in
               record {
                 first = a;
                 last = b;
@@ -360,4 +361,4 @@ module _ (s : List ℕ) (z y : ℕ) (ds : List Done) (cuts : piecesDone ds ≡ p
           let a = class-here 0 (omega arith) ∙ g .first in
           let b = class-here (n - 1) (omega arith) ∙ g .last in
           let i = items-back items 1 (n - 2) (λ j k l. ap isItem (class-here j (omega arith)) ∙ g .others j k (omega arith)) in
-          rw (le-ltb n 2 two, eq-eqb (wordAt items 0 0) 1 a, eq-eqb (wordAt items (n - 1) 0) 2 b, i) (agrees-is two (g .first) (g .last) .1 (g .agrees))
+          rw (le-ltb n 2 two, eq-eqb (wordAt items 0 column.class) 1 a, eq-eqb (wordAt items (n - 1) column.class) 2 b, i) (agrees-is two (g .first) (g .last) .1 (g .agrees))

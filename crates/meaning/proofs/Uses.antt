@@ -8,26 +8,28 @@ use native.Mathlib.Omega.{arith}
 use borrow.Author.Tests.{eqb-true, eqb-false, le-leb, lt-leb}
 use lib.Dec.{eqb}
 use lib.ListN.{length, getD, length-append, List·getD-append}
-use Rattle.alike.specs.Spelling.{spelt}
-use Rattle.reading.specs.Rows.{rowsOf}
+use Rattle.same_names.specs.Spelling.{spelt}
+use Rattle.element_reading.specs.Rows.{rowsOf}
 use Rattle.records.specs.Records.{wordAt, isItem, isClaim}
 use Rattle.records.specs.Tallies.{oneIf}
-use Rattle.names.specs.Language.{languageNames, numberOf, languageOf}
-use Rattle.names.specs.Names.{linksTable}
+use Rattle.names.specs.Language.{languageNames, languageNumber, languageOf}
+use Rattle.names.specs.code.Links.{linksTable}
 use Rattle.values.specs.Values.{languageValue}
-use Rattle.values.specs.Words.{stateOf, kindOf, lowOf, highOf, leanOf}
+use Rattle.values.specs.Words.{stateOf, valueKind, lowOf, highOf, leanOf}
 use Rattle.values.specs.declared.Value.{Value}
 use Rattle.values.specs.declared.Value.the-variants.{Without}
 use Rattle.marks.proofs.Laws.{Fits, used-lean}
-use Rattle.uses.specs.Uses.{recordValue, useIn}
+use Rattle.uses.specs.code.Uses.{recordValue, useIn}
 use Rattle.uses.proofs.Laws.{claimed-too, of-language, no-claim, above, below}
-use Rattle.worded.specs.Elements.{Element, Piece, at, piecesOf}
+use Rattle.pieces.specs.Columns as column
+use Rattle.states.specs.States as state
+use Rattle.meaning.specs.Elements.{Element, Piece, at, piecesOf}
 use Rattle.meaning.specs.Names.{classOf, ownName, claims, language, claimsIn, doubled, Done, claimedAbove, firstAbove, useOf}
-use Rattle.meaning.specs.Items.{itemWords}
+use Rattle.meaning.specs.Items.{itemValueWords}
 use Rattle.meaning.proofs.Good.{GoodDone, Good}
-use Rattle.meaning.proofs.Records.{pending, pendings, piecesDone, pieces-append}
+use Rattle.meaning.proofs.Records.{pending, piecesDone, pieces-append}
 use Rattle.meaning.proofs.Places.{tableOf, elements}
-use Rattle.meaning.proofs.Words.{pieceAt, doneAt, itemTable, pieces-waiting, class-at, value-word}
+use Rattle.meaning.proofs.Words.{pieceAt, doneAt, itemTable, class-at, value-word}
 use Rattle.meaning.proofs.Claims.{none-claims, firstIn, link-table}
 use Rattle.meaning.proofs.Sameness.{claimed-class, claimed-doubled}
 use Rattle.meaning.proofs.Doubles.{claim-counts, no-claims, language-at}
@@ -108,18 +110,18 @@ module _ (x : Element) where
 
 -- ---- the language's names
 
-number-most : (p : List ℕ → Bool) (k : ℕ) (ws : List (List ℕ)) → 1 ≤ k → numberOf p k ws < k + length ws
+number-most : (p : List ℕ → Bool) (k : ℕ) (ws : List (List ℕ)) → 1 ≤ k → languageNumber p k ws < k + length ws
 number-most p k [] h = omega arith
 number-most p k (w ∷ ws) h = go (p w) (number-most p (suc k) ws (omega arith))
   where
-    go : (b : Bool) → numberOf p (suc k) ws < suc k + length ws → cond b k (numberOf p (suc k) ws) < k + suc (length ws)
+    go : (b : Bool) → languageNumber p (suc k) ws < suc k + length ws → cond b k (languageNumber p (suc k) ws) < k + suc (length ws)
     go true r = omega arith
     go false r = omega arith
 
 language-most : (x : Element) → language x ≤ 6
 language-most x = go (eqb (x .kind) 1)
   where
-    go : (b : Bool) → cond b (numberOf (spelt true (x .bytes)) 1 languageNames) 0 ≤ 6
+    go : (b : Bool) → cond b (languageNumber (spelt true (x .bytes)) 1 languageNames) 0 ≤ 6
     go true = omega (arith, number-most (spelt true (x .bytes)) 1 languageNames (omega arith))
     go false = omega arith
 
@@ -154,12 +156,12 @@ record-gives : (ds : List Done) (y f : ℕ) → f < length ds → isClaim (class
 unfolding recordValue
 record-gives ds y f h c fits =
     let v = doneAt ds f .value in
-    let item : (k : ℕ) → getD (itemWords (isItem (classOf (doneAt ds f .piece))) (doneAt ds f .value)) k 0 ≡ getD (itemWords true (doneAt ds f .value)) k 0 =
-    λ k. ap (λ (b : Bool). getD (itemWords b (doneAt ds f .value)) k 0) (claim-item (classOf (doneAt ds f .piece)) c) in
-    let a : wordAt (itemTable ds y) f 4 ≡ stateOf v = value-word ds y f h 0 (omega arith) ∙ item 0 in
-    let b : wordAt (itemTable ds y) f 5 ≡ kindOf v = value-word ds y f h 1 (omega arith) ∙ item 1 in
-    let d : wordAt (itemTable ds y) f 6 ≡ lowOf v = value-word ds y f h 2 (omega arith) ∙ item 2 in
-    let e : wordAt (itemTable ds y) f 7 ≡ highOf v = value-word ds y f h 3 (omega arith) ∙ item 3 in
+    let item : (k : ℕ) → getD (itemValueWords (isItem (classOf (doneAt ds f .piece))) (doneAt ds f .value)) k 0 ≡ getD (itemValueWords true (doneAt ds f .value)) k 0 =
+    λ k. ap (λ (b : Bool). getD (itemValueWords b (doneAt ds f .value)) k 0) (claim-item (classOf (doneAt ds f .piece)) c) in
+    let a : wordAt (itemTable ds y) f column.state ≡ stateOf v = value-word ds y f h 0 (omega arith) ∙ item 0 in
+    let b : wordAt (itemTable ds y) f column.kind ≡ valueKind v = value-word ds y f h 1 (omega arith) ∙ item 1 in
+    let d : wordAt (itemTable ds y) f column.low ≡ lowOf v = value-word ds y f h 2 (omega arith) ∙ item 2 in
+    let e : wordAt (itemTable ds y) f column.high ≡ highOf v = value-word ds y f h 3 (omega arith) ∙ item 3 in
     rw (class-at ds y f h, a, b, d, e) (used-lean (classOf (doneAt ds f .piece)) (doneAt ds f .value) fits)
 
 -- the same, of a piece done that is known by another name
@@ -173,7 +175,7 @@ record-is ds y f h d is c fits =
 
 -- what a use comes to, by its parts
 use-of : (all : List Piece) (ds : List Done) (x : Element) (a d : Bool) (v : Value) → claimedAbove x ds ≡ a → doubled all x ≡ d → firstAbove x ds ≡ v
-    → useOf all ds x ≡ cond a (cond d (Without 5) (leanOf v)) (Without 4)
+    → useOf all ds x ≡ cond a (cond d (Without state.leans) (leanOf v)) (Without state.unknown)
 unfolding useOf
 use-of all ds x a d v p q r = cc (p, q, r)
 
@@ -210,7 +212,7 @@ module _ (s : List ℕ) (z y : ℕ) (ds more : List Done) (cuts : piecesDone (ds
       (good-at (piecesOf s) ds (r .number) i good c .0)
 
   found-use : (r : Found (at (elements s) e) ds (piecesDone more) 0) (d : Bool) → doubled (piecesOf s) (at (elements s) e) ≡ d
-      → leanOf (doneAt ds (r .number) .value) ≡ cond d (Without 5) (leanOf (doneAt ds (r .number) .value))
+      → leanOf (doneAt ds (r .number) .value) ≡ cond d (Without state.leans) (leanOf (doneAt ds (r .number) .value))
   found-use r false q = refl
   found-use r true q =
       let p = doneAt ds (r .number) .piece in
@@ -283,9 +285,3 @@ pub use-linked : (s : List ℕ) (z y : ℕ) (ds more : List Done) (cuts : pieces
     → useIn s (tableOf s z) (itemTable (ds ++ more) y) (linksTable s (tableOf s z) n (itemTable cs v) 8192) (length ds) e ≡ useOf (piecesOf s) ds (at (elements s) e)
 use-linked s z y ds more cuts few cs v also n r m good e =
     use-in s z y ds more cuts (linksTable s (tableOf s z) n (itemTable cs v) 8192) (link-table s z v cs also few n r m) good e
-
--- the rest waiting, as it stands when piece number `length ds` is done
-pub use-waiting : (s : List ℕ) (z y : ℕ) (ds : List Done) (rest : List Piece) (cuts : piecesDone ds ++ rest ≡ piecesOf s) (few : length (piecesOf s) ≤ 1024) (cs : List Done) (v : ℕ) (also : piecesDone cs ≡ piecesOf s) (n : ℕ)
-    → n ≡ length (rowsOf s) → n ≤ 8192 → Good (piecesOf s) ds → (e : ℕ)
-    → useIn s (tableOf s z) (itemTable (ds ++ pendings rest) y) (linksTable s (tableOf s z) n (itemTable cs v) 8192) (length ds) e ≡ useOf (piecesOf s) ds (at (elements s) e)
-use-waiting s z y ds rest cuts = use-linked s z y ds (pendings rest) (pieces-waiting ds rest (piecesOf s) cuts)

@@ -8,7 +8,7 @@ use borrow.Author.Tests.{le-ltb, ne-eqb}
 use lib.Dec.{eqb}
 use lib.ListN.{length, getD, drop, length-drop}
 use lib.Seq.{drop-drop, getD-drop}
-use Rattle.reading.specs.Rows.{rowsOf}
+use Rattle.element_reading.specs.Rows.{rowsOf}
 use Rattle.forms.specs.Tree.{Row}
 use Rattle.records.specs.Records.{wordAt}
 use Rattle.tree.specs.Answers.{wordsOf}
@@ -18,14 +18,16 @@ use Rattle.operands.specs.Operands.{literalBy}
 use Rattle.marks.specs.Marks.{operandOf}
 use Rattle.values.specs.declared.Value.{Value}
 use Rattle.values.specs.declared.Value.the-variants.{Without}
-use Rattle.uses.specs.Uses.{useIn}
-use Rattle.folds.specs.Expressions.{behind}
-use Rattle.folds.specs.Rows.{rowsIn}
-use Rattle.folds.specs.Folds.{nameValue, nameIn, literalAt, kindIn, foldOf, expressionIn, elementIn}
-use Rattle.folds.proofs.Expressions.{outcome-same}
-use Rattle.items.specs.Items.{doubledIn, expressionAt, rangeAt, boundedAt, markAt, formedAt, valueAt}
-use Rattle.worded.specs.Elements.{Piece, at, kinds, piecesOf}
-use Rattle.worded.proofs.Cutting.{total, kinds-length}
+use Rattle.uses.specs.code.Uses.{useIn}
+use Rattle.expressions.specs.Expressions.{behind}
+use Rattle.forms.specs.Words.{rowsIn}
+use Rattle.expressions.specs.Folds.{nameValue, nameIn, literalAt, kindInPiece, foldOf, expressionIn, elementIn}
+use Rattle.expressions.proofs.Expressions.{outcome-same}
+use Rattle.items.specs.code.Items.{doubledIn, expressionAt, rangeAt, boundedAt, markIn, formedAt, valueAt}
+use Rattle.pieces.specs.Columns as column
+use Rattle.states.specs.States as state
+use Rattle.meaning.specs.Elements.{Piece, at, kinds, piecesOf}
+use Rattle.meaning.proofs.Cutting.{total, kinds-length}
 use Rattle.meaning.specs.Names.{classOf, ownDoubled, Done, useOf}
 use Rattle.meaning.specs.Items.{valued, bounded, formed, unlessDoubled, valueOf}
 use Rattle.meaning.proofs.Rows.{rows-back, words-part}
@@ -41,7 +43,7 @@ rows-all rs few =
     let e : min (length (wordsOf rs) / 5) 8192 ≡ length rs = omega (arith, words-size rs) in
     rw e (ap (rowsIn (length rs)) (sym (append-nil (wordsOf rs))) ∙ rows-back rs [])
 
--- the rows behind those of a first bound
+-- the rows after those of a first bound
 behind-rows : (item mark range : Row) (rs : List Row) (l : List ℕ)
     → drop (min (suc (suc (suc (length rs)))) (3 + getD (wordsOf (item ∷ mark ∷ range ∷ rs) ++ l) 18 0)) (item ∷ mark ∷ range ∷ rs) ≡ behind rs
 behind-rows item mark range [] l =
@@ -56,13 +58,13 @@ behind-rows item mark range (r ∷ rs) l =
     least (suc n) [] = let e : min 0 (suc n) ≡ 0 = omega arith in rw e
     least (suc n) (q ∷ qs) = let e : min (suc (length qs)) (suc n) ≡ suc (min (length qs) n) = omega arith in rw e (least n qs)
 
-unless-at : (d : Bool) (rs : List Row) (v : Value) → cond (eqb (length rs) 0) (Without 1) (cond d (Without 2) v) ≡ unlessDoubled d rs v
+unless-at : (d : Bool) (rs : List Row) (v : Value) → cond (eqb (length rs) 0) (Without state.broken) (cond d (Without state.doubled) v) ≡ unlessDoubled d rs v
 unless-at d [] v = refl
 unless-at true (r ∷ rs) v = rw (ne-eqb (suc (length rs)) 0 (λ e. omega arith))
 unless-at false (r ∷ rs) v = rw (ne-eqb (suc (length rs)) 0 (λ e. omega arith))
 
 -- a piece of a text, and its record in an item table
-module _ (s : List ℕ) (z : ℕ) (before after : List Piece) (p : Piece) (split : before ++ p ∷ after ≡ piecesOf s) (items : List ℕ) (i : ℕ) (w1 : wordAt items i 1 ≡ total before) (w2 : wordAt items i 2 ≡ length p) where
+module _ (s : List ℕ) (z : ℕ) (before after : List Piece) (p : Piece) (split : before ++ p ∷ after ≡ piecesOf s) (items : List ℕ) (i : ℕ) (w1 : wordAt items i column.first ≡ total before) (w2 : wordAt items i column.count ≡ length p) where
   -- what names used in it come to
   module _ (ds : List Done) (links : List ℕ) (u : (e : ℕ) → useIn s (tableOf s z) items links i e ≡ useOf (piecesOf s) ds (at (elements s) e)) where
     pub name-value : (j : ℕ) → nameValue s (tableOf s z) items links i j ≡ useOf (piecesOf s) ds (at p j)
@@ -80,7 +82,7 @@ module _ (s : List ℕ) (z : ℕ) (before after : List Piece) (p : Piece) (split
         ∙ outcome-same
         (nameIn s (tableOf s z) items links i) (literalAt s (tableOf s z) items i)
         (λ j. operandOf (useOf (piecesOf s) ds (at p j))) (λ j. literalBy (at p j .kind) (at p j .bytes))
-        (kindIn (tableOf s z) items i) (λ j. at p j .kind)
+        (kindInPiece (tableOf s z) items i) (λ j. at p j .kind)
         name-in (literal-at s z before after p split items i w1 w2) (kind-in s z before after p split items i w1 w2) rs
 
     -- its rows, from its first element's row on
@@ -92,7 +94,7 @@ module _ (s : List ℕ) (z : ℕ) (before after : List Piece) (p : Piece) (split
           rw (w1, e, ← drop-drop (5 * a) (5 * total before) rows, here, words-part rs l a h)
           (fold-rows (drop a rs) (omega (arith, length-drop a rs)))
 
-      row-word : (k c : ℕ) → getD rows (5 * (wordAt items i 1 + k) + c) 0 ≡ getD (wordsOf rs ++ l) (5 * k + c) 0
+      row-word : (k c : ℕ) → getD rows (5 * (wordAt items i column.first + k) + c) 0 ≡ getD (wordsOf rs ++ l) (5 * k + c) 0
       row-word k c =
           let e : 5 * (total before + k) + c ≡ 5 * total before + (5 * k + c) = omega arith in
           rw (w1, e) (sym (getD-drop (5 * total before) rows (5 * k + c) 0) ∙ ap (λ (m : List ℕ). getD m (5 * k + c) 0) here)
@@ -120,19 +122,19 @@ module _ (s : List ℕ) (z : ℕ) (before after : List Piece) (p : Piece) (split
           expression-at rows m l here few n (range-within (length m)) ∙ ap (valued p (useOf (piecesOf s) ds)) (range-at item mark range rs here few) in
           rw (ne-eqb (length m) 2 (λ e. omega arith), expression-at rows m l here few 3 (omega arith), second, goes-down s z before after p split items i w1 w2)
 
-      pub formed-at : wordAt items i 0 ≡ classOf p → (rs : List Row) → drop (5 * total before) rows ≡ wordsOf rs ++ l → length rs ≤ 8192
+      pub formed-at : wordAt items i column.class ≡ classOf p → (rs : List Row) → drop (5 * total before) rows ≡ wordsOf rs ++ l → length rs ≤ 8192
           → formedAt s (tableOf s z) items links i rows (length rs) ≡ formed p (useOf (piecesOf s) ds) rs
-      unfolding formedAt markAt
+      unfolding formedAt markIn
       formed-at w0 [] here few = refl
       formed-at w0 (item ∷ []) here few = refl
       formed-at w0 (item ∷ mark ∷ rs) here few =
           let m : List Row = item ∷ mark ∷ rs in
-          let named : nameValue s (tableOf s z) items links i (getD rows (5 * (wordAt items i 1 + 1) + 1) 0) ≡ useOf (piecesOf s) ds (at p (mark .first)) =
-          name-value (getD rows (5 * (wordAt items i 1 + 1) + 1) 0) ∙ ap (λ (j : ℕ). useOf (piecesOf s) ds (at p j)) (row-word rows m l here few 1 1) in
+          let named : nameValue s (tableOf s z) items links i (getD rows (5 * (wordAt items i column.first + 1) + 1) 0) ≡ useOf (piecesOf s) ds (at p (mark .first)) =
+          name-value (getD rows (5 * (wordAt items i column.first + 1) + 1) 0) ∙ ap (λ (j : ℕ). useOf (piecesOf s) ds (at p j)) (row-word rows m l here few 1 1) in
           rw (le-ltb (length m) 2 (omega arith), w0, named, expression-at rows m l here few 2 (omega arith), bounded-at item mark rs here few (useOf (piecesOf s) ds (at p (mark .first))))
 
   -- the whole value
-  pub value-at : (count : ℕ) → count ≡ length (rowsOf s) → length (rowsOf s) ≤ 8192 → wordAt items i 0 ≡ classOf p → (ds : List Done) (links twins : List ℕ)
+  pub value-at : (count : ℕ) → count ≡ length (rowsOf s) → length (rowsOf s) ≤ 8192 → wordAt items i column.class ≡ classOf p → (ds : List Done) (links twins : List ℕ)
       → ((e : ℕ) → useIn s (tableOf s z) items links i e ≡ useOf (piecesOf s) ds (at (elements s) e))
       → doubledIn s (tableOf s z) twins items i ≡ ownDoubled (piecesOf s) p
       → valueAt s (tableOf s z) links twins (itemRows (tableOf s z) count 40960) items i ≡ valueOf (piecesOf s) ds p

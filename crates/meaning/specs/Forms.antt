@@ -1,21 +1,22 @@
--- What an item is by the forms: the reading of its elements by the rules of 01's table ("Forms of the strict reading", 4, 5, 10 and 24 to 29),
--- and no machine. Assumes nothing: these are definitions.
+-- What an item is by the forms: the tree that its elements have by 01's table ("Forms of the strict reading", 4, 5, 10 and 24 to 29), and no
+-- rules or machine. Assumes nothing: these are definitions.
 use Prim.Native.Nat.{ℕ}
 use mathlib.Core.Path.{_≡_}
-use mathlib.Core.Bool.{Bool}
+use mathlib.Core.Logic.{_⊎_}
+use mathlib.Core.Bool.{Bool, true, false}
 use mathlib.Core.List.{List, [], _∷_}
-use Rattle.ll.specs.Grammar.{Sym}
-use Rattle.forms.specs.Names as form
-use Rattle.forms.specs.Tree.{Row, State, rowsOf}
-use Rattle.forms.specs.Items.{ItemReading}
-use Rattle.pieces.specs.Kinds.{anyDown}
-use Rattle.tree.specs.Answers.{terminalsIn}
-use Rattle.tree.specs.Items.{unlike}
+use lib.ListN.{getD}
+use Rattle.forms.specs.Spellings.{spelled}
+use Rattle.forms.specs.Lines as line
+use Rattle.forms.specs.Lines.{IsAmong, ownItems}
+use Rattle.forms.specs.Tree.{Row}
+use Rattle.one_tree.specs.Elements.{formKind}
+use Rattle.one_tree.specs.Trees.{IsConstant, IsSubtype, Shallow}
 use Rattle.folding.specs.declared.Operator.{Operator}
 use Rattle.folding.specs.declared.Sign.{Sign}
 use Rattle.operands.specs.Operands.{operatorOf, signOf}
-use Rattle.folds.specs.Expressions.{behind}
-use Rattle.worded.specs.Elements.{Element, Piece, at, kinds}
+use Rattle.expressions.specs.Expressions.{behind}
+use Rattle.meaning.specs.Elements.{Element, Piece, at}
 
 -- ---- expressions and items
 
@@ -36,7 +37,7 @@ pub data Item : Type 0 where
 
 -- ---- by their rows: "Rows stand parent first, children in text order."
 
--- The rows, in a piece, begin with those of an expression: a left operand stands behind its operator's row, a right one behind the left one's subtree.
+-- The rows, in a piece, begin with those of an expression: a left operand stands after its operator's row, a right one after the left one's subtree.
 pub data Is (p : Piece) : List Row → Expression → Type 0 where
   is-name : {r : Row} {rs : List Row} → r .form ≡ 24 → Is p (r ∷ rs) (name (at p (r .first)))
   is-called : {r : Row} {rs : List Row} → r .form ≡ 25 → Is p (r ∷ rs) unfolded
@@ -46,13 +47,27 @@ pub data Is (p : Piece) : List Row → Expression → Type 0 where
   is-binary : {r : Row} {rs : List Row} {o : Operator} {x y : Expression} → r .form ≡ 29 → operatorOf (at p (r .operator) .kind) ≡ o → Is p rs x → Is p (behind rs) y
       → Is p (r ∷ rs) (binary o x y)
 
--- the elements of a piece are such a form, no more than 32 ever standing open, and these are its rows
-abbrev pub Gives : Sym → Piece → List Row → Type 0
-Gives from p rs = (s : State) × (ItemReading from unlike (terminalsIn (kinds p)) s × (rowsOf s ≡ rs))
+-- what the elements of a piece are to the forms
+abbrev pub toForms : Piece → List ℕ
+toForms [] = []
+toForms (x ∷ p) = formKind (x .kind) ∷ toForms p
 
--- "a constant or a subtype by the forms above": behind its own row stands its mark's, then its expression's, or its range's and the bounds'
+-- These rows are its tree by 01's table, of a constant or of a subtype alone, and no more than 32 parentheses ever stand open.
+abbrev pub Tree : (List ℕ → List Row → Type 0) → Piece → List Row → Type 0
+Tree Of p rs = Of (toForms p) rs × Shallow 0 (toForms p)
+
+-- of the one or of the other
+abbrev pub ItemTree : Piece → List Row → Type 0
+ItemTree p rs = Tree IsConstant p rs ⊎ Tree IsSubtype p rs
+
+-- which way a range goes: to or downto is one of its own elements, which are those outside its bounds
+pub data Goes (w : List ℕ) (own : List line.Item) : Bool → Type 0 where
+  to : (i : ℕ) → IsAmong (line.at i) own → getD w i 0 ≡ spelled "to" → Goes w own false
+  downto : (i : ℕ) → IsAmong (line.at i) own → getD w i 0 ≡ spelled "downto" → Goes w own true
+
+-- "a constant or a subtype by the forms above": after its own row stands its mark's, then its expression's, or its range's and the bounds'
 pub data HasForm (p : Piece) : Item → Type 0 where
-  is-constant : {item mark : Row} {rs : List Row} {x : Expression} → Gives form.constant p (item ∷ mark ∷ rs) → Is p rs x → HasForm p (constant (at p (mark .first)) x)
-  is-subtype : {item mark : Row} → Gives form.subtype p (item ∷ mark ∷ []) → HasForm p (subtype (at p (mark .first)))
-  is-ranged : {item mark range : Row} {rs : List Row} {x y : Expression} → Gives form.subtype p (item ∷ mark ∷ range ∷ rs) → Is p rs x → Is p (behind rs) y
-      → HasForm p (ranged (at p (mark .first)) x (anyDown (kinds p)) y)
+  is-constant : {item mark : Row} {rs : List Row} {x : Expression} → Tree IsConstant p (item ∷ mark ∷ rs) → Is p rs x → HasForm p (constant (at p (mark .first)) x)
+  is-subtype : {item mark : Row} → Tree IsSubtype p (item ∷ mark ∷ []) → HasForm p (subtype (at p (mark .first)))
+  is-ranged : {item mark range : Row} {rs : List Row} {x y : Expression} {down : Bool} → Tree IsSubtype p (item ∷ mark ∷ range ∷ rs)
+      → Goes (toForms p) (ownItems (toForms p) range rs) down → Is p rs x → Is p (behind rs) y → HasForm p (ranged (at p (mark .first)) x down y)

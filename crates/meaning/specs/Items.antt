@@ -15,9 +15,11 @@ use Rattle.marks.specs.Marks.{operandOf, constantOf, subtypeOf, rangedOf}
 use Rattle.values.specs.Words.{valueWords}
 use Rattle.values.specs.declared.Value.{Value}
 use Rattle.values.specs.declared.Value.the-variants.{Without}
-use Rattle.worded.specs.Elements.{Element, Piece, at, kinds, piecesOf}
+use Rattle.states.specs.States as state
+use Rattle.pieces.specs.Classes as class
+use Rattle.meaning.specs.Elements.{Element, Piece, at, kinds, piecesOf}
 use Rattle.meaning.specs.Names.{classOf, ownDoubled, Done, useOf}
-use Rattle.folds.specs.Expressions.{behind, outcomeOf}
+use Rattle.expressions.specs.Expressions.{behind, outcomeOf}
 
 -- a piece, and what the names used in it come to
 module _ (p : Piece) (used : Element → Value) where
@@ -30,20 +32,20 @@ module _ (p : Piece) (used : Element → Value) where
   bounded mark [] = subtypeOf mark
   bounded mark (range ∷ rs) = rangedOf mark (valued rs) (valued (behind rs)) (anyDown (kinds p))
 
-  -- class 3, constant N : mark := expression; class 4, subtype N is mark [range 10]
+  -- constant N : mark := expression; subtype N is mark [range 10]
   abbrev pub marked : Value → List Row → Value
-  marked mark rs = cond (eqb (classOf p) 3) (constantOf mark (valued rs)) (bounded mark rs)
+  marked mark rs = cond (eqb (classOf p) class.constant) (constantOf mark (valued rs)) (bounded mark rs)
 
   -- the item's own row, the mark's, and the rest
   abbrev pub formed : List Row → Value
-  formed [] = Without 1
-  formed (item ∷ []) = Without 1
+  formed [] = Without state.broken
+  formed (item ∷ []) = Without state.broken
   formed (item ∷ mark ∷ rs) = marked (used (at p (mark .first))) rs
 
 -- 1, "no form fits", before 2, "its name has another claim", before the rest
 abbrev pub unlessDoubled : Bool → List Row → Value → Value
-unlessDoubled d [] v = Without 1
-unlessDoubled true (r ∷ rs) v = Without 2
+unlessDoubled d [] v = Without state.broken
+unlessDoubled true (r ∷ rs) v = Without state.doubled
 unlessDoubled false (r ∷ rs) v = v
 
 -- what a piece comes to, below `above` in the text `all`: "The smallest of 1 to 6 wins"
@@ -62,14 +64,14 @@ unfoldable pub donesOf : List Piece → List Done
 donesOf ps = donesFrom ps [] ps
 
 -- a record: "class 1 to 5 ..; first element, count, name element, state; in state 0 kind .. and two numbers; what is absent is 0"
-abbrev pub itemWords : Bool → Value → List ℕ
-itemWords true v = valueWords v
-itemWords false v = 0 ∷ 0 ∷ 0 ∷ 0 ∷ []
+abbrev pub itemValueWords : Bool → Value → List ℕ
+itemValueWords true v = valueWords v
+itemValueWords false v = 0 ∷ 0 ∷ 0 ∷ 0 ∷ []
 
 unfoldable pub recordOf : ℕ → Done → List ℕ
 recordOf from d =
     markOf (kinds (d .piece)) .class ∷ from ∷ length (d .piece) ∷ nameOf from (markOf (kinds (d .piece)) .place)
-    ∷ itemWords (isItem (markOf (kinds (d .piece)) .class)) (d .value)
+    ∷ itemValueWords (isItem (markOf (kinds (d .piece)) .class)) (d .value)
 
 -- the records, the first piece's first element being number `from`
 unfoldable pub recordsFrom : ℕ → List Done → List ℕ

@@ -1,3 +1,5 @@
+pub mod Elements
+pub mod Sameness
 pub mod Names
 pub mod Forms
 pub mod States

@@ -3,7 +3,7 @@ use Prim.Native.Nat.{ℕ}
 use mathlib.Core.List.{List, [], _∷_, _++_}
 use Rattle.values.specs.declared.Value.{Value}
 use Rattle.values.specs.declared.Value.the-variants.{Without}
-use Rattle.worded.specs.Elements.{Piece}
+use Rattle.meaning.specs.Elements.{Piece}
 use Rattle.meaning.specs.Names.{Done, useOf}
 use Rattle.meaning.specs.Forms.{Item, HasForm}
 use Rattle.meaning.specs.States.{Met, Least, NoneMet}

@@ -3,32 +3,42 @@ use Prim.Native.Nat.{ℕ, _+_}
 use mathlib.Core.Bool.{Bool, true, false, cond, not, _&&_, _||_}
 use mathlib.Core.List.{List, [], _∷_}
 use lib.Dec.{eqb, leb}
-use Rattle.alike.specs.Spelling.{spelt}
+use Rattle.same_names.specs.Spelling.{spelt}
 use Rattle.pieces.specs.Kinds.{markOf}
 use Rattle.records.specs.Records.{isClaim}
 use Rattle.records.specs.Tallies.{oneIf}
-use Rattle.names.specs.Language.{languageNames, numberOf}
+use Rattle.names.specs.Language.{languageNames, languageNumber}
 use Rattle.values.specs.Values.{languageValue}
 use Rattle.values.specs.Words.{leanOf}
 use Rattle.values.specs.declared.Value.{Value}
 use Rattle.values.specs.declared.Value.the-variants.{Without}
-use Rattle.worded.specs.Elements.{Element, Piece, at, kinds}
-use Rattle.worded.specs.Names.{sameAs}
+use Rattle.states.specs.States as state
+use Rattle.places.specs.Kinds.{identifier}
+use Rattle.meaning.specs.Elements.{Element, Piece, at, kinds}
+use Rattle.meaning.specs.Sameness.{sameAs}
 
 -- the class of a piece
 abbrev pub classOf : Piece → ℕ
 classOf p = markOf (kinds p) .class
 
--- "A piece claims a name if it begins with constant or subtype and then a name, broken or not."
+-- "A piece claims a name if it begins with constant or subtype and then a name, broken or not": the names that it claims, none or one
 abbrev pub ownName : Piece → Element
 ownName p = at p 1
 
-unfoldable pub claims : Element → Piece → Bool
-claims x p = isClaim (classOf p) && sameAs (ownName p) x
+unfoldable pub namesClaimed : Piece → List Element
+namesClaimed p = cond (isClaim (classOf p)) (ownName p ∷ []) []
 
--- "The names integer, natural, positive, boolean, true, false are claimed by the language already": 1 to 6, else 0
+-- x is one of these names
+abbrev pub isOneOf : Element → List Element → Bool
+isOneOf x [] = false
+isOneOf x (y ∷ ys) = sameAs y x || isOneOf x ys
+
+unfoldable pub claims : Element → Piece → Bool
+claims x p = isOneOf x (namesClaimed p)
+
+-- "The names integer, natural, positive, boolean, true, false are claimed by the language already": its number, else 0
 abbrev pub language : Element → ℕ
-language x = cond (eqb (x .kind) 1) (numberOf (spelt true (x .bytes)) 1 languageNames) 0
+language x = cond (eqb (x .kind) identifier) (languageNumber (spelt true (x .bytes)) 1 languageNames) 0
 
 -- how many claims a name has in a text, the language's included
 unfoldable pub claimsIn : Element → List Piece → ℕ
@@ -60,4 +70,4 @@ firstAbove x (d ∷ ds) = elim (claims x (d .piece)) [ true ↦ d .value | false
 -- a name used below `above` in the text `all`; 4, "a name used with no claim above"; 5, "a name used that is doubled, or whose item isn't in
 -- state 0"
 unfoldable pub useOf : List Piece → List Done → Element → Value
-useOf all above x = cond (claimedAbove x above) (cond (doubled all x) (Without 5) (leanOf (firstAbove x above))) (Without 4)
+useOf all above x = cond (claimedAbove x above) (cond (doubled all x) (Without state.leans) (leanOf (firstAbove x above))) (Without state.unknown)

@@ -9,7 +9,7 @@ use Rattle.records.specs.Records.{isItem}
 use Rattle.records.specs.Tallies.{oneIf, tallyOf}
 use Rattle.values.specs.declared.Value.{Value}
 use Rattle.values.specs.declared.Value.the-variants.{Without}
-use Rattle.worded.specs.Elements.{Piece, piecesOf}
+use Rattle.meaning.specs.Elements.{Piece, piecesOf}
 use Rattle.meaning.specs.Names.{classOf, ownDoubled, Done}
 use Rattle.meaning.specs.Forms.{Item, constant, subtype, ranged, HasForm}
 use Rattle.meaning.specs.Meaning.{Comes, Come}
@@ -61,6 +61,6 @@ abbrev pub sum : List ℕ → ℕ
 sum [] = 0
 sum (n ∷ ns) = n + sum ns
 
--- The eleven counts of the tally add up to the number of items, whatever stands behind the records of a text: no item goes uncounted.
+-- The eleven counts of the tally add up to the number of items, whatever stands after the records of a text: no item goes uncounted.
 abbrev pub AllCounted : Type 0
 AllCounted = (text rest : List ℕ) → sum (tallyOf (recordsOf text ++ rest) (length (piecesOf text)) .counts) ≡ itemsAmong (piecesOf text)

@@ -13,16 +13,13 @@ use Rattle.folding.specs.declared.Operator.{Operator}
 use Rattle.folding.specs.declared.Operator.the-variants as O
 use Rattle.folding.specs.declared.Sign.{Sign}
 use Rattle.folding.specs.declared.Sign.the-variants.{Plus, Minus, Absolute, Not}
-use Rattle.values.specs.States as state
+use Rattle.places.specs.Kinds.{integerLiteral}
+use Rattle.states.specs.States as state
 use Rattle.values.specs.declared.Value.{Value}
 use Rattle.values.specs.declared.Value.the-variants.{Number, Truth, Range, Truths, Without}
-use Rattle.worded.specs.Elements.{Element, Piece}
+use Rattle.meaning.specs.Elements.{Element, Piece}
 use Rattle.meaning.specs.Names.{ownDoubled, Done, useOf}
 use Rattle.meaning.specs.Forms.{Expression, name, literal, unfolded, unary, binary, Item, constant, subtype, ranged, HasForm}
-
--- the kind of elements that are integer literals
-abbrev pub integerLiteral : ℕ
-integerLiteral = 3
 
 -- ---- integer or truth: what the last operator, the name or the literal says alone
 
@@ -52,12 +49,12 @@ operatorKind O.Join = neither
 
 -- what a name used comes to is given as `used`
 module _ (used : Element → Value) where
-  abbrev pub kindOf : Expression → Kind
-  kindOf (name x) = nameKind (used x)
-  kindOf (literal x) = cond (eqb (x .kind) integerLiteral) integer neither
-  kindOf unfolded = neither
-  kindOf (unary o x) = signKind o
-  kindOf (binary o x y) = operatorKind o
+  abbrev pub expressionKind : Expression → Kind
+  expressionKind (name x) = nameKind (used x)
+  expressionKind (literal x) = cond (eqb (x .kind) integerLiteral) integer neither
+  expressionKind unfolded = neither
+  expressionKind (unary o x) = signKind o
+  expressionKind (binary o x y) = operatorKind o
 
 -- ---- the states that an expression meets
 
@@ -69,18 +66,18 @@ pub data Meets (used : Element → Value) : Expression → ℕ → Type 0 where
   -- 4 unknown, "a name used with no claim above"; 5 leans, "a name used that is doubled, or whose item isn't in state 0"
   without : {x : Element} {s : ℕ} → used x ≡ Without s → Meets used (name x) s
   -- 6 kind: "integer and truth mixed"
-  mixed-left : {o : Relation} {x y : Expression} → kindOf used x ≡ integer → kindOf used y ≡ truth → Meets used (binary (O.Relation o) x y) state.kind
-  mixed-right : {o : Relation} {x y : Expression} → kindOf used x ≡ truth → kindOf used y ≡ integer → Meets used (binary (O.Relation o) x y) state.kind
+  mixed-left : {o : Relation} {x y : Expression} → expressionKind used x ≡ integer → expressionKind used y ≡ truth → Meets used (binary (O.Relation o) x y) state.kind
+  mixed-right : {o : Relation} {x y : Expression} → expressionKind used x ≡ truth → expressionKind used y ≡ integer → Meets used (binary (O.Relation o) x y) state.kind
   -- 6: "arithmetic on truths"
-  plus-truth : {x : Expression} → kindOf used x ≡ truth → Meets used (unary Plus x) state.kind
-  minus-truth : {x : Expression} → kindOf used x ≡ truth → Meets used (unary Minus x) state.kind
-  absolute-truth : {x : Expression} → kindOf used x ≡ truth → Meets used (unary Absolute x) state.kind
-  truth-left : {o : Arithmetic} {x y : Expression} → kindOf used x ≡ truth → Meets used (binary (O.Arithmetic o) x y) state.kind
-  truth-right : {o : Arithmetic} {x y : Expression} → kindOf used y ≡ truth → Meets used (binary (O.Arithmetic o) x y) state.kind
+  plus-truth : {x : Expression} → expressionKind used x ≡ truth → Meets used (unary Plus x) state.kind
+  minus-truth : {x : Expression} → expressionKind used x ≡ truth → Meets used (unary Minus x) state.kind
+  absolute-truth : {x : Expression} → expressionKind used x ≡ truth → Meets used (unary Absolute x) state.kind
+  truth-left : {o : Arithmetic} {x y : Expression} → expressionKind used x ≡ truth → Meets used (binary (O.Arithmetic o) x y) state.kind
+  truth-right : {o : Arithmetic} {x y : Expression} → expressionKind used y ≡ truth → Meets used (binary (O.Arithmetic o) x y) state.kind
   -- 6: "logic on integers"
-  not-integer : {x : Expression} → kindOf used x ≡ integer → Meets used (unary Not x) state.kind
-  integer-left : {o : Logic} {x y : Expression} → kindOf used x ≡ integer → Meets used (binary (O.Logic o) x y) state.kind
-  integer-right : {o : Logic} {x y : Expression} → kindOf used y ≡ integer → Meets used (binary (O.Logic o) x y) state.kind
+  not-integer : {x : Expression} → expressionKind used x ≡ integer → Meets used (unary Not x) state.kind
+  integer-left : {o : Logic} {x y : Expression} → expressionKind used x ≡ integer → Meets used (binary (O.Logic o) x y) state.kind
+  integer-right : {o : Logic} {x y : Expression} → expressionKind used y ≡ integer → Meets used (binary (O.Logic o) x y) state.kind
   -- 6: "a type as a number"
   range-as-number : {x : Element} {low high : ℤ} → used x ≡ Range low high → Meets used (name x) state.kind
   boolean-as-number : {x : Element} → used x ≡ Truths → Meets used (name x) state.kind
@@ -104,14 +101,14 @@ pub data ItemMeets (used : Element → Value) : Item → ℕ → Type 0 where
   truth-as-type : {i : Item} {t : Bool} → used (markOf i) ≡ Truth t → ItemMeets used i state.kind
   -- those of the initial value; 6: "integer and truth mixed"
   value : {m : Element} {x : Expression} {s : ℕ} → Meets used x s → ItemMeets used (constant m x) s
-  truth-in-range : {m : Element} {x : Expression} {low high : ℤ} → used m ≡ Range low high → kindOf used x ≡ truth → ItemMeets used (constant m x) state.kind
-  integer-in-boolean : {m : Element} {x : Expression} → used m ≡ Truths → kindOf used x ≡ integer → ItemMeets used (constant m x) state.kind
+  truth-in-range : {m : Element} {x : Expression} {low high : ℤ} → used m ≡ Range low high → expressionKind used x ≡ truth → ItemMeets used (constant m x) state.kind
+  integer-in-boolean : {m : Element} {x : Expression} → used m ≡ Truths → expressionKind used x ≡ integer → ItemMeets used (constant m x) state.kind
   -- those of the bounds, which are integers; 6: "a range on boolean"
   range-on-boolean : {m : Element} {x y : Expression} {down : Bool} → used m ≡ Truths → ItemMeets used (ranged m x down y) state.kind
   first : {m : Element} {x y : Expression} {down : Bool} {s : ℕ} → Meets used x s → ItemMeets used (ranged m x down y) s
-  first-truth : {m : Element} {x y : Expression} {down : Bool} → kindOf used x ≡ truth → ItemMeets used (ranged m x down y) state.kind
+  first-truth : {m : Element} {x y : Expression} {down : Bool} → expressionKind used x ≡ truth → ItemMeets used (ranged m x down y) state.kind
   second : {m : Element} {x y : Expression} {down : Bool} {s : ℕ} → Meets used y s → ItemMeets used (ranged m x down y) s
-  second-truth : {m : Element} {x y : Expression} {down : Bool} → kindOf used y ≡ truth → ItemMeets used (ranged m x down y) state.kind
+  second-truth : {m : Element} {x y : Expression} {down : Bool} → expressionKind used y ≡ truth → ItemMeets used (ranged m x down y) state.kind
 
 -- ---- a piece, below those `above` in the text `all`
 

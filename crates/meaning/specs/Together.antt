@@ -13,8 +13,8 @@ use Rattle.records.specs.Tallies.{oneIf}
 use Rattle.pairs.specs.declared.Pair.{Pair}
 use Rattle.pairs.specs.declared.Pair.the-variants.{Both, Neither}
 use Rattle.values.specs.Words.{stateOf}
-use Rattle.worded.specs.Elements.{Piece, at, kinds}
-use Rattle.worded.specs.Names.{sameAs}
+use Rattle.meaning.specs.Elements.{Piece, at, kinds}
+use Rattle.meaning.specs.Sameness.{sameAs}
 use Rattle.meaning.specs.Names.{classOf, ownName, claims, Done}
 
 -- "class 1 to 5: heading, closing, .."

@@ -17,12 +17,12 @@ use Rattle.folding.specs.declared.Operator.{Operator}
 use Rattle.folding.specs.declared.Operator.the-variants as O
 use Rattle.folding.specs.declared.Sign.{Sign}
 use Rattle.folding.specs.declared.Sign.the-variants.{Plus, Minus, Absolute, Not}
-use Rattle.values.specs.States as state
+use Rattle.states.specs.States as state
 use Rattle.values.specs.declared.Value.{Value}
 use Rattle.values.specs.declared.Value.the-variants as value
-use Rattle.worded.specs.Elements.{Element}
+use Rattle.meaning.specs.Elements.{Element}
 use Rattle.meaning.specs.Forms.{Expression, name, literal, unary, binary, Item, constant, subtype, ranged}
-use Rattle.meaning.specs.States.{integerLiteral}
+use Rattle.places.specs.Kinds.{integerLiteral}
 
 -- ---- expressions: "an integer, a truth, or the state that stopped it"
 

@@ -10,12 +10,15 @@ use lib.ListN.{length, getD, set}
 use lib.Seq.{getD-set-same, getD-set-other}
 use borrow.Author.Tests.{eq-eqb, ne-eqb, eqb-false}
 use Rattle.laws.proofs.Laws.{both-left, both-right}
-use Rattle.alike.specs.Alike.{sameName}
+use Rattle.same_names.specs.Alike.{sameName}
 use Rattle.places.specs.Places.{cellAt}
-use Rattle.alike.proofs.Sameness.{same-kindless}
+use Rattle.same_names.proofs.Sameness.{same-kindless}
 use Rattle.records.specs.Records.{wordAt, isClaim}
-use Rattle.names.specs.Names.{recordsIn, firstFrom, claimsElement, linkOf, below}
-use Rattle.names.specs.Chains.{bucketOf, inBucket, Chained}
+use Rattle.pieces.specs.Columns as column
+use Rattle.places.specs.Sizes.{mostPieces}
+use Rattle.places.specs.Kinds.{identifier, extended}
+use Rattle.names.specs.code.Links.{recordsIn, firstFrom, claimsElement, linkOf, upTo}
+use Rattle.names.specs.code.Chains.{bucketOf, inBucket, Chained, buckets}
 use Rattle.names.proofs.Firsts.{first-found, first-hit, first-miss, first-end, search-over, search-inside, search-in, search-hit, search-turn}
 use Rattle.names.proofs.Hashing.{same-bucket}
 use Rattle.names.proofs.Tables.{word-below}
@@ -37,11 +40,11 @@ module _ (p : ℕ → ℕ → Bool) (n j : ℕ) (heads next : List ℕ) (h : Cha
       go b k a l e (yes y) = absurd (false≢true (sym (f b) ∙ subst (λ (x : ℕ). p b x ≡ true) y e))
       go b k a l e (no y) = h .linked b k (omega arith) l e
 
-  pub chain-takes : (c : ℕ) → c < 1024 → length heads ≡ 1024 → j < length next → p c j ≡ true → ((b : ℕ) → (b ≡ c → ⊥) → p b j ≡ false)
+  pub chain-takes : (c : ℕ) → c < buckets → length heads ≡ buckets → j < length next → p c j ≡ true → ((b : ℕ) → (b ≡ c → ⊥) → p b j ≡ false)
       → Chained p n j (set heads c (j + 1)) (set next j (getD heads c 0))
   chain-takes c low size room t f = record { headed = λ b l. head b l (ℕ-discrete b c); linked = λ b k a l e. link b k a l e (ℕ-discrete k j) (ℕ-discrete b c) }
     where
-      head : (b : ℕ) → b < 1024 → Dec (b ≡ c) → getD (set heads c (j + 1)) b 0 ≡ firstFrom (p b) j (n - j)
+      head : (b : ℕ) → b < buckets → Dec (b ≡ c) → getD (set heads c (j + 1)) b 0 ≡ firstFrom (p b) j (n - j)
       head b l (yes y) = rw y (getD-set-same heads c (j + 1) 0 (omega arith) ∙ sym (first-hit (p c) n j inside t))
       head b l (no y) = getD-set-other heads c b (j + 1) 0 y ∙ h .headed b l ∙ sym (first-miss (p b) n j inside (f b y))
 
@@ -51,12 +54,12 @@ module _ (p : ℕ → ℕ → Bool) (n j : ℕ) (heads next : List ℕ) (h : Cha
       link b k a l e (no y) d = getD-set-other next j k (getD heads c 0) 0 y ∙ h .linked b k (omega arith) l e
 
 -- which chain a record is of
-module _ (text table items : List ℕ) (j class : ℕ) (x : Bool) (u : class ≡ wordAt items j 0) (v : x ≡ isClaim class) where
+module _ (text table items : List ℕ) (j class : ℕ) (x : Bool) (u : class ≡ wordAt items j column.class) (v : x ≡ isClaim class) where
   in-none : x ≡ false → (b : ℕ) → inBucket text table items b j ≡ false
   unfolding inBucket
   in-none h b = rw (← u, ← v, h)
 
-  module _ (e c : ℕ) (h : x ≡ true) (w : e ≡ wordAt items j 3) (k : c ≡ bucketOf text table e) where
+  module _ (e c : ℕ) (h : x ≡ true) (w : e ≡ wordAt items j column.name) (k : c ≡ bucketOf text table e) where
     in-own : inBucket text table items c j ≡ true
     unfolding inBucket
     in-own = rw (← u, ← v, h, ← w) (eq-eqb (bucketOf text table e) c (sym k))
@@ -73,7 +76,7 @@ module _ (text table items : List ℕ) (j class : ℕ) (x : Bool) (u : class ≡
     pub record-passed : x ≡ false → Chained (inBucket text table items) n j heads next
     record-passed h = chain-passes (inBucket text table items) n j heads next back (omega arith) (in-none h)
 
-    pub record-chained : (e c : ℕ) → x ≡ true → e ≡ wordAt items j 3 → c ≡ bucketOf text table e → c < 1024 → length heads ≡ 1024 → length next ≡ 1024 → n ≤ 1024
+    pub record-chained : (e c : ℕ) → x ≡ true → e ≡ wordAt items j column.name → c ≡ bucketOf text table e → c < buckets → length heads ≡ buckets → length next ≡ buckets → n ≤ buckets
         → Chained (inBucket text table items) n j (set heads c (j + 1)) (set next j (getD heads c 0))
     record-chained e c h w k l size room most =
         chain-takes (inBucket text table items) n j heads next back (omega arith) c l size (omega arith) (in-own e c h w k) (in-other e c h w k)
@@ -105,12 +108,12 @@ module _ (text table items : List ℕ) (e : ℕ) where
   claims-chain : (k : ℕ) → claims k ≡ true → chain k ≡ true
   unfolding claimsElement inBucket
   claims-chain k h =
-      let x = both-left (isClaim (wordAt items k 0)) (sameName text table (wordAt items k 3) e) h in
-      let y = both-right (isClaim (wordAt items k 0)) (sameName text table (wordAt items k 3) e) h in
-      rw x (eq-eqb (bucketOf text table (wordAt items k 3)) (bucketOf text table e) (same-bucket text table (wordAt items k 3) e y))
+      let x = both-left (isClaim (wordAt items k column.class)) (sameName text table (wordAt items k column.name) e) h in
+      let y = both-right (isClaim (wordAt items k column.class)) (sameName text table (wordAt items k column.name) e) h in
+      rw x (eq-eqb (bucketOf text table (wordAt items k column.name)) (bucketOf text table e) (same-bucket text table (wordAt items k column.name) e y))
 
   -- no claims of what is no name
-  search-not : (kind : ℕ) → kind ≡ cellAt table e 0 → (eqb kind 1 || eqb kind 2) ≡ false → 0 ≡ linkOf text table items e
+  search-not : (kind : ℕ) → kind ≡ cellAt table e 0 → (eqb kind identifier || eqb kind extended) ≡ false → 0 ≡ linkOf text table items e
   unfolding linkOf claimsElement
   search-not kind k h = sym (go (linkOf text table items e) refl)
     where
@@ -118,12 +121,12 @@ module _ (text table items : List ℕ) (e : ℕ) where
       go zero g = g
       go (suc f) g =
           let w = first-found (claimsElement text table items e) 0 (recordsIn items) f g in
-          absurd (same-kindless text table (wordAt items f 3) e
-          (λ z. eqb-false kind 1 (or-left (eqb kind 1) (eqb kind 2) h) (k ∙ z))
-          (λ z. eqb-false kind 2 (or-right (eqb kind 1) (eqb kind 2) h) (k ∙ z))
-          (both-right (isClaim (wordAt items f 0)) (sameName text table (wordAt items f 3) e) (w .2)))
+          absurd (same-kindless text table (wordAt items f column.name) e
+          (λ z. eqb-false kind identifier (or-left (eqb kind identifier) (eqb kind extended) h) (k ∙ z))
+          (λ z. eqb-false kind extended (or-right (eqb kind identifier) (eqb kind extended) h) (k ∙ z))
+          (both-right (isClaim (wordAt items f column.class)) (sameName text table (wordAt items f column.name) e) (w .2)))
 
-  pub link-not : (rows kind : ℕ) → e < rows → kind ≡ cellAt table e 0 → (eqb kind 1 || eqb kind 2) ≡ false → 0 ≡ below (linkOf text table items) rows e
+  pub link-not : (rows kind : ℕ) → e < rows → kind ≡ cellAt table e 0 → (eqb kind identifier || eqb kind extended) ≡ false → 0 ≡ upTo (linkOf text table items) rows e
   link-not rows kind l k h = word-below (linkOf text table items) rows e 0 l (search-not kind k h)
 
   -- what is left of the search at h
@@ -133,7 +136,7 @@ module _ (text table items : List ℕ) (e : ℕ) where
     pub left : firstFrom claims at (recordsIn items - at) ≡ linkOf text table items e
 
   module _ (heads next : List ℕ) (chained : Chained (inBucket text table items) (recordsIn items) 0 heads next) where
-    pub search-start : (c : ℕ) → c ≡ bucketOf text table e → c < 1024 → Searching (getD heads c 0)
+    pub search-start : (c : ℕ) → c ≡ bucketOf text table e → c < buckets → Searching (getD heads c 0)
     unfolding linkOf
     search-start c k l = let z : recordsIn items - 0 ≡ recordsIn items = omega arith in record {
       at = 0;
@@ -156,10 +159,10 @@ module _ (text table items : List ℕ) (e : ℕ) where
           rw one-more
           (left-less chain (recordsIn items) j (getD next j 0) search-place (chained .linked (bucketOf text table e) j (omega arith) search-place in-chain))
 
-      module _ (w : ℕ) (r : Bool) (is : w ≡ wordAt items j 3) (told : r ≡ sameName text table w e) where
+      module _ (w : ℕ) (r : Bool) (is : w ≡ wordAt items j column.name) (told : r ≡ sameName text table w e) where
         claims-told : claims j ≡ r
         unfolding claimsElement inBucket
-        claims-told = rw (both-left (isClaim (wordAt items j 0)) (eqb (bucketOf text table (wordAt items j 3)) (bucketOf text table e)) in-chain, ← is) (sym told)
+        claims-told = rw (both-left (isClaim (wordAt items j column.class)) (eqb (bucketOf text table (wordAt items j column.name)) (bucketOf text table e)) in-chain, ← is) (sym told)
 
         pub search-found : r ≡ true → h ≡ linkOf text table items e
         search-found t =
@@ -175,7 +178,7 @@ module _ (text table items : List ℕ) (e : ℕ) where
   pub search-done : (h : ℕ) → Searching h → h ≡ 0 → 0 ≡ linkOf text table items e
   search-done h s z = search-over claims chain claims-chain (recordsIn items) (s .at) h (linkOf text table items e) (s .found) (s .left) z
 
-pub search-short : (items : List ℕ) (j : ℕ) → j < recordsIn items → j < 1024
+pub search-short : (items : List ℕ) (j : ℕ) → j < recordsIn items → j < mostPieces
 unfolding recordsIn
 search-short items j l = omega arith
 

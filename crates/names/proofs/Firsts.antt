@@ -4,7 +4,7 @@ use mathlib.Core.Bool.{Bool, true, false, false≢true}
 use Prim.Native.Nat.{ℕ, zero, suc, _+_, _-_, _≤_, _<_}
 use native.Mathlib.Decide.{ℕ-discrete}
 use native.Mathlib.Omega.{arith}
-use Rattle.names.specs.Names.{firstFrom, anyFrom}
+use Rattle.names.specs.code.Links.{firstFrom, anyFrom}
 
 module _ (p : ℕ → Bool) where
   hit : (j m : ℕ) → p j ≡ true → firstFrom p j (suc m) ≡ suc j
@@ -52,7 +52,7 @@ module _ (p : ℕ → Bool) where
       go false e (yes y) g = subst (λ (x : ℕ). p x ≡ false) y e
       go false e (no y) g = g e (omega arith)
 
-  -- what none of d numbers passes, the ones behind them decide
+  -- what none of d numbers passes, the ones after them decide
   pub first-later : (j d m : ℕ) → ((k : ℕ) → j ≤ k → k < j + d → p k ≡ false) → firstFrom p j (d + m) ≡ firstFrom p (j + d) m
   first-later j zero m h = let e : j + 0 ≡ j = omega arith in let g : 0 + m ≡ m = omega arith in rw (e, g)
   first-later j (suc d) m h =
@@ -144,9 +144,6 @@ module _ (p q : ℕ → Bool) (some : (k : ℕ) → p k ≡ true → q k ≡ tru
   module _ (j : ℕ) (e : h ≡ suc j) where
     is : IsFirst q at (n - at) j
     is = first-found q at (n - at) j (sym found ∙ e)
-
-    pub search-low : at ≤ j
-    search-low = is .0
 
     pub search-inside : j < n
     search-inside = let a = is .0 in let b = is .1 in omega arith

@@ -7,10 +7,11 @@ use native.Mathlib.Omega.{arith}
 use lib.Dec.{eqb}
 use lib.ListN.{length, getD}
 use borrow.Author.Tests.{le-leb, leb-true}
-use Rattle.alike.specs.Alike.{counts, agree, byKind, sameName}
+use Rattle.same_names.specs.Alike.{counts, agree, byKind, sameName}
 use Rattle.places.specs.Places.{cellAt, within}
-use Rattle.alike.proofs.Sameness.{agree-opens, same-opens}
-use Rattle.names.specs.Chains.{mixedWith, hashFrom, chainOf, bucketOf}
+use Rattle.same_names.proofs.Sameness.{agree-opens, same-opens}
+use Rattle.places.specs.Kinds.{identifier}
+use Rattle.names.specs.code.Chains.{mixedWith, hashFrom, chainOf, bucketOf, hashes, perChain, buckets}
 
 -- what is left to hash
 abbrev pub Hashing : Bool → List ℕ → ℕ → ℕ → ℕ → ℕ → Type 0
@@ -46,7 +47,7 @@ module _ (s l : List ℕ) (e first n : ℕ) (x : Bool) (p : first ≡ cellAt l e
   unfolding bucketOf
   bucket-out t = rw (← p, ← q, ← w, t)
 
-  pub bucket-in : (kind h : ℕ) → x ≡ true → kind ≡ cellAt l e 0 → h ≡ hashFrom (eqb kind 1) s first n 0 → chainOf h ≡ bucketOf s l e
+  pub bucket-in : (kind h : ℕ) → x ≡ true → kind ≡ cellAt l e 0 → h ≡ hashFrom (eqb kind identifier) s first n 0 → chainOf h ≡ bucketOf s l e
   unfolding bucketOf
   bucket-in kind h t k g = rw (← p, ← q, ← w, t, ← k, g)
 
@@ -71,5 +72,5 @@ same-bucket s l a b h =
 pub stands-in : (s : List ℕ) (x n : ℕ) (t : Bool) → t ≡ within s x n → t ≡ true → x + n ≤ length s
 stands-in s x n t e h = leb-true (x + n) (length s) (sym e ∙ h)
 
-pub chain-low : (h : ℕ) → h < 4294967296 → h / 4194304 < 1024
+pub chain-low : (h : ℕ) → h < hashes → h / perChain < buckets
 chain-low h l = omega arith

@@ -6,20 +6,22 @@ use Prim.Native.Nat.{ℕ, suc, _<_, min}
 use native.Mathlib.Omega.{arith}
 use lib.ListN.{length, getD}
 use Rattle.laws.proofs.Laws.{both-left, both-right}
-use Rattle.alike.specs.Alike.{sameName}
-use Rattle.alike.proofs.Sameness.{same-flips, same-goes-on}
+use Rattle.same_names.specs.Alike.{sameName}
+use Rattle.same_names.proofs.Sameness.{same-flips, same-goes-on}
 use Rattle.records.specs.Records.{wordAt, isClaim}
-use Rattle.names.specs.Names.{recordsIn, claimsElement, linkOf, ownOf, share, filled}
+use Rattle.pieces.specs.Columns as column
+use Rattle.names.specs.Names.{share}
+use Rattle.names.specs.code.Links.{recordsIn, claimsElement, linkOf, ownOf, filled}
 use Rattle.names.proofs.Tables.{filled-at}
 use Rattle.names.proofs.Firsts.{first-found, first-none, first-same}
 
-module _ (text table items : List ℕ) (i class : ℕ) (x : Bool) (u : class ≡ wordAt items i 0) (v : x ≡ isClaim class) where
-  pub own-claim : (e r : ℕ) → x ≡ true → e ≡ wordAt items i 3 → r ≡ linkOf text table items e → r ≡ ownOf text table items i
+module _ (text table items : List ℕ) (i class : ℕ) (x : Bool) (u : class ≡ wordAt items i column.class) (v : x ≡ isClaim class) where
+  pub own-claim : (e r : ℕ) → x ≡ true → e ≡ wordAt items i column.name → r ≡ linkOf text table items e → r ≡ ownOf text table items i
   unfolding ownOf
   own-claim e r h w q = rw (← u, ← v, h, ← w) q
 
   -- the links reach the name's element
-  pub own-linked : (rows e m : ℕ) (links : List ℕ) → x ≡ true → e ≡ wordAt items i 3 → links ≡ filled (linkOf text table items) rows (length links) → m ≡ min rows (length links) → e < m → getD links e 0 ≡ ownOf text table items i
+  pub own-linked : (rows e m : ℕ) (links : List ℕ) → x ≡ true → e ≡ wordAt items i column.name → links ≡ filled (linkOf text table items) rows (length links) → m ≡ min rows (length links) → e < m → getD links e 0 ≡ ownOf text table items i
   own-linked rows e m links h w f q l =
       own-claim e (getD links e 0) h w (ap (λ (t : List ℕ). getD t e 0) f ∙ filled-at (linkOf text table items) rows (length links) e (omega arith) (omega arith))
 
@@ -30,13 +32,13 @@ module _ (text table items : List ℕ) (i class : ℕ) (x : Bool) (u : class ≡
 module _ (text table items : List ℕ) where
   -- the name of record i
   abbrev name : ℕ → ℕ
-  name i = wordAt items i 3
+  name i = wordAt items i column.name
 
-  claims-both : (e j : ℕ) → claimsElement text table items e j ≡ true → (isClaim (wordAt items j 0) ≡ true) × (sameName text table (name j) e ≡ true)
+  claims-both : (e j : ℕ) → claimsElement text table items e j ≡ true → (isClaim (wordAt items j column.class) ≡ true) × (sameName text table (name j) e ≡ true)
   unfolding claimsElement
-  claims-both e j h = (both-left (isClaim (wordAt items j 0)) (sameName text table (name j) e) h, both-right (isClaim (wordAt items j 0)) (sameName text table (name j) e) h)
+  claims-both e j h = (both-left (isClaim (wordAt items j column.class)) (sameName text table (name j) e) h, both-right (isClaim (wordAt items j column.class)) (sameName text table (name j) e) h)
 
-  claims-so : (e j : ℕ) → isClaim (wordAt items j 0) ≡ true → sameName text table (name j) e ≡ true → claimsElement text table items e j ≡ true
+  claims-so : (e j : ℕ) → isClaim (wordAt items j column.class) ≡ true → sameName text table (name j) e ≡ true → claimsElement text table items e j ≡ true
   unfolding claimsElement
   claims-so e j h g = rw (h, g)
 
@@ -56,7 +58,7 @@ module _ (text table items : List ℕ) where
   -- one name has one link
   pub link-same : (a b : ℕ) → sameName text table a b ≡ true → linkOf text table items a ≡ linkOf text table items b
   unfolding linkOf claimsElement
-  link-same a b h = first-same (claimsElement text table items a) (claimsElement text table items b) 0 (recordsIn items) (λ k l g. ap (λ (t : Bool). isClaim (wordAt items k 0) && t) (agree (name k)))
+  link-same a b h = first-same (claimsElement text table items a) (claimsElement text table items b) 0 (recordsIn items) (λ k l g. ap (λ (t : Bool). isClaim (wordAt items k column.class) && t) (agree (name k)))
     where
       agree : (c : ℕ) → sameName text table c a ≡ sameName text table c b
       agree c = go (sameName text table c a) (sameName text table c b) refl refl
@@ -67,27 +69,27 @@ module _ (text table items : List ℕ) where
           go true false p q = sym (same-goes-on text table c a b p h) ∙ q
           go false true p q = sym p ∙ same-goes-on text table c b a q (same-flips text table a b h)
 
-  own-is : (i : ℕ) → isClaim (wordAt items i 0) ≡ true → ownOf text table items i ≡ linkOf text table items (name i)
+  own-is : (i : ℕ) → isClaim (wordAt items i column.class) ≡ true → ownOf text table items i ≡ linkOf text table items (name i)
   unfolding ownOf
   own-is i h = rw h
 
-  own-claims : (i f : ℕ) → ownOf text table items i ≡ suc f → (isClaim (wordAt items i 0) ≡ true) × (linkOf text table items (name i) ≡ suc f)
+  own-claims : (i f : ℕ) → ownOf text table items i ≡ suc f → (isClaim (wordAt items i column.class) ≡ true) × (linkOf text table items (name i) ≡ suc f)
   unfolding ownOf
-  own-claims i f h = go (isClaim (wordAt items i 0)) refl
+  own-claims i f h = go (isClaim (wordAt items i column.class)) refl
     where
-      go : (t : Bool) → isClaim (wordAt items i 0) ≡ t → (isClaim (wordAt items i 0) ≡ true) × (linkOf text table items (name i) ≡ suc f)
+      go : (t : Bool) → isClaim (wordAt items i column.class) ≡ t → (isClaim (wordAt items i column.class) ≡ true) × (linkOf text table items (name i) ≡ suc f)
       go true e = (e, sym (own-is i e) ∙ h)
       go false e = absurd (let z : _≡_ {A = ℕ} 0 (suc f) = sym (ap (λ (t : Bool). cond t (linkOf text table items (name i)) 0) e) ∙ h in omega arith)
 
-  share-opens : (i j : ℕ) → share text table items i j ≡ true → (isClaim (wordAt items i 0) ≡ true) × (isClaim (wordAt items j 0) ≡ true) × (sameName text table (name i) (name j) ≡ true)
+  share-opens : (i j : ℕ) → share text table items i j ≡ true → (isClaim (wordAt items i column.class) ≡ true) × (isClaim (wordAt items j column.class) ≡ true) × (sameName text table (name i) (name j) ≡ true)
   unfolding share
   share-opens i j h =
-      let x = isClaim (wordAt items i 0) in
-      let y = isClaim (wordAt items j 0) in
+      let x = isClaim (wordAt items i column.class) in
+      let y = isClaim (wordAt items j column.class) in
       let c = both-left (x && y) (sameName text table (name i) (name j)) h in
       (both-left x y c, both-right x y c, both-right (x && y) (sameName text table (name i) (name j)) h)
 
-  share-closes : (i j : ℕ) → isClaim (wordAt items i 0) ≡ true → isClaim (wordAt items j 0) ≡ true → sameName text table (name i) (name j) ≡ true → share text table items i j ≡ true
+  share-closes : (i j : ℕ) → isClaim (wordAt items i column.class) ≡ true → isClaim (wordAt items j column.class) ≡ true → sameName text table (name i) (name j) ≡ true → share text table items i j ≡ true
   unfolding share
   share-closes i j a b c = rw (a, b, c)
 

@@ -12,7 +12,8 @@ use Rattle.laws.proofs.Laws.{both-left, both-right}
 use Rattle.pairs.specs.Pairs.{sameNumber, laterOf, pairFrom, pairOf}
 use Rattle.pairs.specs.declared.Pair.{Pair}
 use Rattle.pairs.specs.declared.Pair.the-variants.{Both, Neither}
-use Rattle.names.specs.Names.{recordsIn, ownOf, share, another, twinOf, anyTwin, sharedPair, ownsTable}
+use Rattle.names.specs.Names.{share, sharedPair}
+use Rattle.names.specs.code.Links.{recordsIn, ownOf, another, twinOf, anyTwin, ownsTable}
 use Rattle.names.proofs.Firsts.{any-at}
 use Rattle.names.proofs.Tables.{filled-length, filled-at}
 use Rattle.names.proofs.Owning.{shared-owns, owns-shared}

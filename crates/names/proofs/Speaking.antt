@@ -7,10 +7,11 @@ use native.Mathlib.Omega.{arith}
 use lib.ListN.{length}
 use borrow.Author.Tests.{eq-eqb, ne-eqb}
 use Rattle.places.specs.Places.{cellAt}
-use Rattle.alike.specs.Spelling.{spelledAs}
-use Rattle.alike.proofs.Spelling.{spelled-sized}
-use Rattle.names.specs.Language.{integerName, naturalName, positiveName, booleanName, trueName, falseName, languageOf}
-use Rattle.names.specs.Chains.{sevenOf}
+use Rattle.same_names.specs.Spelling.{spelledAs}
+use Rattle.same_names.proofs.Spelling.{spelled-sized}
+use Rattle.places.specs.Kinds.{identifier}
+use Rattle.names.specs.Language.{integerName, naturalName, positiveName, booleanName, trueName, falseName, languageOf, name-integer, name-natural, name-positive, name-boolean, name-true, name-false}
+use Rattle.names.specs.code.Chains.{sevenOf}
 
 -- a name told or not
 pub told-so : (x t : Bool) (n : ℕ) → x ≡ t → x ≡ true → n ≡ cond t n 0
@@ -21,46 +22,46 @@ told-not x t n e h = rw (sym e ∙ h)
 
 -- the names of seven letters
 module _ (p : List ℕ → Bool) (x : Bool) (a : x ≡ p integerName) where
-  pub seven-first : x ≡ true → 1 ≡ sevenOf p
+  pub seven-first : x ≡ true → name-integer ≡ sevenOf p
   seven-first h = rw (sym a ∙ h)
 
   module _ (y : Bool) (b : y ≡ p naturalName) (h : x ≡ false) where
-    pub seven-second : y ≡ true → 2 ≡ sevenOf p
+    pub seven-second : y ≡ true → name-natural ≡ sevenOf p
     seven-second g = rw (sym a ∙ h, sym b ∙ g)
 
-    pub seven-third : (r : ℕ) → y ≡ false → r ≡ cond (p booleanName) 4 0 → r ≡ sevenOf p
+    pub seven-third : (r : ℕ) → y ≡ false → r ≡ cond (p booleanName) name-boolean 0 → r ≡ sevenOf p
     seven-third r g e = rw (sym a ∙ h, sym b ∙ g) e
 
 module _ (text table : List ℕ) (e kind : ℕ) (k : kind ≡ cellAt table e 0) where
-  pub language-other : (kind ≡ 1 → ⊥) → 0 ≡ languageOf text table e
+  pub language-other : (kind ≡ identifier → ⊥) → 0 ≡ languageOf text table e
   unfolding languageOf
-  language-other h = rw (← k, ne-eqb kind 1 h)
+  language-other h = rw (← k, ne-eqb kind identifier h)
 
-  module _ (size : ℕ) (one : kind ≡ 1) (s : size ≡ cellAt table e 2) where
+  module _ (size : ℕ) (one : kind ≡ identifier) (s : size ≡ cellAt table e 2) where
     out : (name : List ℕ) → (size ≡ length name → ⊥) → spelledAs true text table e name ≡ false
     out name h = spelled-sized true text table e name (λ z. h (s ∙ z))
 
-    pub language-four : (r : ℕ) → size ≡ 4 → r ≡ cond (spelledAs true text table e trueName) 5 0 → r ≡ languageOf text table e
+    pub language-four : (r : ℕ) → size ≡ 4 → r ≡ cond (spelledAs true text table e trueName) name-true 0 → r ≡ languageOf text table e
     unfolding languageOf
     language-four r h g =
-        rw (← k, eq-eqb kind 1 one, out integerName (λ z. omega arith), out naturalName (λ z. omega arith), out positiveName (λ z. omega arith), out booleanName (λ z. omega arith), out falseName (λ z. omega arith)) g
+        rw (← k, eq-eqb kind identifier one, out integerName (λ z. omega arith), out naturalName (λ z. omega arith), out positiveName (λ z. omega arith), out booleanName (λ z. omega arith), out falseName (λ z. omega arith)) g
 
-    pub language-five : (r : ℕ) → size ≡ 5 → r ≡ cond (spelledAs true text table e falseName) 6 0 → r ≡ languageOf text table e
+    pub language-five : (r : ℕ) → size ≡ 5 → r ≡ cond (spelledAs true text table e falseName) name-false 0 → r ≡ languageOf text table e
     unfolding languageOf
     language-five r h g =
-        rw (← k, eq-eqb kind 1 one, out integerName (λ z. omega arith), out naturalName (λ z. omega arith), out positiveName (λ z. omega arith), out booleanName (λ z. omega arith), out trueName (λ z. omega arith)) g
+        rw (← k, eq-eqb kind identifier one, out integerName (λ z. omega arith), out naturalName (λ z. omega arith), out positiveName (λ z. omega arith), out booleanName (λ z. omega arith), out trueName (λ z. omega arith)) g
 
     pub language-seven : (r : ℕ) → size ≡ 7 → r ≡ sevenOf (spelledAs true text table e) → r ≡ languageOf text table e
     unfolding languageOf
     language-seven r h g =
-        rw (← k, eq-eqb kind 1 one, out positiveName (λ z. omega arith), out trueName (λ z. omega arith), out falseName (λ z. omega arith)) g
+        rw (← k, eq-eqb kind identifier one, out positiveName (λ z. omega arith), out trueName (λ z. omega arith), out falseName (λ z. omega arith)) g
 
-    pub language-eight : (r : ℕ) → size ≡ 8 → r ≡ cond (spelledAs true text table e positiveName) 3 0 → r ≡ languageOf text table e
+    pub language-eight : (r : ℕ) → size ≡ 8 → r ≡ cond (spelledAs true text table e positiveName) name-positive 0 → r ≡ languageOf text table e
     unfolding languageOf
     language-eight r h g =
-        rw (← k, eq-eqb kind 1 one, out integerName (λ z. omega arith), out naturalName (λ z. omega arith), out booleanName (λ z. omega arith), out trueName (λ z. omega arith), out falseName (λ z. omega arith)) g
+        rw (← k, eq-eqb kind identifier one, out integerName (λ z. omega arith), out naturalName (λ z. omega arith), out booleanName (λ z. omega arith), out trueName (λ z. omega arith), out falseName (λ z. omega arith)) g
 
     pub language-none : (size ≡ 4 → ⊥) → (size ≡ 5 → ⊥) → (size ≡ 7 → ⊥) → (size ≡ 8 → ⊥) → 0 ≡ languageOf text table e
     unfolding languageOf
     language-none f g h i =
-        rw (← k, eq-eqb kind 1 one, out integerName h, out naturalName h, out positiveName i, out booleanName h, out trueName f, out falseName g)
+        rw (← k, eq-eqb kind identifier one, out integerName h, out naturalName h, out positiveName i, out booleanName h, out trueName f, out falseName g)

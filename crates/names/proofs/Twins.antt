@@ -12,8 +12,10 @@ use lib.Seq.{getD-set-same, getD-set-other}
 use borrow.Author.Tests.{eqb-false, ne-eqb, not-true}
 use Rattle.laws.proofs.Laws.{both-left, both-right}
 use Rattle.records.specs.Tallies.{oneIf}
-use Rattle.names.specs.Names.{recordsIn, anyFrom, ownOf, share, another, twinOf, anyTwin}
-use Rattle.names.specs.Chains.{Twin, First, Marking}
+use Rattle.places.specs.Sizes.{mostPieces}
+use Rattle.names.specs.Names.{share}
+use Rattle.names.specs.code.Links.{recordsIn, anyFrom, ownOf, another, twinOf, anyTwin}
+use Rattle.names.specs.code.Chains.{Twin, First, Marking}
 use Rattle.names.proofs.Firsts.{any-found, any-at, any-none}
 use Rattle.names.proofs.Owning.{shared-owns, owns-shared, own-first}
 
@@ -39,7 +41,7 @@ module _ (own : List ℕ) (n : ℕ) where
         go k g l e d (yes y) = absurd (stays g (is ∙ ap (λ (x : ℕ). getD own x 0) (sym y) ∙ e) (λ z. d (y ∙ z)))
         go k g l e d (no y) = m .complete k g (omega arith) e d
 
-    module _ (first : First own n) (size : length marks ≡ 1024) (most : n ≤ 1024) (t : (not (eqb f 0) && not (eqb f (i + 1))) ≡ true) where
+    module _ (first : First own n) (size : length marks ≡ mostPieces) (most : n ≤ mostPieces) (t : (not (eqb f 0) && not (eqb f (i + 1))) ≡ true) where
       named : f ≡ 0 → ⊥
       named = eqb-false f 0 (not-true (eqb f 0) (both-left (not (eqb f 0)) (not (eqb f (i + 1))) t))
 
@@ -58,7 +60,7 @@ module _ (own : List ℕ) (n : ℕ) where
       first-inside : f - 1 < n
       first-inside = first i (f - 1) inside number .0
 
-      pub mark-room : f - 1 < 1024
+      pub mark-room : f - 1 < mostPieces
       mark-room = let a = first-inside in omega arith
 
       first-own : getD own (f - 1) 0 ≡ suc (f - 1)

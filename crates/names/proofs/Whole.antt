@@ -7,8 +7,10 @@ use native.Mathlib.Omega.{arith}
 use lib.ListN.{length, getD}
 use Rattle.places.specs.Places.{rowsIn}
 use Rattle.records.specs.Tallies.{oneIf}
-use Rattle.names.specs.Names.{recordsIn, linkOf, ownOf, twinOf, anyTwin, filled, linksTable, ownsTable, twinsTable}
-use Rattle.names.specs.Chains.{Chained, First, Marking}
+use Rattle.pieces.specs.Columns.{recordWords}
+use Rattle.places.specs.Sizes.{mostPieces}
+use Rattle.names.specs.code.Links.{recordsIn, linkOf, ownOf, twinOf, anyTwin, filled, linksTable, ownsTable, twinsTable}
+use Rattle.names.specs.code.Chains.{Chained, First, Marking}
 use Rattle.names.proofs.Tables.{filled-same}
 use Rattle.names.proofs.Twins.{owns-first, marks-twins, marks-any}
 
@@ -16,12 +18,12 @@ pub links-whole : (text table items t : List ℕ) (count all rows m : ℕ) → a
 unfolding linksTable
 links-whole text table items t count all rows m d e h = h ∙ ap (λ (r : ℕ). filled (linkOf text table items) r m) (e ∙ ap (min count) d)
 
-module _ (items : List ℕ) (n : ℕ) (e : n ≡ min (length items / 8) 1024) where
+module _ (items : List ℕ) (n : ℕ) (e : n ≡ min (length items / recordWords) mostPieces) where
   pub records-all : n ≡ recordsIn items
   unfolding recordsIn
   records-all = e
 
-  pub records-most : n ≤ 1024
+  pub records-most : n ≤ mostPieces
   records-most = omega arith
 
   pub chained-all : (p : ℕ → ℕ → Bool) (heads next : List ℕ) → Chained p n 0 heads next → Chained p (recordsIn items) 0 heads next

@@ -1,3 +1,3 @@
 pub mod Names
 pub mod Language
-pub mod Chains
+pub mod code

@@ -8,29 +8,49 @@ ghost use mathlib.Core.Bool.{true, cond};
 ghost use Prim.Native.Nat.{ℕ, _+_, _≤_, _<_};
 ghost use lib.ListN.{length, getD, replicate};
 ghost use Rattle.places.specs.Sizes.{mostPieces};
-ghost use Rattle.alike.specs.Spelling.{spelledAs};
-ghost use Rattle.names.specs.Names.{recordsIn, linkOf, ownOf, below, filled, linksTable, ownsTable, twinsTable, anyTwin};
+ghost use Rattle.same_names.specs.Spelling.{spelledAs};
+ghost use Rattle.names.specs.code.Links.{recordsIn, linkOf, ownOf, upTo, filled, linksTable, ownsTable, twinsTable, anyTwin};
 ghost use Rattle.names.specs.Language.{languageOf};
-ghost use Rattle.names.specs.Chains.{mixedWith, hashFrom, bucketOf, inBucket, Chained, First, Marking, sevenOf};
+ghost use Rattle.names.specs.code.Chains.{hashes, buckets, mixedWith, hashFrom, bucketOf, inBucket, Chained, First, Marking, sevenOf};
 
 // How many chains the names are hashed into.
 const BUCKETS: usize = 1024;
 
+// How many hashes there are, what one is multiplied by, and how many go to a chain.
+const HASHES: u64 = 4294967296;
+
+const MULTIPLIER: u64 = 2654435761;
+
+const PER_CHAIN: u64 = HASHES / (BUCKETS as u64);
+
+// The names that the language claims, by number.
+pub const INTEGER: u64 = 1;
+
+pub const NATURAL: u64 = 2;
+
+pub const POSITIVE: u64 = 3;
+
+pub const BOOLEAN: u64 = 4;
+
+pub const TRUE: u64 = 5;
+
+pub const FALSE: u64 = 6;
+
 fn mixed(h: u64, b: u8) -> u64
-    requires { ⌜ h < 4294967296 ⌝ }
-    ensures { λ r. ⌜ (r ≡ mixedWith h b) × (r < 4294967296) ⌝ }
+    requires { ⌜ h < hashes ⌝ }
+    ensures { λ r. ⌜ (r ≡ mixedWith h b) × (r < hashes) ⌝ }
 {
-    (h + (b as u64)) * 2654435761 % 4294967296
+    (h + (b as u64)) * MULTIPLIER % HASHES
 }
 
 fn hashed(text: &[u8], from: usize, n: usize, basic: bool) -> u64
     requires { ⌜ from + n ≤ length (now text) ⌝ }
-    ensures { λ r. ⌜ (r ≡ hashFrom basic (now (text .entry)) from n 0) × (r < 4294967296) ⌝ }
+    ensures { λ r. ⌜ (r ≡ hashFrom basic (now (text .entry)) from n 0) × (r < hashes) ⌝ }
 {
     let mut h: u64 = 0;
     let mut i: usize = 0;
     while i < n {
-        h = mixed(h, alike::counted(basic, text[from + i]));
+        h = mixed(h, same_names::counted(basic, text[from + i]));
         i += 1;
     }
     h
@@ -38,14 +58,14 @@ fn hashed(text: &[u8], from: usize, n: usize, basic: bool) -> u64
 
 // Which chain element e's name is of.
 fn bucket(text: &[u8], elements: &[u64], e: usize) -> usize
-    ensures { λ r. ⌜ (r ≡ bucketOf (now (text .entry)) (now (elements .entry)) e) × (r < 1024) ⌝ }
+    ensures { λ r. ⌜ (r ≡ bucketOf (now (text .entry)) (now (elements .entry)) e) × (r < buckets) ⌝ }
 {
     let first = places::place_of(elements, ElementNumber(e));
-    let n = places::size_of(elements, e);
+    let n = places::size_of(elements, ElementNumber(e));
     if places::stands(text, first, n) {
-        let kind = places::kind_of(elements, e);
-        let h = hashed(text, first.0, n as usize, kind == 1);
-        return (h / 4194304) as usize;
+        let kind = places::kind_of(elements, ElementNumber(e));
+        let h = hashed(text, first.0, n as usize, kind == places::IDENTIFIER);
+        return (h / PER_CHAIN) as usize;
     }
     0
 }
@@ -59,14 +79,18 @@ fn chain_names(
     heads: &mut [u64; BUCKETS],
     next: &mut [u64; MOST_PIECES],
 )
-    requires { ⌜ (n ≤ mostPieces) × (now heads ≡ replicate 1024 0) × (now next ≡ replicate mostPieces 0) ⌝ }
+    requires { ⌜ (n ≤ mostPieces) × (now heads ≡ replicate buckets 0) × (now next ≡ replicate mostPieces 0) ⌝ }
     ensures { λ _. ⌜ Chained (inBucket (now (text .entry)) (now (elements .entry)) (now (items .entry))) n 0 (now (heads .exit)) (now (next .exit)) ⌝ }
 {
     let mut i = n;
     while 0 < i {
         i -= 1;
-        if records::is_claim(records::word(items, i, 0)) {
-            let b = bucket(text, elements, records::word(items, i, 3) as usize);
+        if records::is_claim(records::word(items, i, pieces::CLASS)) {
+            let b = bucket(
+                text,
+                elements,
+                records::word(items, i, pieces::NAME) as usize,
+            );
             next[i] = heads[b];
             heads[b] = (i + 1) as u64;
         }
@@ -88,7 +112,12 @@ fn find(
     let mut h = heads[bucket(text, elements, e)];
     while h != 0 {
         let j = (h - 1) as usize;
-        if alike::same_name(text, elements, records::word(items, j, 3) as usize, e) {
+        if same_names::same_name(
+            text,
+            elements,
+            ElementNumber(records::word(items, j, pieces::NAME) as usize),
+            ElementNumber(e),
+        ) {
             return h;
         }
         h = next[j];
@@ -107,11 +136,11 @@ fn link_at(
     e: usize,
 ) -> u64
     requires { ⌜ Chained (inBucket (now text) (now elements) (now items)) (recordsIn (now items)) 0 (now heads) (now next) ⌝ }
-    ensures { λ r. ⌜ r ≡ below (linkOf (now (text .entry)) (now (elements .entry)) (now (items .entry))) rows e ⌝ }
+    ensures { λ r. ⌜ r ≡ upTo (linkOf (now (text .entry)) (now (elements .entry)) (now (items .entry))) rows e ⌝ }
 {
     if e < rows {
-        let kind = places::kind_of(elements, e);
-        if (kind == 1) | (kind == 2) {
+        let kind = places::kind_of(elements, ElementNumber(e));
+        if (kind == places::IDENTIFIER) | (kind == places::EXTENDED) {
             return find(text, elements, items, heads, next, e);
         }
     }
@@ -151,9 +180,9 @@ fn own_link(
     requires { ⌜ Chained (inBucket (now text) (now elements) (now items)) (recordsIn (now items)) 0 (now heads) (now next) × (now links ≡ filled (linkOf (now text) (now elements) (now items)) rows (length (now links))) ⌝ }
     ensures { λ r. ⌜ r ≡ ownOf (now (text .entry)) (now (elements .entry)) (now (items .entry)) i ⌝ }
 {
-    if records::is_claim(records::word(items, i, 0)) {
-        let e = records::word(items, i, 3) as usize;
-        if e < lent::least(rows, links.len()) {
+    if records::is_claim(records::word(items, i, pieces::CLASS)) {
+        let e = records::word(items, i, pieces::NAME) as usize;
+        if e < lent_tables::least(rows, links.len()) {
             return links[e];
         }
         return find(text, elements, items, heads, next, e);
@@ -203,7 +232,7 @@ fn mark_twins(own: &[u64; MOST_PIECES], n: usize, marks: &mut [u64; MOST_PIECES]
 
 fn word_at(from: &[u64; MOST_PIECES], n: usize, i: usize) -> u64
     requires { ⌜ n ≤ mostPieces ⌝ }
-    ensures { λ r. ⌜ r ≡ below (λ (k : ℕ). getD (now (from .entry)) k 0) n i ⌝ }
+    ensures { λ r. ⌜ r ≡ upTo (λ (k : ℕ). getD (now (from .entry)) k 0) n i ⌝ }
 {
     if i < n { from[i] } else { 0 }
 }
@@ -236,11 +265,11 @@ pub fn link_names(
     ensures { λ _. ⌜ now (owns .exit) ≡ ownsTable (now (text .entry)) (now (elements .entry)) (now (items .entry)) (length (now (owns .entry))) ⌝ }
     ensures { λ _. ⌜ now (twins .exit) ≡ twinsTable (now (text .entry)) (now (elements .entry)) (now (items .entry)) (length (now (twins .entry))) ⌝ }
 {
-    let n = lent::least(items.len() / RECORD_WORDS, MOST_PIECES);
+    let n = lent_tables::least(items.len() / RECORD_WORDS, MOST_PIECES);
     let mut heads = [0u64; BUCKETS];
     let mut next = [0u64; MOST_PIECES];
     chain_names(text, elements, items, n, &mut heads, &mut next);
-    let rows = lent::least(count, places::rows_in(elements));
+    let rows = lent_tables::least(count, places::rows_in(elements));
     write_links(text, elements, items, rows, &heads, &next, links);
     let mut own = [0u64; MOST_PIECES];
     own_links(
@@ -265,7 +294,7 @@ pub fn link_names(
 fn told(text: &[u8], elements: &[u64], e: usize, name: &[u8], number: u64) -> u64
     ensures { λ r. ⌜ r ≡ cond (spelledAs true (now (text .entry)) (now (elements .entry)) e (now (name .entry))) number 0 ⌝ }
 {
-    if alike::spelled_as(true, text, elements, e, name) {
+    if same_names::spelled_as(true, text, elements, ElementNumber(e), name) {
         number
     } else {
         0
@@ -276,28 +305,28 @@ fn told(text: &[u8], elements: &[u64], e: usize, name: &[u8], number: u64) -> u6
 fn seven(text: &[u8], elements: &[u64], e: usize) -> u64
     ensures { λ r. ⌜ r ≡ sevenOf (spelledAs true (now (text .entry)) (now (elements .entry)) e) ⌝ }
 {
-    if alike::spelled_as(true, text, elements, e, b"integer") {
-        return 1;
+    if same_names::spelled_as(true, text, elements, ElementNumber(e), b"integer") {
+        return INTEGER;
     }
-    if alike::spelled_as(true, text, elements, e, b"natural") {
-        return 2;
+    if same_names::spelled_as(true, text, elements, ElementNumber(e), b"natural") {
+        return NATURAL;
     }
-    told(text, elements, e, b"boolean", 4)
+    told(text, elements, e, b"boolean", BOOLEAN)
 }
 
-// 1 to 6 for the language's names integer, natural, positive, boolean, true, false; 0 for any other element.
+// The number of the language's name that an element is; 0 for any other element.
 pub fn language(text: &[u8], elements: &[u64], e: usize) -> u64
     ensures { λ r. ⌜ r ≡ languageOf (now (text .entry)) (now (elements .entry)) e ⌝ }
 {
-    if places::kind_of(elements, e) != 1 {
+    if places::kind_of(elements, ElementNumber(e)) != places::IDENTIFIER {
         return 0;
     }
-    let size = places::size_of(elements, e);
+    let size = places::size_of(elements, ElementNumber(e));
     match size {
-        4 => told(text, elements, e, b"true", 5),
-        5 => told(text, elements, e, b"false", 6),
+        4 => told(text, elements, e, b"true", TRUE),
+        5 => told(text, elements, e, b"false", FALSE),
         7 => seven(text, elements, e),
-        8 => told(text, elements, e, b"positive", 3),
+        8 => told(text, elements, e, b"positive", POSITIVE),
         _ => 0,
     }
 }

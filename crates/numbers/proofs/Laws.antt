@@ -21,7 +21,7 @@ use Rattle.numbers.specs.declared.Size.{Size}
 use Rattle.numbers.specs.declared.Size.the-variants.{Of, Nothing}
 use Rattle.numbers.proofs.Spelled.{on-digit}
 
--- one digit more behind a number above 1 is above 16
+-- one digit more after a number above 1 is above 16
 pub capped-large : (v b : ℕ) → (b ≡ 95 → ⊥) → 1 < v → _≡_ {A = ℕ} 17 (min 17 (digitIn 10 v b))
 capped-large v b e h = omega (arith, on-digit 10 v b e)
 
@@ -79,11 +79,11 @@ exponent-le either s =
     (λ e. omega (arith, run-le (Below 10) (drop (exponentHead either s) s), length-drop (exponentHead either s) s, digit-inside s (exponentHead either s) (both-right (eqb (lower (getD s 0 0)) 101) _ e)))
     (λ _. omega arith)
 
--- an exponent behind n bytes stays within the text
+-- an exponent after n bytes stays within the text
 pub exponent-fits : (either : Bool) (s : List ℕ) (n r : ℕ) → n ≤ length s → r ≡ exponent either (take (length s - n) (drop n s)) → n + r ≤ length s
 exponent-fits either s n r h e = omega (arith, exponent-le either (drop n s), length-drop n s, e ∙ ap (exponent either) (part-rest s n))
 
--- a run behind n bytes stays within the text
+-- a run after n bytes stays within the text
 pub run-fits : (k : ℕ) (s : List ℕ) (n r : ℕ) → n ≤ length s → r ≡ run (Below k) (take (length s - n) (drop n s)) → n + r ≤ length s
 run-fits k s n r h e = omega (arith, run-le (Below k) (drop n s), length-drop n s, e ∙ ap (run (Below k)) (part-rest s n))
 
@@ -91,7 +91,7 @@ run-fits k s n r h e = omega (arith, run-le (Below k) (drop n s), length-drop n 
 pub part-front : (s : List ℕ) (n : ℕ) → n < length s → n ≡ length (take n s)
 part-front s n h = sym (length-take-le n s (omega arith))
 
--- the digits behind a point, with the exponent
+-- the digits after a point, with the exponent
 pub fraction-whole : (s : List ℕ) (n r : ℕ) → n ≡ run (Below 10) s → r ≡ exponent true (take (length s - n) (drop n s)) → n + r ≡ digits s + exponent true (drop (digits s) s)
 unfolding digits
 fraction-whole s n r h e = rw (← h) (ap (λ (m : ℕ). n + m) (rw (part-rest s n) at e))
@@ -156,13 +156,13 @@ module _ (s : List ℕ) (n v : ℕ) (h : n ≡ digits s) (w : v ≡ min 17 (spel
     pub based-fits : (k : ℕ) → n < length s → st ≡ Of k → n + 1 + k ≤ length s
     based-fits k i m = omega (arith, below-le v (drop (n + 1) s) k (ap (belowBase v) (sym (part-rest s (n + 1))) ∙ sym e ∙ m), length-drop (n + 1) s)
 
--- behind n digits stands the byte b
+-- after n digits stands the byte b
 module _ (s : List ℕ) (n b : ℕ) (h : n ≡ run (Below 10) s) (q : b ≡ getD s n 0) where
   pub number-asks : (k : ℕ) → b ≡ suc k → (n ≡ digits s) × (n < length s)
   unfolding digits
   number-asks k e = (h, byte-at s n b k q e)
 
--- the four ways of a number; a is its first byte, b the one behind its digits
+-- the four ways of a number; a is its first byte, b the one after its digits
 module _ (s : List ℕ) (a : ℕ) (d : Bool) (p : a ≡ getD s 0 0) (i : d ≡ isDigit a) where
   pub number-none : not d ≡ true → Neither ≡ number s
   unfolding number

@@ -14,11 +14,24 @@ use Rattle.numbers.specs.declared.Number.the-variants.{Integer, Real, Ne
 use Rattle.numbers.specs.declared.Size.{Size}
 use Rattle.numbers.specs.declared.Size.the-variants.{Of, Nothing}
 
+-- digits are decimal, and "base 2 to 16"; a number that is no base
+abbrev pub ten : ℕ
+ten = 10
+
+abbrev pub leastBase : ℕ
+leastBase = 2
+
+abbrev pub greatestBase : ℕ
+greatestBase = 16
+
+abbrev pub aboveBases : ℕ
+aboveBases = 17
+
 -- "digits with single underscores between"
 unfoldable pub digits : List ℕ → ℕ
-digits s = run (Below 10) s
+digits s = run (Below ten) s
 
--- the number that digits and underscores spell in a base, behind those that spell v
+-- the number that digits and underscores spell in a base, after those that spell v
 unfoldable pub digitIn : ℕ → ℕ → ℕ → ℕ
 digitIn base v b = cond (eqb b byte.underscore) v (v * base + digitValue b)
 
@@ -40,7 +53,7 @@ exponent either s =
     (exponentHead either s + digits (drop (exponentHead either s) s))
     0
 
--- "digits below the base, `#`; then perhaps" an exponent, from behind the first `#`
+-- "digits below the base, `#`; then perhaps" an exponent, from after the first `#`
 unfoldable pub belowBase : ℕ → List ℕ → Size
 belowBase base s =
     cond (inRun (Below base) (getD s 0 0) && eqb (getD s (run (Below base) s) 0) byte.hash)
@@ -51,9 +64,9 @@ abbrev pub integerPast : ℕ → Size → Number
 integerPast n (Of k) = Integer (n + k)
 integerPast n Nothing = Neither
 
--- the three ways that a number goes on behind its digits: `#`, a point, or neither. In front of the `#` they spell the "base 2 to 16"
+-- the three ways that a number goes on after its digits: `#`, a point, or neither. In front of the `#` they spell the "base 2 to 16"
 unfoldable pub based : List ℕ → Number
-based s = cond (within 2 16 (leading 10 s)) (integerPast (digits s + 1) (belowBase (leading 10 s) (drop (digits s + 1) s))) Neither
+based s = cond (within leastBase greatestBase (leading ten s)) (integerPast (digits s + 1) (belowBase (leading ten s) (drop (digits s + 1) s))) Neither
 
 -- "decimal with a point and digits on both sides"
 unfoldable pub pointed : List ℕ → Number

@@ -4,9 +4,18 @@ ghost use mathlib.Core.Path.{_≡_};
 ghost use mathlib.Core.Bool.{true, false};
 ghost use Prim.Native.Nat.{_+_, _<_, min};
 ghost use lib.ListN.{length, drop};
-ghost use Rattle.numbers.specs.Numbers.{digits, digitIn, spelled, exponentHead, exponent, belowBase, based, pointed, number};
+ghost use Rattle.numbers.specs.Numbers.{ten, aboveBases, digits, digitIn, spelled, exponentHead, exponent, belowBase, based, pointed, number};
 
-// A number's size in bytes, or none: no digit in front, or a `#` or a point with nothing fitting behind it.
+// Digits are decimal; "base 2 to 16"; and a number that is no base.
+const TEN: u8 = 10;
+
+const LEAST_BASE: u8 = 2;
+
+const GREATEST_BASE: u8 = 16;
+
+const ABOVE_BASES: u8 = 17;
+
+// A number's size in bytes, or none: no digit in front, or a `#` or a point with nothing fitting after it.
 pub enum Number {
     Integer(usize),
     Real(usize),
@@ -18,29 +27,29 @@ pub enum Size {
     Nothing,
 }
 
-// One digit more, where 17 stands for any number above 16.
+// One digit more, where ABOVE_BASES stands for any number above the greatest base.
 fn with_digit(v: u8, b: u8) -> u8
-    ensures { λ r. ⌜ r ≡ min 17 (digitIn 10 v b) ⌝ }
+    ensures { λ r. ⌜ r ≡ min aboveBases (digitIn ten v b) ⌝ }
 {
     if b == b'_' {
-        if 17 < v {
-            return 17;
+        if ABOVE_BASES < v {
+            return ABOVE_BASES;
         }
         return v;
     }
     if 1 < v {
-        return 17;
+        return ABOVE_BASES;
     }
-    let n = v * 10 + classes::digit_value(b);
-    if 17 < n {
-        return 17;
+    let n = v * TEN + classes::digit_value(b);
+    if ABOVE_BASES < n {
+        return ABOVE_BASES;
     }
     n
 }
 
-// The number that digits and underscores spell, or 17 where it is above 16.
+// The number that digits and underscores spell, or ABOVE_BASES where it is above the greatest base.
 fn small_value(s: &[u8]) -> u8
-    ensures { λ r. ⌜ r ≡ min 17 (spelled 10 0 (now (s .entry))) ⌝ }
+    ensures { λ r. ⌜ r ≡ min aboveBases (spelled ten 0 (now (s .entry))) ⌝ }
 {
     let mut v: u8 = 0;
     let mut i = 0;
@@ -72,7 +81,7 @@ fn exponent_length(s: &[u8], either: bool) -> usize
     if !classes::is_digit(classes::byte_or(s, n)) {
         return 0;
     }
-    n + classes::run_length(Run::Below(10), &s[n..])
+    n + classes::run_length(Run::Below(TEN), &s[n..])
 }
 
 fn below_base(base: u8, s: &[u8]) -> Size
@@ -95,10 +104,10 @@ fn based_at(s: &[u8], n: usize) -> Number
     ensures { λ r. ⌜ r ≡ based (now (s .entry)) ⌝ }
 {
     let base = small_value(&s[..n]);
-    if base < 2 {
+    if base < LEAST_BASE {
         return Number::Neither;
     }
-    if 16 < base {
+    if GREATEST_BASE < base {
         return Number::Neither;
     }
     let m = n + 1;
@@ -120,11 +129,11 @@ fn pointed_at(s: &[u8], n: usize) -> Number
     Number::Real(m + fraction_length(&s[m..]))
 }
 
-// How many bytes the digits behind a point have, with the exponent behind them.
+// How many bytes the digits after a point have, with the exponent after them.
 fn fraction_length(s: &[u8]) -> usize
     ensures { λ r. ⌜ r ≡ digits (now (s .entry)) + exponent true (drop (digits (now (s .entry))) (now (s .entry))) ⌝ }
 {
-    let n = classes::run_length(Run::Below(10), s);
+    let n = classes::run_length(Run::Below(TEN), s);
     n + exponent_length(&s[n..], true)
 }
 
@@ -135,7 +144,7 @@ pub fn number_at(s: &[u8]) -> Number
     if !classes::is_digit(classes::byte_or(s, 0)) {
         return Number::Neither;
     }
-    let n = classes::run_length(Run::Below(10), s);
+    let n = classes::run_length(Run::Below(TEN), s);
     let b = classes::byte_or(s, n);
     if b == b'#' {
         return based_at(s, n);

@@ -9,22 +9,51 @@ use lib.Dec.{leb}
 use native.Mathlib.Nat.{add-sub-cancel-left}
 use lib.ListN.{length, take, drop, length-drop, drop-of-length-le}
 use lib.Seq.{take-nil}
-use Rattle.spelled.proofs.Spelling.{spelling}
+use Rattle.spelled.specs.Spelled.{kindOf}
 use Rattle.laws.proofs.Laws.{cut}
+use Rattle.places.specs.Kinds.{integerLiteral}
 use Rattle.places.specs.Places.{cellAt}
 use Rattle.folding.specs.declared.Operator.the-variants.{Join}
 use Rattle.folding.specs.declared.Sign.the-variants.{Plus}
 use Rattle.folding.specs.declared.Outcome.{Outcome}
-use Rattle.expressions.specs.Leaves.{literalLeaf, wrongLeaf}
+use Rattle.states.specs.States as state
+use Rattle.operands.specs.Leaves.{literalLeaf, wrongLeaf}
 use Rattle.operands.specs.Operands.{operatorOf, signOf, bytesAt, literalBy, literalIn}
 
-pub joins : (k : ℕ) → (k ≡ 9 → ⊥) → (k ≡ 19 → ⊥) → (k ≡ 24 → ⊥) → (k ≡ 85 → ⊥) → (k ≡ 112 → ⊥) → (k ≡ 20 → ⊥) → (k ≡ 22 → ⊥) → (k ≡ 28 → ⊥) → (k ≡ 11 → ⊥) → (k ≡ 27 → ⊥) → (k ≡ 13 → ⊥) → (k ≡ 29 → ⊥) → (k ≡ 12 → ⊥) → (k ≡ 38 → ⊥) → (k ≡ 95 → ⊥) → (k ≡ 86 → ⊥) → (k ≡ 89 → ⊥) → (k ≡ 147 → ⊥) → (k ≡ 146 → ⊥) → Join ≡ operatorOf k
-unfolding spelling operatorOf
-joins k a0 b0 c0 d0 e0 f0 g0 h0 i0 j0 k0 l0 m0 n0 o0 p0 q0 r0 s0 = rw (ne-eqb k 9 a0, ne-eqb k 19 b0, ne-eqb k 24 c0, ne-eqb k 85 d0, ne-eqb k 112 e0, ne-eqb k 20 f0, ne-eqb k 22 g0, ne-eqb k 28 h0, ne-eqb k 11 i0, ne-eqb k 27 j0, ne-eqb k 13 k0, ne-eqb k 29 l0, ne-eqb k 12 m0, ne-eqb k 38 n0, ne-eqb k 95 o0, ne-eqb k 86 p0, ne-eqb k 89 q0, ne-eqb k 147 r0, ne-eqb k 146 s0)
+pub joins :
+    (k : ℕ)
+    → (k ≡ kindOf "**" → ⊥) → (k ≡ kindOf "*" → ⊥) → (k ≡ kindOf "/" → ⊥) → (k ≡ kindOf "mod" → ⊥) → (k ≡ kindOf "rem" → ⊥) → (k ≡ kindOf "+" → ⊥)
+    → (k ≡ kindOf "-" → ⊥) → (k ≡ kindOf "=" → ⊥) → (k ≡ kindOf "/=" → ⊥) → (k ≡ kindOf "<" → ⊥) → (k ≡ kindOf "<=" → ⊥) → (k ≡ kindOf ">" → ⊥)
+    → (k ≡ kindOf ">=" → ⊥) → (k ≡ kindOf "and" → ⊥) → (k ≡ kindOf "or" → ⊥) → (k ≡ kindOf "nand" → ⊥) → (k ≡ kindOf "nor" → ⊥) → (k ≡ kindOf "xor" → ⊥)
+    → (k ≡ kindOf "xnor" → ⊥)
+    → Join ≡ operatorOf k
+unfolding operatorOf
+joins k a0 b0 c0 d0 e0 f0 g0 h0 i0 j0 k0 l0 m0 n0 o0 p0 q0 r0 s0 =
+    rw (
+      ne-eqb k (kindOf "**") a0,
+      ne-eqb k (kindOf "*") b0,
+      ne-eqb k (kindOf "/") c0,
+      ne-eqb k (kindOf "mod") d0,
+      ne-eqb k (kindOf "rem") e0,
+      ne-eqb k (kindOf "+") f0,
+      ne-eqb k (kindOf "-") g0,
+      ne-eqb k (kindOf "=") h0,
+      ne-eqb k (kindOf "/=") i0,
+      ne-eqb k (kindOf "<") j0,
+      ne-eqb k (kindOf "<=") k0,
+      ne-eqb k (kindOf ">") l0,
+      ne-eqb k (kindOf ">=") m0,
+      ne-eqb k (kindOf "and") n0,
+      ne-eqb k (kindOf "or") o0,
+      ne-eqb k (kindOf "nand") p0,
+      ne-eqb k (kindOf "nor") q0,
+      ne-eqb k (kindOf "xor") r0,
+      ne-eqb k (kindOf "xnor") s0,
+    )
 
-pub pluses : (k : ℕ) → (k ≡ 22 → ⊥) → (k ≡ 33 → ⊥) → (k ≡ 90 → ⊥) → Plus ≡ signOf k
-unfolding spelling signOf
-pluses k a0 b0 c0 = rw (ne-eqb k 22 a0, ne-eqb k 33 b0, ne-eqb k 90 c0)
+pub pluses : (k : ℕ) → (k ≡ kindOf "-" → ⊥) → (k ≡ kindOf "abs" → ⊥) → (k ≡ kindOf "not" → ⊥) → Plus ≡ signOf k
+unfolding signOf
+pluses k a0 b0 c0 = rw (ne-eqb k (kindOf "-") a0, ne-eqb k (kindOf "abs") b0, ne-eqb k (kindOf "not") c0)
 
 -- a part within the text, whatever the row says
 inside : (a b f s : ℕ) (t : List ℕ) → a ≤ length t → f ≡ min a (length t) → s ≡ min b (length t - f) → take s (drop f t) ≡ take b (drop a t)
@@ -50,12 +79,12 @@ part-bytes text table e first size p q =
     go true h = inside (cellAt table e 1) (cellAt table e 2) first size text (leb-true (cellAt table e 1) (length text) h) p q
     go false h = outside (cellAt table e 1) (cellAt table e 2) first size text (leb-false (cellAt table e 1) (length text) h) p q
 
-pub not-folded : (text table : List ℕ) (e k : ℕ) (r : Outcome) → k ≡ cellAt table e 0 → (k ≡ 3 → ⊥) → r ≡ wrongLeaf 3 → r ≡ literalIn text table e
+pub not-folded : (text table : List ℕ) (e k : ℕ) (r : Outcome) → k ≡ cellAt table e 0 → (k ≡ integerLiteral → ⊥) → r ≡ wrongLeaf state.unfolded → r ≡ literalIn text table e
 unfolding literalIn literalBy
-not-folded text table e k r p h z = rw (← p, ne-eqb k 3 h) z
+not-folded text table e k r p h z = rw (← p, ne-eqb k integerLiteral h) z
 
-pub folded : (text table : List ℕ) (e k a b first size : ℕ) (r : Outcome) → k ≡ cellAt table e 0 → k ≡ 3 → a ≡ cellAt table e 1 → b ≡ cellAt table e 2
+pub folded : (text table : List ℕ) (e k a b first size : ℕ) (r : Outcome) → k ≡ cellAt table e 0 → k ≡ integerLiteral → a ≡ cellAt table e 1 → b ≡ cellAt table e 2
     → first ≡ min a (length text) → size ≡ min b (length text - first) → r ≡ literalLeaf (take (first + size - first) (drop first text)) → r ≡ literalIn text table e
 unfolding literalIn literalBy
 folded text table e k a b first size r p h x y f g z =
-    rw (← p, eq-eqb k 3 h, ← part-bytes text table e first size (rw x at f) (rw y at g)) z
+    rw (← p, eq-eqb k integerLiteral h, ← part-bytes text table e first size (rw x at f) (rw y at g)) z

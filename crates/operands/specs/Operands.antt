@@ -5,6 +5,7 @@ use mathlib.Core.List.{List}
 use lib.Dec.{eqb}
 use lib.ListN.{take, drop}
 use Rattle.spelled.specs.Spelled.{kindOf}
+use Rattle.places.specs.Kinds.{integerLiteral}
 use Rattle.places.specs.Places.{cellAt}
 use Rattle.integers.specs.declared.Arithmetic.the-variants.{Add, Subtract, Multiply, Divide, Remainder, Modulo, Power}
 use Rattle.folding.specs.declared.Relation.the-variants.{Equal, Unequal, Less, LessEqual, Greater, GreaterEqual}
@@ -14,7 +15,8 @@ use Rattle.folding.specs.declared.Operator.the-variants.{Arithmetic, Relation, 
 use Rattle.folding.specs.declared.Sign.{Sign}
 use Rattle.folding.specs.declared.Sign.the-variants.{Plus, Minus, Absolute, Not}
 use Rattle.folding.specs.declared.Outcome.{Outcome}
-use Rattle.expressions.specs.Leaves.{literalLeaf, wrongLeaf}
+use Rattle.states.specs.States as state
+use Rattle.operands.specs.Leaves.{literalLeaf, wrongLeaf}
 
 -- the binary operators; the last is `&`
 unfoldable pub operatorOf : ℕ → Operator
@@ -52,9 +54,9 @@ signOf k =
 unfoldable pub bytesAt : List ℕ → List ℕ → ℕ → List ℕ
 bytesAt text table e = take (cellAt table e 2) (drop (cellAt table e 1) text)
 
--- 3 is the kind of integer literals; state 3, "a real, character or string literal"
+-- state 3, "a real, character or string literal"
 unfoldable pub literalBy : ℕ → List ℕ → Outcome
-literalBy kind bytes = cond (eqb kind 3) (literalLeaf bytes) (wrongLeaf 3)
+literalBy kind bytes = cond (eqb kind integerLiteral) (literalLeaf bytes) (wrongLeaf state.unfolded)
 
 unfoldable pub literalIn : List ℕ → List ℕ → ℕ → Outcome
 literalIn text table e = literalBy (cellAt table e 0) (bytesAt text table e)

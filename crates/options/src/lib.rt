@@ -2,11 +2,20 @@
 // second table; the rest they share. What is said on standard error is tested, not proved.
 use arguments::Value;
 use console::Got;
-use libc::STDERR_FILENO;
 use libc::STDIN_FILENO;
 
+// What the programs print of themselves.
+pub const VERSION: [u8; 6] = [b'1', b'.', b'1', b'.', b'0', b'\n'];
+
+// No call has so many arguments.
+const MOST_ARGUMENTS: usize = 1000000;
+
+// How much of an argument that is too long names it.
+const NAMED: usize = 64;
+
 // `other` is that the other listing is asked for, `other_rows` the rows of the second table; `file` is the number of the argument that
-// names one, or 0; `next` is the argument to look at next.
+// names one, or 0; `next` is the argument to look at next; after `--` every argument names a file. Not `good`: nothing is to be read, since
+// the call is wrong, or asked for help or the version, and was answered.
 pub struct Options {
     pub good: bool,
     pub other: bool,
@@ -14,12 +23,16 @@ pub struct Options {
     pub other_rows: usize,
     pub file: usize,
     pub next: usize,
+    pub only_files: bool,
 }
 
 enum Asked {
     Other,
     ElementRows,
     OtherRows,
+    Help,
+    Version,
+    OnlyFiles,
     File,
     Unknown,
 }
@@ -34,22 +47,49 @@ fn asked_by(word: &[u8], other: &[u8], rows: &[u8]) -> Asked {
     if arguments::same_bytes(word, rows) {
         return Asked::OtherRows;
     }
-    if arguments::same_bytes(lent::front(word, 2), b"--") {
-        return Asked::Unknown;
+    if !arguments::same_bytes(lent_tables::front(word, 2), b"--") {
+        return Asked::File;
     }
-    Asked::File
+    said_by(word)
+}
+
+// The words that every program knows.
+fn said_by(word: &[u8]) -> Asked {
+    if arguments::same_bytes(word, b"--help") {
+        return Asked::Help;
+    }
+    if arguments::same_bytes(word, b"--version") {
+        return Asked::Version;
+    }
+    if arguments::same_bytes(word, b"--") {
+        return Asked::OnlyFiles;
+    }
+    Asked::Unknown
 }
 
 // The rows that a value asks for; one that is no number is named on standard error, with its option.
 fn rows_of(program: &[u8], option: &[u8], word: &[u8], most: u32) -> Value {
     let v = arguments::value_of(word, most);
     if let Value::Nothing = v {
-        io::write_all(STDERR_FILENO, program);
-        io::write_all(STDERR_FILENO, b": ");
-        io::write_all(STDERR_FILENO, option);
-        console::complain(b": not a number", word);
+        io::write_all(libc::STDERR_FILENO, program);
+        io::write_all(libc::STDERR_FILENO, b": ");
+        console::complain(option, b"not a number", word);
     }
     v
+}
+
+// An argument into the buffer: its length, or Failed and a line on standard error where it is longer than the buffer.
+fn argument(program: &[u8], i: usize, word: &mut [u8]) -> Got {
+    let n = os::arg(i, word);
+    if os::errno() == libc::ENAMETOOLONG {
+        console::complain(
+            program,
+            b"an argument is too long, it begins with",
+            lent_tables::front(word, NAMED),
+        );
+        return Got::Failed;
+    }
+    Got::Bytes(n)
 }
 
 impl Options {
@@ -61,13 +101,18 @@ impl Options {
             other_rows: most,
             file: 0,
             next: 1,
+            only_files: false,
         }
+    }
+
+    fn stopped(mut self) -> Self {
+        self.good = false;
+        self
     }
 
     fn with_element_rows(mut self, v: Value) -> Self {
         let Value::Is(n) = v else {
-            self.good = false;
-            return self;
+            return self.stopped();
         };
         self.element_rows = n;
         self
@@ -75,66 +120,116 @@ impl Options {
 
     fn with_other_rows(mut self, v: Value) -> Self {
         let Value::Is(n) = v else {
-            self.good = false;
-            return self;
+            return self.stopped();
         };
         self.other_rows = n;
         self
     }
 
-    // The options with the next argument taken in, and its value where it has one. A value that is missing is the option's own word, no number.
+    // The argument names a file: there may be one.
+    fn with_file(mut self, program: &[u8], i: usize, word: &[u8]) -> Self {
+        if 0 < self.file {
+            console::complain(program, b"one file at a time, a second one", word);
+            return self.stopped();
+        }
+        if MOST_ARGUMENTS < i {
+            return self.stopped();
+        }
+        self.file = i;
+        self.next = i + 1;
+        self
+    }
+
+    // An option's value, which is the next argument. A value that is missing is no number.
+    fn with_value(
+        mut self,
+        program: &[u8],
+        option: &[u8],
+        most: u32,
+        element: bool,
+        word: &mut [u8],
+    ) -> Self {
+        let i = self.next;
+        if MOST_ARGUMENTS < i {
+            return self.stopped();
+        }
+        self.next = i + 2;
+        let Got::Bytes(n) = argument(program, i + 1, word) else {
+            return self.stopped();
+        };
+        let v = rows_of(program, option, lent_tables::front(word, n), most);
+        if element {
+            return self.with_element_rows(v);
+        }
+        self.with_other_rows(v)
+    }
+
+    // The options with the next argument taken in, and its value where it has one.
     fn taken(
         mut self,
         program: &[u8],
+        help: &[u8],
         other: &[u8],
         rows: &[u8],
         most: u32,
         word: &mut [u8],
     ) -> Self {
         let i = self.next;
-        if 1000000 < i {
-            return self;
+        if MOST_ARGUMENTS < i {
+            return self.stopped();
         }
-        let n = os::arg(i, word);
-        match asked_by(&word[..n], other, rows) {
+        let Got::Bytes(n) = argument(program, i, word) else {
+            return self.stopped();
+        };
+        if self.only_files {
+            return self.with_file(program, i, lent_tables::front(word, n));
+        }
+        match asked_by(lent_tables::front(word, n), other, rows) {
             Asked::Other => {
                 self.other = true;
                 self.next = i + 1;
                 self
             },
             Asked::ElementRows => {
-                let m = os::arg(i + 1, word);
-                self.next = i + 2;
-                self.with_element_rows(rows_of(
+                self.with_value(
                     program,
                     b"--element-rows",
-                    &word[..m],
                     places::MOST_ELEMENTS as u32,
-                ))
+                    true,
+                    word,
+                )
             },
-            Asked::OtherRows => {
-                let m = os::arg(i + 1, word);
-                self.next = i + 2;
-                self.with_other_rows(rows_of(program, rows, &word[..m], most))
+            Asked::OtherRows => self.with_value(program, rows, most, false, word),
+            Asked::Help => {
+                console::write_out(program, help);
+                self.stopped()
             },
-            Asked::File => {
-                self.file = i;
+            Asked::Version => {
+                if console::write_out(program, program) {
+                    console::write_out(program, b" ");
+                    console::write_out(program, &VERSION);
+                }
+                self.stopped()
+            },
+            Asked::OnlyFiles => {
+                self.only_files = true;
                 self.next = i + 1;
                 self
             },
+            Asked::File => self.with_file(program, i, lent_tables::front(word, n)),
             Asked::Unknown => {
-                io::write_all(STDERR_FILENO, program);
-                console::complain(b": unknown option", &word[..n]);
-                self.good = false;
-                self
+                console::complain(program, b"unknown option", lent_tables::front(word, n));
+                self.stopped()
             },
         }
     }
 }
 
-// What all the arguments ask for: the words are the program's name, its own option and that of its second table, of at most so many rows.
+// What all the arguments ask for: the words are the program's name, its help, its own option and that of its second table, of at most so
+// many rows.
 pub fn read_options(
     program: &[u8],
+    help: &[u8],
     other: &[u8],
     rows: &[u8],
     most: u32,
@@ -150,30 +245,34 @@ pub fn read_options(
         if !o.good {
             return o;
         }
-        o = o.taken(program, other, rows, most, word);
+        o = o.taken(program, help, other, rows, most, word);
         left -= 1;
     }
     o
 }
 
-fn read_or_complain(fd: i32, name: &[u8], text: &mut [u8]) -> Got {
+fn read_or_complain(program: &[u8], fd: i32, name: &[u8], text: &mut [u8]) -> Got {
     let got = console::read_text(fd, text);
     if let Got::Failed = got {
-        os::fail(name);
+        console::fail(program, name);
     }
     got
 }
 
-// The text of standard input, or of the file that an argument names.
-pub fn read_input(file: usize, word: &mut [u8], text: &mut [u8]) -> Got {
+// The text of standard input, or of the file that an argument names; `-` is standard input too.
+pub fn read_input(program: &[u8], file: usize, word: &mut [u8], text: &mut [u8]) -> Got {
     if file == 0 {
-        return read_or_complain(STDIN_FILENO, b"standard input", text);
+        return read_or_complain(program, STDIN_FILENO, b"standard input", text);
     }
     let n = os::arg(file, word);
-    let fd = os::open_read(&word[..n]);
+    let name = lent_tables::front(word, n);
+    if arguments::same_bytes(name, b"-") {
+        return read_or_complain(program, STDIN_FILENO, b"standard input", text);
+    }
+    let fd = os::open_read(name);
     if fd < 0 {
-        os::fail(&word[..n]);
+        console::fail(program, name);
         return Got::Failed;
     }
-    read_or_complain(fd, &word[..n], text)
+    read_or_complain(program, fd, name, text)
 }

@@ -11,7 +11,7 @@ pub enum Pair {
 pub fn first_pair(owns: &[u64], n: usize) -> Pair
     ensures { λ r. ⌜ r ≡ pairOf (now (owns .entry)) n ⌝ }
 {
-    let end = lent::least(n, owns.len());
+    let end = lent_tables::least(n, owns.len());
     let mut i: usize = 0;
     let mut j: usize = 0;
     'pairs: while i < end {

@@ -40,7 +40,7 @@ module _ {E : Type 0} (closes opens : E → Bool) where
   size-le [] = omega arith
   size-le (x ∷ l) = omega (arith, more-le (closes x) l)
 
-  -- the first piece, and the pieces of what is behind it
+  -- the first piece, and the pieces of what is after it
   pub cut-first : (x : E) (l : List E) → cut (x ∷ l) ≡ take (size (x ∷ l)) (x ∷ l) ∷ cut (drop (size (x ∷ l)) (x ∷ l))
   unfolding spec.cut spec.pieceSize spec.more
   cut-first x [] = refl

@@ -30,9 +30,6 @@ next from m = omega arith
 
 -- the turns of `size_at`
 module _ (n : ℕ) (t : List ℕ) (from : ℕ) where
-  abbrev Ks : List ℕ
-  Ks = kindsOf n t
-
   abbrev Whole : ℕ
   Whole = pieceSize closesPiece opensPiece (drop from (kindsOf n t))
 
@@ -78,7 +75,7 @@ module _ (n : ℕ) (t : List ℕ) (from : ℕ) where
   pub count-bound : (r c : ℕ) → r ≡ Whole → c ≤ from → from < n → c + 1 ≤ from + r
   count-bound r c e k h = omega (arith, size-some r e h)
 
-  -- the first piece of what is left, and the pieces behind it
+  -- the first piece of what is left, and the pieces after it
   pub first-piece : (r : ℕ) → r ≡ Whole → from < n
       → piecesOf (drop from (kindsOf n t)) ≡ take r (drop from (kindsOf n t)) ∷ piecesOf (drop (from + r) (kindsOf n t))
   first-piece r e h =

@@ -11,49 +11,50 @@ use lib.Dec.{eqb}
 use lib.ListN.{length, getD, drop, length-drop, List·getD-eq-default}
 use lib.Seq.{getD-drop, getD-take, length-take-le}
 use Rattle.classes.proofs.Laws.{by-test}
-use Rattle.pieces.specs.Kinds.{mark, pieceAt, isName, isHeading, behindWord, hasName, endsAt, isClosing, claimMark, markOf}
+use Rattle.pieces.specs.Classes as class
+use Rattle.pieces.specs.Kinds.{mark, kindsAt, isName, isHeading, behindWord, hasName, endsAt, isClosing, claimMark, markOf, semicolon, word-constant, word-end, word-is, word-package, word-subtype}
 use Rattle.places.specs.Places.{rowWords, cellAt, kindsOf}
 use Rattle.pieces.specs.declared.Mark.{Mark}
 use Rattle.places.proofs.Laws.{kinds-length, kind-at}
 
 module _ (n : ℕ) (t : List ℕ) (from count : ℕ) (r : from + count ≤ n) where
-  pub piece-length : length (pieceAt n t from count) ≡ count
-  unfolding pieceAt
+  pub piece-length : length (kindsAt n t from count) ≡ count
+  unfolding kindsAt
   piece-length = length-take-le count (drop from (kindsOf n t)) (omega (arith, length-drop from (kindsOf n t), kinds-length n t))
 
-  pub piece-kind : (i k : ℕ) → rowWords * n ≤ length t → i < count → k ≡ cellAt t (from + i) 0 → k ≡ getD (pieceAt n t from count) i 0
-  unfolding pieceAt
+  pub piece-kind : (i k : ℕ) → rowWords * n ≤ length t → i < count → k ≡ cellAt t (from + i) 0 → k ≡ getD (kindsAt n t from count) i 0
+  unfolding kindsAt
   piece-kind i k l h e = rw (getD-take, getD-drop) (e ∙ kind-at t n (from + i) l (omega arith))
 
-  pub piece-past : (i : ℕ) → count ≤ i → _≡_ {A = ℕ} 0 (getD (pieceAt n t from count) i 0)
-  piece-past i h = sym (List·getD-eq-default (pieceAt n t from count) 0 {n = i} (omega (arith, piece-length)))
+  pub piece-past : (i : ℕ) → count ≤ i → _≡_ {A = ℕ} 0 (getD (kindsAt n t from count) i 0)
+  piece-past i h = sym (List·getD-eq-default (kindsAt n t from count) 0 {n = i} (omega (arith, piece-length)))
 
-  pub heading-other : (count ≡ 3 → ⊥) → false ≡ isHeading (pieceAt n t from count)
+  pub heading-other : (count ≡ 3 → ⊥) → false ≡ isHeading (kindsAt n t from count)
   unfolding isHeading
   heading-other h = rw (piece-length, ne-eqb count 3 h)
 
-  pub heading-is : (a b c : ℕ) (x : Bool) → a ≡ getD (pieceAt n t from count) 0 0 → b ≡ getD (pieceAt n t from count) 1 0 → c ≡ getD (pieceAt n t from count) 2 0
-      → x ≡ isName b → count ≡ 3 → ((eqb a 98 && x) && eqb c 78) ≡ isHeading (pieceAt n t from count)
+  pub heading-is : (a b c : ℕ) (x : Bool) → a ≡ getD (kindsAt n t from count) 0 0 → b ≡ getD (kindsAt n t from count) 1 0 → c ≡ getD (kindsAt n t from count) 2 0
+      → x ≡ isName b → count ≡ 3 → ((eqb a word-package && x) && eqb c word-is) ≡ isHeading (kindsAt n t from count)
   unfolding isHeading
   heading-is a b c x p q k y h = rw (piece-length, eq-eqb count 3 h, ← p, ← q, ← k, y)
 
-  pub ends-at : (at a b : ℕ) → a ≡ getD (pieceAt n t from count) 0 0 → b ≡ getD (pieceAt n t from count) at 0
-      → ((eqb a 61 && eqb b 26) && eqb count (at + 1)) ≡ endsAt (pieceAt n t from count) at
+  pub ends-at : (at a b : ℕ) → a ≡ getD (kindsAt n t from count) 0 0 → b ≡ getD (kindsAt n t from count) at 0
+      → ((eqb a word-end && eqb b semicolon) && eqb count (at + 1)) ≡ endsAt (kindsAt n t from count) at
   unfolding endsAt
   ends-at at a b p q = rw (piece-length, ← p, ← q)
 
 module _ (p : List ℕ) where
-  pub behind-two : (k : ℕ) → k ≡ getD p 1 0 → k ≡ 98 → _≡_ {A = ℕ} 2 (behindWord p)
+  pub behind-two : (k : ℕ) → k ≡ getD p 1 0 → k ≡ word-package → _≡_ {A = ℕ} 2 (behindWord p)
   unfolding behindWord
-  behind-two k e h = rw (← e, eq-eqb k 98 h)
+  behind-two k e h = rw (← e, eq-eqb k word-package h)
 
-  pub behind-one : (k : ℕ) → k ≡ getD p 1 0 → (k ≡ 98 → ⊥) → _≡_ {A = ℕ} 1 (behindWord p)
+  pub behind-one : (k : ℕ) → k ≡ getD p 1 0 → (k ≡ word-package → ⊥) → _≡_ {A = ℕ} 1 (behindWord p)
   unfolding behindWord
-  behind-one k e h = rw (← e, ne-eqb k 98 h)
+  behind-one k e h = rw (← e, ne-eqb k word-package h)
 
   pub behind-small : behindWord p ≤ 2
   unfolding behindWord
-  behind-small = by-test (λ (m : ℕ). m ≤ 2) (eqb (getD p 1 0) 98) (λ _. omega arith) (λ _. omega arith)
+  behind-small = by-test (λ (m : ℕ). m ≤ 2) (eqb (getD p 1 0) word-package) (λ _. omega arith) (λ _. omega arith)
 
   pub word-room : (w : ℕ) → w ≡ behindWord p → w ≤ 3
   word-room w e = omega (arith, behind-small)
@@ -65,25 +66,25 @@ module _ (p : List ℕ) where
   next-fits w e = omega (arith, behind-small)
 
   module _ (k : ℕ) (x : Bool) (e : k ≡ getD p 1 0) (q : x ≡ isName k) where
-    pub claim-none : not x ≡ true → mark 5 0 ≡ claimMark p
+    pub claim-none : not x ≡ true → mark class.unclaimed 0 ≡ claimMark p
     unfolding claimMark
     claim-none h = rw (← e, ← q, not-true x h)
 
     module _ (j : ℕ) (h : not x ≡ false) (f : j ≡ getD p 0 0) where
-      pub claim-constant : j ≡ 53 → mark 3 1 ≡ claimMark p
+      pub claim-constant : j ≡ word-constant → mark class.constant 1 ≡ claimMark p
       unfolding claimMark
-      claim-constant g = rw (← e, ← q, not-false x h, ← f, eq-eqb j 53 g)
+      claim-constant g = rw (← e, ← q, not-false x h, ← f, eq-eqb j word-constant g)
 
-      pub claim-subtype : (j ≡ 53 → ⊥) → j ≡ 129 → mark 4 1 ≡ claimMark p
+      pub claim-subtype : (j ≡ word-constant → ⊥) → j ≡ word-subtype → mark class.subtype 1 ≡ claimMark p
       unfolding claimMark
-      claim-subtype g g′ = rw (← e, ← q, not-false x h, ← f, ne-eqb j 53 g, eq-eqb j 129 g′)
+      claim-subtype g g′ = rw (← e, ← q, not-false x h, ← f, ne-eqb j word-constant g, eq-eqb j word-subtype g′)
 
-      pub claim-other : (j ≡ 53 → ⊥) → (j ≡ 129 → ⊥) → mark 5 0 ≡ claimMark p
+      pub claim-other : (j ≡ word-constant → ⊥) → (j ≡ word-subtype → ⊥) → mark class.unclaimed 0 ≡ claimMark p
       unfolding claimMark
-      claim-other g g′ = rw (← e, ← q, not-false x h, ← f, ne-eqb j 53 g, ne-eqb j 129 g′)
+      claim-other g g′ = rw (← e, ← q, not-false x h, ← f, ne-eqb j word-constant g, ne-eqb j word-subtype g′)
 
   module _ (x : Bool) (e : x ≡ isHeading p) where
-    pub mark-heading : x ≡ true → mark 1 1 ≡ markOf p
+    pub mark-heading : x ≡ true → mark class.heading 1 ≡ markOf p
     unfolding markOf
     mark-heading h = rw (← e, h)
 
@@ -92,7 +93,7 @@ module _ (p : List ℕ) where
       unfolding hasName
       named = rw (← f, ← g, ← q)
 
-      pub mark-named : y ≡ true → z ≡ endsAt p (w + 1) → z ≡ true → mark 2 w ≡ markOf p
+      pub mark-named : y ≡ true → z ≡ endsAt p (w + 1) → z ≡ true → mark class.closing w ≡ markOf p
       unfolding markOf isClosing
       mark-named o i l = rw (← e, h, named, o, ← f, ← i, l)
 
@@ -100,7 +101,7 @@ module _ (p : List ℕ) where
       unfolding markOf isClosing
       mark-named-other m o i l c = rw (← e, h, named, o, ← f, ← i, l) c
 
-      pub mark-plain : y ≡ false → z ≡ endsAt p w → z ≡ true → mark 2 0 ≡ markOf p
+      pub mark-plain : y ≡ false → z ≡ endsAt p w → z ≡ true → mark class.closing 0 ≡ markOf p
       unfolding markOf isClosing
       mark-plain o i l = rw (← e, h, named, o, ← f, ← i, l)
 

@@ -10,10 +10,13 @@ use lib.Dec.{eqb}
 use lib.ListN.{length, getD, set, take, drop, replicate, length-replicate, length-append}
 use lib.Seq.{sets, length-sets, sets-eq}
 use Rattle.classes.proofs.Laws.{by-test}
+use Rattle.places.specs.Sizes.{mostPieces}
+use Rattle.pieces.specs.Columns as column
+use Rattle.pieces.specs.Columns.{recordWords}
 use Rattle.pieces.specs.Cutting.{pieceSize, cut}
-use Rattle.pieces.specs.Kinds.{pieceAt, closesPiece, opensPiece, piecesOf, isHeading, isClosing, hasName, isName, claimMark, markOf}
+use Rattle.pieces.specs.Kinds.{kindsAt, closesPiece, opensPiece, piecesOf, isHeading, isClosing, hasName, isName, claimMark, markOf, word-constant, word-subtype}
 use Rattle.places.specs.Places.{rowWords, rowsIn, kindsOf}
-use Rattle.pieces.specs.Records.{nameOf, recordOf, recordsFrom, piecesIn, marking, recordTable}
+use Rattle.pieces.specs.Records.{nameOf, pendingRecord, pendingRecords, piecesIn, marking, recordTable}
 use Rattle.pieces.specs.declared.Mark.{Mark}
 use Rattle.pieces.specs.declared.Marking.the-variants.{Marked, TooMany, TableShort}
 use Rattle.places.proofs.Laws.{kinds-end}
@@ -30,9 +33,9 @@ name-some from place h = rw (ne-eqb place 0 h)
 
 -- the eight stores of a record
 pub stored : (t : List ℕ) (w from count name : ℕ) (m : Mark) → name ≡ nameOf from (m .place)
-    → set (set (set (set (set (set (set (set t w (m .class)) (w + 1) from) (w + 2) count) (w + 3) name) (w + 4) 0) (w + 5) 0) (w + 6) 0) (w + 7) 0
-    ≡ sets t w (recordOf from count m)
-unfolding recordOf
+    → set (set (set (set (set (set (set (set t w (m .class)) (w + column.first) from) (w + column.count) count) (w + column.name) name) (w + column.state) 0) (w + column.kind) 0) (w + column.low) 0) (w + column.high) 0
+    ≡ sets t w (pendingRecord from count m)
+unfolding pendingRecord
 stored t w from count name m e = rw (e, add-one w, add-two w, add-three w, add-four w, add-five w, add-six w, add-seven w)
 
 -- a place is at most 2
@@ -42,7 +45,7 @@ place-small p =
     by-test small (isHeading p) (λ _. omega arith)
     (λ _. by-test small (isClosing p) (λ _. by-test (λ (n : ℕ). n ≤ 2) (hasName p) (λ _. behind-small p) (λ _. omega arith))
     (λ _. by-test small (isName (getD p 1 0))
-    (λ _. by-test small (eqb (getD p 0 0) 53) (λ _. omega arith) (λ _. by-test small (eqb (getD p 0 0) 129) (λ _. omega arith) (λ _. omega arith)))
+    (λ _. by-test small (eqb (getD p 0 0) word-constant) (λ _. omega arith) (λ _. by-test small (eqb (getD p 0 0) word-subtype) (λ _. omega arith) (λ _. omega arith)))
     (λ _. omega arith)))
   where
     small : Mark → Type 0
@@ -55,51 +58,51 @@ sets-append : (t : List ℕ) (w : ℕ) (xs ys : List ℕ) → sets t w (xs ++ ys
 sets-append t w [] ys = rw (add-zero w)
 sets-append t w (x ∷ xs) ys = sets-append (set t w x) (suc w) xs ys ∙ ap (λ (k : ℕ). sets (sets (set t w x) (suc w) xs) k ys) (omega arith)
 
-record-length : (at count : ℕ) (m : Mark) → length (recordOf at count m) ≡ 8
-unfolding recordOf
+record-length : (at count : ℕ) (m : Mark) → length (pendingRecord at count m) ≡ recordWords
+unfolding pendingRecord
 record-length at count m = refl
 
-pub records-length : (at : ℕ) (ps : List (List ℕ)) → length (recordsFrom at ps) ≡ 8 * length ps
-unfolding recordsFrom
+pub records-length : (at : ℕ) (ps : List (List ℕ)) → length (pendingRecords at ps) ≡ recordWords * length ps
+unfolding pendingRecords
 records-length at [] = refl
 records-length at (p ∷ ps) =
-    omega (arith, length-append (recordOf at (length p) (markOf p)) (recordsFrom (at + length p) ps), record-length at (length p) (markOf p), records-length (at + length p) ps)
+    omega (arith, length-append (pendingRecord at (length p) (markOf p)) (pendingRecords (at + length p) ps), record-length at (length p) (markOf p), records-length (at + length p) ps)
 
 -- the turns of `write_records`
 module _ (n : ℕ) (t : List ℕ) (from r : ℕ) (e : r ≡ pieceSize closesPiece opensPiece (drop from (kindsOf n t))) (l : from < n) where
   abbrev Rest : List (List ℕ)
   Rest = piecesOf (drop (from + r) (kindsOf n t))
 
-  opened : recordsFrom from (piecesOf (drop from (kindsOf n t))) ≡ recordOf from r (markOf (pieceAt n t from r)) ++ recordsFrom (from + r) Rest
-  unfolding recordsFrom pieceAt
+  opened : pendingRecords from (piecesOf (drop from (kindsOf n t))) ≡ pendingRecord from r (markOf (kindsAt n t from r)) ++ pendingRecords (from + r) Rest
+  unfolding pendingRecords kindsAt
   opened =
       rw (first-piece n t from r e l)
-      (ap (λ (k : ℕ). recordOf from k (markOf (take r (drop from (kindsOf n t)))) ++ recordsFrom (from + k) Rest) (long))
+      (ap (λ (k : ℕ). pendingRecord from k (markOf (take r (drop from (kindsOf n t)))) ++ pendingRecords (from + k) Rest) (long))
     where
       long : length (take r (drop from (kindsOf n t))) ≡ r
       long = piece-length n t from r (size-inside n t from r e l)
 
-  pub record-turn : (items items′ whole : List ℕ) (w : ℕ) (m : Mark) → m ≡ markOf (pieceAt n t from r) → items′ ≡ sets items w (recordOf from r m)
-      → sets items w (recordsFrom from (piecesOf (drop from (kindsOf n t)))) ≡ whole → sets items′ (w + 8) (recordsFrom (from + r) Rest) ≡ whole
+  pub record-turn : (items items′ whole : List ℕ) (w : ℕ) (m : Mark) → m ≡ markOf (kindsAt n t from r) → items′ ≡ sets items w (pendingRecord from r m)
+      → sets items w (pendingRecords from (piecesOf (drop from (kindsOf n t)))) ≡ whole → sets items′ (w + recordWords) (pendingRecords (from + r) Rest) ≡ whole
   record-turn items items′ whole w m p q h =
-      ap (λ (u : List ℕ). sets u (w + 8) (recordsFrom (from + r) Rest)) (q ∙ ap (λ (x : Mark). sets items w (recordOf from r x)) p)
-      ∙ ap (λ (k : ℕ). sets (sets items w (recordOf from r (markOf (pieceAt n t from r)))) (w + k) (recordsFrom (from + r) Rest)) (sym (record-length from r (markOf (pieceAt n t from r))))
-      ∙ sym (sets-append items w (recordOf from r (markOf (pieceAt n t from r))) (recordsFrom (from + r) Rest))
+      ap (λ (u : List ℕ). sets u (w + recordWords) (pendingRecords (from + r) Rest)) (q ∙ ap (λ (x : Mark). sets items w (pendingRecord from r x)) p)
+      ∙ ap (λ (k : ℕ). sets (sets items w (pendingRecord from r (markOf (kindsAt n t from r)))) (w + k) (pendingRecords (from + r) Rest)) (sym (record-length from r (markOf (kindsAt n t from r))))
+      ∙ sym (sets-append items w (pendingRecord from r (markOf (kindsAt n t from r))) (pendingRecords (from + r) Rest))
       ∙ ap (sets items w) (sym opened)
       ∙ h
 
-  pub room-here : (items : List ℕ) (w : ℕ) → w + 8 * length (piecesOf (drop from (kindsOf n t))) ≤ length items → w + 8 ≤ length items
+  pub room-here : (items : List ℕ) (w : ℕ) → w + recordWords * length (piecesOf (drop from (kindsOf n t))) ≤ length items → w + recordWords ≤ length items
   room-here items w h = omega (arith, ap length (first-piece n t from r e l))
 
-  pub room-turn : (items items′ : List ℕ) (w : ℕ) (m : Mark) → items′ ≡ sets items w (recordOf from r m)
-      → w + 8 * length (piecesOf (drop from (kindsOf n t))) ≤ length items → w + 8 + 8 * length Rest ≤ length items′
-  room-turn items items′ w m q h = omega (arith, ap length (first-piece n t from r e l), ap length q ∙ length-sets items w (recordOf from r m))
+  pub room-turn : (items items′ : List ℕ) (w : ℕ) (m : Mark) → items′ ≡ sets items w (pendingRecord from r m)
+      → w + recordWords * length (piecesOf (drop from (kindsOf n t))) ≤ length items → w + recordWords + recordWords * length Rest ≤ length items′
+  room-turn items items′ w m q h = omega (arith, ap length (first-piece n t from r e l), ap length q ∙ length-sets items w (pendingRecord from r m))
 
-  pub length-turn : (items items′ : List ℕ) (w k : ℕ) (m : Mark) → items′ ≡ sets items w (recordOf from r m) → length items ≡ k → length items′ ≡ k
-  length-turn items items′ w k m q h = ap length q ∙ length-sets items w (recordOf from r m) ∙ h
+  pub length-turn : (items items′ : List ℕ) (w k : ℕ) (m : Mark) → items′ ≡ sets items w (pendingRecord from r m) → length items ≡ k → length items′ ≡ k
+  length-turn items items′ w k m q h = ap length q ∙ length-sets items w (pendingRecord from r m) ∙ h
 
-pub records-end : (n : ℕ) (t : List ℕ) (items whole : List ℕ) (w at : ℕ) → sets items w (recordsFrom at (piecesOf (drop at (kindsOf n t)))) ≡ whole → n ≤ at → items ≡ whole
-unfolding recordsFrom cut
+pub records-end : (n : ℕ) (t : List ℕ) (items whole : List ℕ) (w at : ℕ) → sets items w (pendingRecords at (piecesOf (drop at (kindsOf n t)))) ≡ whole → n ≤ at → items ≡ whole
+unfolding pendingRecords cut
 records-end n t items whole w at h l = rw (kinds-end t n at l) at h
 
 -- the whole table
@@ -121,31 +124,28 @@ module _ (table : List ℕ) (count rows n words c : ℕ) (d : rows ≡ rowsIn ta
   unfolding piecesIn
   whole = rw (← d, ← e)
 
-  pub too-many : 1024 < c → TooMany ≡ marking (length (piecesIn table count)) words
+  pub too-many : mostPieces < c → TooMany ≡ marking (length (piecesIn table count)) words
   unfolding marking
-  too-many h = rw (whole, ← p, lt-ltb 1024 c h)
+  too-many h = rw (whole, ← p, lt-ltb mostPieces c h)
 
-  pub too-short : c ≤ 1024 → words / 8 < c → TableShort (words / 8) ≡ marking (length (piecesIn table count)) words
+  pub too-short : c ≤ mostPieces → words / recordWords < c → TableShort (words / recordWords) ≡ marking (length (piecesIn table count)) words
   unfolding marking
-  too-short h k = rw (whole, ← p, le-ltb 1024 c h, lt-ltb (words / 8) c k)
+  too-short h k = rw (whole, ← p, le-ltb mostPieces c h, lt-ltb (words / recordWords) c k)
 
-  pub marked : c ≤ 1024 → c ≤ words / 8 → Marked c ≡ marking (length (piecesIn table count)) words
+  pub marked : c ≤ mostPieces → c ≤ words / recordWords → Marked c ≡ marking (length (piecesIn table count)) words
   unfolding marking
-  marked h k = rw (whole, ← p, le-ltb 1024 c h, le-ltb (words / 8) c k)
+  marked h k = rw (whole, ← p, le-ltb mostPieces c h, le-ltb (words / recordWords) c k)
 
-  pub table-many : (u : List ℕ) → 1024 < c → u ≡ replicate words 0 → u ≡ recordTable (piecesIn table count) words
+  pub table-many : (u : List ℕ) → mostPieces < c → u ≡ replicate words 0 → u ≡ recordTable (piecesIn table count) words
   unfolding recordTable
   table-many u h z = rw (← too-many h) z
 
-  pub table-short : (u : List ℕ) → c ≤ 1024 → words / 8 < c → u ≡ replicate words 0 → u ≡ recordTable (piecesIn table count) words
+  pub table-short : (u : List ℕ) → c ≤ mostPieces → words / recordWords < c → u ≡ replicate words 0 → u ≡ recordTable (piecesIn table count) words
   unfolding recordTable
   table-short u h k z = rw (← too-short h k) z
 
-  pub table-marked : (u v : List ℕ) → c ≤ 1024 → c ≤ words / 8 → v ≡ replicate words 0 → u ≡ sets v 0 (recordsFrom 0 (piecesOf (kindsOf n table)))
+  pub table-marked : (u v : List ℕ) → c ≤ mostPieces → c ≤ words / recordWords → v ≡ replicate words 0 → u ≡ sets v 0 (pendingRecords 0 (piecesOf (kindsOf n table)))
       → u ≡ recordTable (piecesIn table count) words
   unfolding recordTable
   table-marked u v h k z o =
-      rw (← marked h k, whole) (o ∙ ap (λ (x : List ℕ). sets x 0 (recordsFrom 0 (piecesOf (kindsOf n table)))) z ∙ all-there (recordsFrom 0 (piecesOf (kindsOf n table))) words (omega (arith, records-length 0 (piecesOf (kindsOf n table)))))
-
-  pub room-all : (v : List ℕ) → v ≡ replicate words 0 → c ≤ words / 8 → 8 * length (piecesOf (kindsOf n table)) ≤ length v
-  room-all v z k = omega (arith, ap length z ∙ length-replicate {A = ℕ} words 0)
+      rw (← marked h k, whole) (o ∙ ap (λ (x : List ℕ). sets x 0 (pendingRecords 0 (piecesOf (kindsOf n table)))) z ∙ all-there (pendingRecords 0 (piecesOf (kindsOf n table))) words (omega (arith, records-length 0 (piecesOf (kindsOf n table)))))

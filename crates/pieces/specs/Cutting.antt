@@ -4,7 +4,7 @@ use mathlib.Core.Bool.{Bool, true, false, _||_}
 use mathlib.Core.List.{List, [], _∷_}
 
 module _ {E : Type 0} (closes opens : E → Bool) where
-  -- how many elements more the piece has, behind one that closes a piece or does not
+  -- how many elements more the piece has, after one that closes a piece or does not
   unfoldable pub more : Bool → List E → ℕ
   more closed [] = 0
   more closed (x ∷ l) = elim (closed || opens x) [ true ↦ 0 | false ↦ suc (more (closes x) l) ]

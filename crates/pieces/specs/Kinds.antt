@@ -4,7 +4,9 @@ use mathlib.Core.Bool.{Bool, false, cond, _&&_, _||_}
 use mathlib.Core.List.{List, [], _∷_}
 use lib.Dec.{eqb}
 use lib.ListN.{length, getD, take, drop}
+use Rattle.places.specs.Kinds.{identifier, extended}
 use Rattle.places.specs.Places.{kindsOf}
+use Rattle.pieces.specs.Classes as class
 use Rattle.pieces.specs.Cutting.{cut}
 use Rattle.pieces.specs.declared.Mark.{Mark}
 
@@ -35,12 +37,12 @@ abbrev pub mark : ℕ → ℕ → Mark
 mark c p = record { class = c; place = p }
 
 -- the kinds of the elements of a piece
-unfoldable pub pieceAt : ℕ → List ℕ → ℕ → ℕ → List ℕ
-pieceAt n table from count = take count (drop from (kindsOf n table))
+unfoldable pub kindsAt : ℕ → List ℕ → ℕ → ℕ → List ℕ
+kindsAt n table from count = take count (drop from (kindsOf n table))
 
--- an identifier (1) or an extended one (2)
+-- an identifier or an extended one
 abbrev pub isName : ℕ → Bool
-isName k = eqb k 1 || eqb k 2
+isName k = eqb k identifier || eqb k extended
 
 -- "after each `;`"
 abbrev pub closesPiece : ℕ → Bool
@@ -58,7 +60,7 @@ piecesOf ks = cut closesPiece opensPiece ks
 unfoldable pub isHeading : List ℕ → Bool
 isHeading p = eqb (length p) 3 && ((eqb (getD p 0 0) word-package && isName (getD p 1 0)) && eqb (getD p 2 0) word-is)
 
--- "a closing (end [package] [N];)": the place behind `end` and perhaps `package`, and whether a name stands there
+-- "a closing (end [package] [N];)": the place after `end` and perhaps `package`, and whether a name stands there
 unfoldable pub behindWord : List ℕ → ℕ
 behindWord p = cond (eqb (getD p 1 0) word-package) 2 1
 
@@ -74,14 +76,14 @@ isClosing p = endsAt p (cond (hasName p) (behindWord p + 1) (behindWord p))
 
 -- "A piece claims a name if it begins with constant or subtype and then a name, broken or not": the class, and the name's place
 abbrev pub claimOf : ℕ → Mark
-claimOf k = cond (eqb k word-constant) (mark 3 1) (cond (eqb k word-subtype) (mark 4 1) (mark 5 0))
+claimOf k = cond (eqb k word-constant) (mark class.constant 1) (cond (eqb k word-subtype) (mark class.subtype 1) (mark class.unclaimed 0))
 
 unfoldable pub claimMark : List ℕ → Mark
-claimMark p = cond (isName (getD p 1 0)) (claimOf (getD p 0 0)) (mark 5 0)
+claimMark p = cond (isName (getD p 1 0)) (claimOf (getD p 0 0)) (mark class.unclaimed 0)
 
 -- "class 1 to 5: heading, closing, constant, subtype, unclaimed", and the name's place in the piece, 0 where there is none
 unfoldable pub markOf : List ℕ → Mark
-markOf p = cond (isHeading p) (mark 1 1) (cond (isClosing p) (mark 2 (cond (hasName p) (behindWord p) 0)) (claimMark p))
+markOf p = cond (isHeading p) (mark class.heading 1) (cond (isClosing p) (mark class.closing (cond (hasName p) (behindWord p) 0)) (claimMark p))
 
 -- the word downto stands among these: the direction of a subtype's range
 unfoldable pub anyDown : List ℕ → Bool

@@ -1,3 +1,5 @@
 pub mod Cutting
 pub mod Kinds
+pub mod Classes
+pub mod Columns
 pub mod Records

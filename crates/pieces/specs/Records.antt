@@ -7,6 +7,7 @@ use lib.Dec.{eqb, ltb}
 use lib.ListN.{length, replicate}
 use Rattle.places.specs.Sizes.{mostPieces}
 use Rattle.pieces.specs.Kinds.{piecesOf, markOf}
+pub use Rattle.pieces.specs.Columns.{recordWords}
 use Rattle.places.specs.Places.{rowsIn, kindsOf}
 use Rattle.pieces.specs.declared.Mark.{Mark}
 use Rattle.pieces.specs.declared.Marking.{Marking}
@@ -16,18 +17,14 @@ use Rattle.pieces.specs.declared.Marking.the-variants.{Marked, TooMany, 
 unfoldable pub nameOf : ℕ → ℕ → ℕ
 nameOf at place = cond (eqb place 0) 0 (at + place)
 
--- how many words a record has
-abbrev pub recordWords : ℕ
-recordWords = 8
-
 -- the words of a piece's record
-unfoldable pub recordOf : ℕ → ℕ → Mark → List ℕ
-recordOf at count m = m .class ∷ at ∷ count ∷ nameOf at (m .place) ∷ 0 ∷ 0 ∷ 0 ∷ 0 ∷ []
+unfoldable pub pendingRecord : ℕ → ℕ → Mark → List ℕ
+pendingRecord at count m = m .class ∷ at ∷ count ∷ nameOf at (m .place) ∷ 0 ∷ 0 ∷ 0 ∷ 0 ∷ []
 
 -- the records one after the other
-unfoldable pub recordsFrom : ℕ → List (List ℕ) → List ℕ
-recordsFrom at [] = []
-recordsFrom at (p ∷ ps) = recordOf at (length p) (markOf p) ++ recordsFrom (at + length p) ps
+unfoldable pub pendingRecords : ℕ → List (List ℕ) → List ℕ
+pendingRecords at [] = []
+pendingRecords at (p ∷ ps) = pendingRecord at (length p) (markOf p) ++ pendingRecords (at + length p) ps
 
 -- the pieces of the elements that count: no more than the table has
 unfoldable pub piecesIn : List ℕ → ℕ → List (List ℕ)
@@ -44,4 +41,4 @@ holds words rs TooMany = replicate words 0
 holds words rs (TableShort n) = replicate words 0
 
 unfoldable pub recordTable : List (List ℕ) → ℕ → List ℕ
-recordTable ps words = holds words (recordsFrom 0 ps) (marking (length ps) words)
+recordTable ps words = holds words (pendingRecords 0 ps) (marking (length ps) words)

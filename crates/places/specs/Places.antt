@@ -10,6 +10,16 @@ use lib.ListN.{length, getD, set, drop}
 abbrev pub rowWords : ℕ
 rowWords = 3
 
+-- its columns
+abbrev pub kindColumn : ℕ
+kindColumn = 0
+
+abbrev pub firstColumn : ℕ
+firstColumn = 1
+
+abbrev pub sizeColumn : ℕ
+sizeColumn = 2
+
 -- how many rows a table has
 abbrev pub rowsIn : List ℕ → ℕ
 rowsIn table = length table / rowWords
@@ -30,7 +40,7 @@ kindsOf (suc n) table = getD table 0 0 ∷ kindsOf n (drop rowWords table)
 -- a row put at its number, where the table has room for it
 unfoldable pub put : List ℕ → ℕ → ℕ → ℕ → ℕ → List ℕ
 put t n kind first size =
-    cond (ltb n (rowsIn t)) (set (set (set t (n * rowWords) kind) (n * rowWords + 1) first) (n * rowWords + 2) size) t
+    cond (ltb n (rowsIn t)) (set (set (set t (n * rowWords) kind) (n * rowWords + firstColumn) first) (n * rowWords + sizeColumn) size) t
 
 -- the n bytes from x stand in the text
 abbrev pub within : List ℕ → ℕ → ℕ → Bool

@@ -12,7 +12,7 @@ use lib.Seq.{drop-cons, drop-drop}
 use Rattle.classes.specs.Bytes.{isGraphic}
 use Rattle.classes.proofs.Laws.{part-rest}
 use Rattle.quoted.specs.Quoted.{closedFrom}
-use Rattle.quoted.specs.Marks.{markAt}
+use Rattle.quoted.specs.code.Marks.{markAt}
 use Rattle.quoted.specs.declared.Mark.{Mark}
 use Rattle.quoted.specs.declared.Mark.the-variants.{Doubled, Closes, Inside, Breaks}
 use Rattle.quoted.specs.declared.Closed.{Closed}

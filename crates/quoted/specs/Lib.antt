@@ -1,2 +1,2 @@
 pub mod Quoted
-pub mod Marks
+pub mod code

@@ -1,4 +1,4 @@
--- Where the mark that opened a string or an extended identifier closes it. The text is what stands behind the opening mark. Assumes nothing.
+-- Where the mark that opened a string or an extended identifier closes it. The text is what stands after the opening mark. Assumes nothing.
 use Prim.Native.Nat.{ℕ, suc}
 use mathlib.Core.Bool.{cond}
 use mathlib.Core.List.{List, [], _∷_}

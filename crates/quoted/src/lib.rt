@@ -1,7 +1,7 @@
 // Where a string or an extended identifier closes: the mark that opened it, doubled marks aside.
 ghost use mathlib.Core.Path.{_≡_};
 ghost use Rattle.quoted.specs.Quoted.{closed};
-ghost use Rattle.quoted.specs.Marks.{markAt};
+ghost use Rattle.quoted.specs.code.Marks.{markAt};
 
 // What stands next between two marks.
 pub enum Mark {
@@ -36,7 +36,7 @@ fn mark_at(mark: u8, s: &[u8]) -> Mark
     Mark::Breaks
 }
 
-// The text is what stands behind the mark that opens.
+// The text is what stands after the mark that opens.
 pub fn closing(mark: u8, s: &[u8]) -> Closed
     ensures { λ r. ⌜ r ≡ closed mark (now (s .entry)) ⌝ }
 {

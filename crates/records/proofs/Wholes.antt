@@ -10,6 +10,7 @@ use borrow.Author.Tests.{eqb-true, eq-eqb}
 use lib.Dec.{eqb}
 use lib.ListN.{getD}
 use Rattle.laws.proofs.Laws.{both-left, both-right}
+use Rattle.states.specs.States.{states}
 use Rattle.records.specs.Tallies.{inState, countsFrom, tallyOf}
 use Rattle.records.specs.Frames.{noneFrom, wholeOf}
 use Rattle.records.proofs.Counting.{counts-at}
@@ -30,19 +31,19 @@ none-holds l k (suc m) h =
     (none-holds l (suc k) m (λ j b. let z : suc k + j ≡ k + suc j = omega arith in ap (λ (i : ℕ). getD l i 0) z ∙ h (suc j) (omega arith)))
 
 module _ (frame : Bool) (items : List ℕ) (n : ℕ) where
-  counted : (k : ℕ) → k ≤ 10 → getD (countsFrom items n 0 11) k 0 ≡ inState k items 0 n
-  counted k h = counts-at items n 0 11 k (omega arith) ∙ ap (λ (x : ℕ). inState x items 0 n) (zero-add k)
+  counted : (k : ℕ) → k ≤ (states - 1) → getD (countsFrom items n 0 states) k 0 ≡ inState k items 0 n
+  counted k h = counts-at items n 0 states k (omega arith) ∙ ap (λ (x : ℕ). inState x items 0 n) (zero-add k)
 
-  pub whole-exactly : (wholeOf frame (tallyOf items n) ≡ true) ↔ ((frame ≡ true) × ((k : ℕ) → 1 ≤ k → k ≤ 10 → inState k items 0 n ≡ 0))
+  pub whole-exactly : (wholeOf frame (tallyOf items n) ≡ true) ↔ ((frame ≡ true) × ((k : ℕ) → 1 ≤ k → k ≤ (states - 1) → inState k items 0 n ≡ 0))
   unfolding wholeOf tallyOf
   whole-exactly = (
     (λ h. (
-      both-left frame (noneFrom (countsFrom items n 0 11) 1 10) h,
+      both-left frame (noneFrom (countsFrom items n 0 states) 1 (states - 1)) h,
       λ k a b.
           let z : k ≡ 1 + (k - 1) = omega arith in
           sym (counted k b)
-          ∙ ap (λ (i : ℕ). getD (countsFrom items n 0 11) i 0) z
-          ∙ none-told (countsFrom items n 0 11) 1 10 (both-right frame (noneFrom (countsFrom items n 0 11) 1 10) h) (k - 1) (omega arith),
+          ∙ ap (λ (i : ℕ). getD (countsFrom items n 0 states) i 0) z
+          ∙ none-told (countsFrom items n 0 states) 1 (states - 1) (both-right frame (noneFrom (countsFrom items n 0 states) 1 (states - 1)) h) (k - 1) (omega arith),
     )),
-    λ x. rw (x .0) (none-holds (countsFrom items n 0 11) 1 10 (λ j b. counted (1 + j) (omega arith) ∙ x .1 (1 + j) (omega arith) (omega arith))),
+    λ x. rw (x .0) (none-holds (countsFrom items n 0 states) 1 (states - 1) (λ j b. counted (1 + j) (omega arith) ∙ x .1 (1 + j) (omega arith) (omega arith))),
   )

@@ -1,25 +1,27 @@
 // What the item records say together: the tally, and whether the frame is good. Every public function takes any tables.
 use pieces::RECORD_WORDS;
+use places::ElementNumber;
+use states::STATES;
 ghost use mathlib.Core.Path.{_≡_};
 ghost use Prim.Native.Nat.{_+_, _-_, _≤_, _<_};
-ghost use Rattle.records.specs.Records.{wordAt, isItem, isClaim, stateOf};
+ghost use Rattle.records.specs.Records.{wordAt, isItem, isClaim, itemState};
 ghost use Rattle.records.specs.Tallies.{tallyOf};
 ghost use Rattle.records.specs.Frames.{allItems, nameAgrees, frameGood, wholeOf};
 
-// How many items are in each state, 0 to 10.
+// How many items are in each state.
 pub struct Tally {
-    pub counts: [u64; 11],
+    pub counts: [u64; STATES],
 }
 
 // Word j of record i, 0 where there is no such record.
-pub fn word(items: &[u64], i: usize, j: u8) -> u64
+pub fn word(items: &[u64], i: usize, j: usize) -> u64
     ensures { λ r. ⌜ r ≡ wordAt (now (items .entry)) i j ⌝ }
 {
-    if RECORD_WORDS as u8 <= j {
+    if RECORD_WORDS <= j {
         return 0;
     }
     if i < items.len() / RECORD_WORDS {
-        return items[RECORD_WORDS * i + (j as usize)];
+        return items[RECORD_WORDS * i + j];
     }
     0
 }
@@ -27,34 +29,36 @@ pub fn word(items: &[u64], i: usize, j: u8) -> u64
 pub fn is_item(class: u64) -> bool
     ensures { λ r. ⌜ r ≡ isItem class ⌝ }
 {
-    (class == 3) | (class == 4) | (class == 5)
+    (class == pieces::CONSTANT) | (class == pieces::SUBTYPE) | (class == pieces::UNCLAIMED)
 }
 
 pub fn is_claim(class: u64) -> bool
     ensures { λ r. ⌜ r ≡ isClaim class ⌝ }
 {
-    (class == 3) | (class == 4)
+    (class == pieces::CONSTANT) | (class == pieces::SUBTYPE)
 }
 
-// The state of an item, 11 for a record that is none.
+// The state of an item; for a record that is none, a number that is no state.
 fn state(items: &[u64], i: usize) -> u64
-    ensures { λ r. ⌜ r ≡ stateOf (now (items .entry)) i ⌝ }
+    ensures { λ r. ⌜ r ≡ itemState (now (items .entry)) i ⌝ }
 {
-    if is_item(word(items, i, 0)) {
-        return word(items, i, 4);
+    if is_item(word(items, i, pieces::CLASS)) {
+        return word(items, i, pieces::STATE);
     }
-    11
+    STATES as u64
 }
 
 // The tally of the first n records.
 pub fn tallied(items: &[u64], n: usize) -> Tally
     ensures { λ r. ⌜ r ≡ tallyOf (now (items .entry)) n ⌝ }
 {
-    let mut t = Tally { counts: [0u64; 11] };
+    let mut t = Tally {
+        counts: [0u64; STATES],
+    };
     let mut i: usize = 0;
     while i < n {
         let s = state(items, i);
-        if s < 11 {
+        if s < STATES as u64 {
             let k = s as usize;
             t.counts[k] = t.counts[k] + 1;
         }
@@ -69,7 +73,7 @@ fn all_items(items: &[u64], from: usize, to: usize) -> bool
 {
     let mut i = from;
     while i < to {
-        if !is_item(word(items, i, 0)) {
+        if !is_item(word(items, i, pieces::CLASS)) {
             return false;
         }
         i += 1;
@@ -83,7 +87,12 @@ fn name_agrees(text: &[u8], elements: &[u64], heading: u64, closing: u64) -> boo
     if closing == 0 {
         return true;
     }
-    alike::same_name(text, elements, heading as usize, closing as usize)
+    same_names::same_name(
+        text,
+        elements,
+        ElementNumber(heading as usize),
+        ElementNumber(closing as usize),
+    )
 }
 
 // Whether n records, pieces of a text, make a good frame.
@@ -94,16 +103,23 @@ pub fn frame_good(text: &[u8], elements: &[u64], items: &[u64], n: usize) -> boo
         return false;
     }
     let last = n - 1;
-    if (word(items, 0, 0) != 1) | (word(items, last, 0) != 2) {
+    if (word(items, 0, pieces::CLASS) != pieces::HEADING)
+        | (word(items, last, pieces::CLASS) != pieces::CLOSING)
+    {
         return false;
     }
     if !all_items(items, 1, last) {
         return false;
     }
-    name_agrees(text, elements, word(items, 0, 3), word(items, last, 3))
+    name_agrees(
+        text,
+        elements,
+        word(items, 0, pieces::NAME),
+        word(items, last, pieces::NAME),
+    )
 }
 
-// Whether the survey is whole: a good frame, and no item in the states 1 to 10.
+// Whether the survey is whole: a good frame, and no item in another state than 0.
 pub fn whole(frame: bool, t: Tally) -> bool
     ensures { λ r. ⌜ r ≡ wholeOf frame t ⌝ }
 {
@@ -111,7 +127,7 @@ pub fn whole(frame: bool, t: Tally) -> bool
         return false;
     }
     let mut k: usize = 1;
-    while k < 11 {
+    while k < STATES {
         if t.counts[k] != 0 {
             return false;
         }

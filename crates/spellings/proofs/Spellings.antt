@@ -2,11 +2,11 @@
 -- computed test to each table. Assumes nothing.
 use mathlib.Core.Path.{_≡_, refl}
 use Rattle.spelled.proofs.Spelling.{spelling}
-use Rattle.ll.specs.Grammar.{tok, nt}
+use Rattle.grammars.specs.Grammar.{tok, nt}
 use Rattle.forms.specs.Kinds.{kinds, numberOf, other}
 use Rattle.forms.specs.Names.{allNames, nameCount}
 use Rattle.operands.specs.Operands.{operatorOf, signOf}
-use Rattle.spellings.specs.Spellings.{Spelled, same, elementKinds, pieceKinds, operators, signs, kindsBySpelling, classNumbers, classes, tokens, from, each}
+use Rattle.spellings.specs.Spellings.{Spelled, same, elementKinds, pieceKinds, operators, signs, kindsBySpelling, classNumbers, classes, placeKinds, firstClasses, tokens, from, each}
 
 pub elements-spelled : Spelled same elementKinds
 unfolding spelling
@@ -27,6 +27,9 @@ signs-spelled = refl
 -- the classes come first, one after the other
 pub classes-numbered : classNumbers classes ≡ from 7 1
 classes-numbered = refl
+
+pub places-numbered : classNumbers firstClasses ≡ placeKinds
+places-numbered = refl
 
 -- the forms' list, entry by entry
 pub forms-spelled : kinds ≡ kindsBySpelling

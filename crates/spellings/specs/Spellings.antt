@@ -8,8 +8,9 @@ use Rattle.words.specs.Words.{bytesOf, spells, reservedWords, delimiters}
 use Rattle.elements.specs.declared.Kind.{Kind}
 use Rattle.elements.specs.declared.Literal.{Literal}
 use Rattle.elements.specs.Kinds as element
+use Rattle.places.specs.Kinds as place
 use Rattle.spelled.specs.Spelled.{kindOf}
-use Rattle.ll.specs.Grammar.{Sym}
+use Rattle.grammars.specs.Grammar.{Sym}
 use Rattle.forms.specs.Kinds as form
 use Rattle.pieces.specs.Kinds as piece
 use Rattle.integers.specs.declared.Arithmetic.the-variants.{Add, Subtract, Multiply, Divide, Remainder, Modulo, Power}
@@ -103,6 +104,13 @@ classes =
 abbrev pub classNumbers : List Kind → List ℕ
 classNumbers [] = []
 classNumbers (k ∷ ks) = element.kindNumber k ∷ classNumbers ks
+
+-- what places takes the first of them for
+abbrev pub placeKinds : List ℕ
+placeKinds = place.identifier ∷ place.extended ∷ place.integerLiteral ∷ []
+
+abbrev pub firstClasses : List Kind
+firstClasses = Kind.Identifier ∷ Kind.Extended ∷ Kind.Literal Literal.Integer ∷ []
 
 abbrev pub classForms : List Kind → List Sym
 classForms [] = []

@@ -7,13 +7,15 @@ use native.Mathlib.Omega.{arith}
 use lib.ListN.{length, getD, drop, set, length-set, length-drop}
 use lib.Seq.{drop-drop, drop-set-add, getD-drop, getD-set-same, getD-set-other, sets}
 use borrow.Author.Tests.{lt-ltb, le-ltb, le-leb}
-use Rattle.ll.specs.Actions.{Step, go, stop}
+use Rattle.grammars.specs.Actions.{Step, go, stop}
 use Rattle.forms.specs.Tree.{State, Refusal, name-differs, fresh, top, onTop, joined, marked, named, rowed, isNamed, does}
 use Rattle.forms.proofs.Nesting.{top-size, joined-less, joined-few}
+use Rattle.places.specs.declared.ElementNumber.{ElementNumber}
+use Rattle.refusals.specs.declared.StrictRefusal.the-variants as refusal
 use Rattle.tree.specs.declared.Did.{Did}
-use Rattle.tree.specs.declared.Did.the-variants.{Went, Differs, Deep}
+use Rattle.tree.specs.declared.Did.the-variants.{Went, Stopped}
 use Rattle.forms.specs.Words.{rowAt}
-use Rattle.tree.specs.Held.{Frames, Held, Done, usedAfter, pickUsed}
+use Rattle.tree.specs.code.Held.{Frames, Held, Done, usedAfter, pickUsed}
 use Rattle.tree.proofs.Lists.{four-pushed}
 use Rattle.tree.proofs.Holding as holding
 
@@ -68,7 +70,7 @@ named-by alike (suc n) k j b d q e = let z : suc n - 1 ≡ n = omega arith in e 
 
 module _ (frames cells next heads : List ℕ) (fp used depth k : ℕ) (alike : ℕ → ℕ → Bool) (s : State) (held : Held frames cells next heads fp used (s .frames)) (deep : s .depth ≡ depth) where
   abbrev pub After : Did → List ℕ → List ℕ → List ℕ → List ℕ → ℕ → Type 0
-  After r f c n h a = Done r f c n h (usedAfter a used) (does alike a k s)
+  After r f c n h a = Done r f c n h (usedAfter a used) k (does alike a k s)
 
   pub act-opens : (a : ℕ) (F : List ℕ) → a ≡ 0 → 4 ≤ fp → fp ≤ length frames → F ≡ set (set (set (set frames (fp - 4) k) (fp - 4 + 1) k) (fp - 4 + 2) used) (fp - 4 + 3) 0
       → After (Went (record { fp = fp - 4; depth = depth; used = used })) F cells next heads a
@@ -163,13 +165,15 @@ module _ (frames cells next heads : List ℕ) (fp used depth k : ℕ) (alike : �
       → After (Went (record { fp = fp; depth = depth; used = used })) frames cells next heads a
   act-same a b z q h =
       subst (After (Went (record { fp = fp; depth = depth; used = used })) frames cells next heads) (sym z)
-      (subst (λ (x : Step State Refusal). Done (Went (record { fp = fp; depth = depth; used = used })) frames cells next heads (usedAfter 4 used) x) (sym (judged true (sym h ∙ q)))
+      (subst (λ (x : Step State Refusal). Done (Went (record { fp = fp; depth = depth; used = used })) frames cells next heads (usedAfter 4 used) k x) (sym (judged true (sym h ∙ q)))
       (held, deep, refl))
 
-  pub act-differs : (a : ℕ) (b : Bool) → a ≡ 4 → b ≡ isNamed alike (getD frames (fp + 3) 0) (k - 1) → b ≡ false → After Differs frames cells next heads a
-  act-differs a b z q h =
-      subst (After Differs frames cells next heads) (sym z)
-      (subst (λ (x : Step State Refusal). Done Differs frames cells next heads (usedAfter 4 used) x) (sym (judged false (sym h ∙ q))) tt)
+  pub act-differs : (a : ℕ) (b : Bool) (e : ElementNumber) → a ≡ 4 → b ≡ isNamed alike (getD frames (fp + 3) 0) (k - 1) → b ≡ false → e .0 ≡ k - 1
+      → After (Stopped (refusal.NameDiffers e)) frames cells next heads a
+  act-differs a b e z q h i =
+      subst (After (Stopped (refusal.NameDiffers e)) frames cells next heads) (sym z)
+      (subst (λ (x : Step State Refusal). Done (Stopped (refusal.NameDiffers e)) frames cells next heads (usedAfter 4 used) k x) (sym (judged false (sym h ∙ q)))
+      (ap (λ (x : ℕ). refusal.NameDiffers (record { 0 = x })) i))
 
   pub act-deeper : (a : ℕ) → a ≡ 5 → depth < 32 → After (Went (record { fp = fp; depth = depth + 1; used = used })) frames cells next heads a
   unfolding does
@@ -177,9 +181,11 @@ module _ (frames cells next heads : List ℕ) (fp used depth k : ℕ) (alike : �
       subst (After (Went (record { fp = fp; depth = depth + 1; used = used })) frames cells next heads) (sym z)
       (rw (lt-ltb (s .depth) 32 (omega arith)) (held, ap (λ (x : ℕ). x + 1) deep, refl))
 
-  pub act-deep : (a : ℕ) → a ≡ 5 → 32 ≤ depth → After Deep frames cells next heads a
+  pub act-deep : (a : ℕ) (e : ElementNumber) → a ≡ 5 → 32 ≤ depth → e .0 ≡ k - 1 → After (Stopped (refusal.TooDeep e)) frames cells next heads a
   unfolding does
-  act-deep a z l = subst (After Deep frames cells next heads) (sym z) (rw (le-ltb (s .depth) 32 (omega arith)) tt)
+  act-deep a e z l i =
+      subst (After (Stopped (refusal.TooDeep e)) frames cells next heads) (sym z)
+      (rw (le-ltb (s .depth) 32 (omega arith)) (ap (λ (x : ℕ). refusal.TooDeep (record { 0 = x })) i))
 
   pub act-shallower : (a r : ℕ) → a ≡ 6 → r ≡ depth - 1 → After (Went (record { fp = fp; depth = r; used = used })) frames cells next heads a
   unfolding does

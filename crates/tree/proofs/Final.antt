@@ -1,25 +1,20 @@
 -- From what the scan found to what is answered, and what the tree table then holds. Assumes nothing.
 use Prim.Native.Nat.{ℕ, _+_, _-_, _*_, _/_, _≤_, _<_}
 use mathlib.Core.Path.{_≡_, refl, sym, _∙_, ap, subst}
-use mathlib.Core.Logic.{⊎-elim}
 use mathlib.Core.Bool.{Bool, cond}
 use mathlib.Core.List.{List, [], _∷_, _++_}
 use native.Mathlib.Omega.{arith}
 use lib.ListN.{length, drop, getD, length-replicate}
 use lib.Seq.{sets, sets-eq}
 use borrow.Author.Tests.{le-leb, lt-leb}
-use types.Run.{OneOf}
-use denote.Enum.Declared.{tagOf}
-use Rattle.ll.specs.Actions.{End, read, bad, stopped, spent}
-use Rattle.forms.specs.Tree.{Row, State, Refusal, name-differs, too-deep, rowsOf}
+use Rattle.grammars.specs.Actions.{End, read, bad, stopped, spent}
+use Rattle.forms.specs.Tree.{Row, State, Refusal, rowsOf}
+use Rattle.refusals.specs.declared.StrictRefusal.{StrictRefusal}
 use Rattle.tree.specs.declared.Answer.{Answer}
-use Rattle.tree.specs.declared.Answer.the-variants.{Tree, NoFile, NameDiffers, TooDeep, TableShort}
-use Rattle.tree.specs.declared.Found.{Found}
-use Rattle.tree.specs.declared.Found.the-variants.{Whole, Wrong, Other, Over}
-use Rattle.tree.specs.Answers.{wordsOf, answerOf, tableOf, elementsIn, readingIn}
-use Rattle.tree.specs.Held.{Spans, Tells, answerBy}
+use Rattle.tree.specs.declared.Answer.the-variants.{Tree, Refused}
+use Rattle.tree.specs.Answers.{wordsOf, answerOf, tableOf, tableShort, elementsIn, readingIn}
+use Rattle.tree.specs.code.Held.{Spans, Tells}
 use Rattle.tree.specs.Items.{rowsRead}
-use Rattle.tree.proofs.Found as declared
 use Rattle.tree.proofs.Zeros.{zeros, drop-zeros}
 
 pub words-size : (rows : List Row) → length (wordsOf rows) ≡ 5 * length rows
@@ -36,50 +31,39 @@ filled room rows h =
 abbrev pub Says : Answer → List ℕ → ℕ → End State Refusal → Type 0
 Says r tab room o = (r ≡ answerOf room o) × (tab ≡ tableOf room o)
 
--- what is not read whole: what it is answered as, the zeros that the tree table holds, and no rows
-pub unread : (r : Found) (cells next heads : List ℕ) (o : End State Refusal) → OneOf (1 ∷ 2 ∷ 3 ∷ []) (tagOf declared.the-type r) → Tells r cells next heads o
-    → (room : ℕ) → (answerBy r ≡ answerOf room o) × (zeros room ≡ tableOf room o) × (rowsRead o ≡ [])
-unread (Whole used) cells next heads o k t room = absurd (⊎-elim (λ e. omega arith) (λ k. ⊎-elim (λ e. omega arith) (λ e. omega arith) k) k)
-unread (Wrong i) cells next heads (read s) k t room = absurd t
-unread (Wrong i) cells next heads (bad j) k t room = (ap NoFile t, refl, refl)
-unread (Wrong i) cells next heads (stopped j x) k t room = absurd t
-unread (Wrong i) cells next heads spent k t room = absurd t
-unread (Other i) cells next heads (read s) k t room = absurd t
-unread (Other i) cells next heads (bad j) k t room = absurd t
-unread (Other i) cells next heads (stopped j name-differs) k t room = (ap NameDiffers t, refl, refl)
-unread (Other i) cells next heads (stopped j too-deep) k t room = absurd t
-unread (Other i) cells next heads spent k t room = absurd t
-unread (Over i) cells next heads (read s) k t room = absurd t
-unread (Over i) cells next heads (bad j) k t room = absurd t
-unread (Over i) cells next heads (stopped j name-differs) k t room = absurd t
-unread (Over i) cells next heads (stopped j too-deep) k t room = (ap TooDeep t, refl, refl)
-unread (Over i) cells next heads spent k t room = absurd t
+-- what is not read whole: its refusal is the answer, the tree table holds zeros, and there are no rows
+pub unread : (x : StrictRefusal) (cells next heads : List ℕ) (o : End State Refusal) → Tells (Refused x) cells next heads o
+    → (room : ℕ) → (_≡_ {A = Answer} (Refused x) (answerOf room o)) × (zeros room ≡ tableOf room o) × (rowsRead o ≡ [])
+unread x cells next heads (read s) t room = absurd t
+unread x cells next heads (bad j) t room = (ap Refused t, refl, refl)
+unread x cells next heads (stopped j y) t room = (ap Refused t, refl, refl)
+unread x cells next heads spent t room = absurd t
 
-module _ (cells next heads : List ℕ) (r : Found) (o : End State Refusal) (tells : Tells r cells next heads o) where
-  whole : (used : ℕ) → r ≡ Whole used → Tells (Whole used) cells next heads o
-  whole used e = subst (λ (x : Found). Tells x cells next heads o) e tells
+module _ (cells next heads : List ℕ) (r : Answer) (o : End State Refusal) (tells : Tells r cells next heads o) where
+  whole : (used : ℕ) → r ≡ Tree used → Tells (Tree used) cells next heads o
+  whole used e = subst (λ (x : Answer). Tells x cells next heads o) e tells
 
   -- what the rows' writing asks
-  pub whole-asks : (used : ℕ) → r ≡ Whole used
+  pub whole-asks : (used : ℕ) → r ≡ Tree used
       → ((rows : List Row) × (Spans cells next heads used 0 rows × (length rows ≡ used))) × (used ≤ 8192) × ((i : ℕ) → i ≤ used → getD heads i 0 ≤ used)
   whole-asks used e = go o (whole used e)
     where
-      go : (o : End State Refusal) → Tells (Whole used) cells next heads o → ((rows : List Row) × (Spans cells next heads used 0 rows × (length rows ≡ used))) × (used ≤ 8192) × ((i : ℕ) → i ≤ used → getD heads i 0 ≤ used)
+      go : (o : End State Refusal) → Tells (Tree used) cells next heads o → ((rows : List Row) × (Spans cells next heads used 0 rows × (length rows ≡ used))) × (used ≤ 8192) × ((i : ℕ) → i ≤ used → getD heads i 0 ≤ used)
       go (read s) t = ((rowsOf s, (t .0, t .1)), t .2, t .3)
       go (bad j) t = absurd t
       go (stopped j x) t = absurd t
       go spent t = absurd t
 
-  pub says-tree : (used room : ℕ) (tab₀ tab : List ℕ) → r ≡ Whole used → used ≤ room / 5 → tab₀ ≡ zeros room
+  pub says-tree : (used room : ℕ) (tab₀ tab : List ℕ) → r ≡ Tree used → used ≤ room / 5 → tab₀ ≡ zeros room
       → ((rows : List Row) → Spans cells next heads used 0 rows → tab ≡ sets tab₀ 0 (wordsOf rows)) → Says (Tree used) tab room o
   says-tree used room tab₀ tab e l z w = go o (whole used e)
     where
-      go : (o : End State Refusal) → Tells (Whole used) cells next heads o → Says (Tree used) tab room o
+      go : (o : End State Refusal) → Tells (Tree used) cells next heads o → Says (Tree used) tab room o
       go (read s) t =
           let n : length (rowsOf s) ≡ used = t .1 in
           let m : 5 * length (rowsOf s) ≤ room = omega arith in
           let b = le-leb (5 * length (rowsOf s)) room m in (
-            ap Tree (sym n) ∙ sym (ap (λ (x : Bool). cond x (Tree (length (rowsOf s))) (TableShort (room / 5))) b),
+            ap Tree (sym n) ∙ sym (ap (λ (x : Bool). cond x (Tree (length (rowsOf s))) (tableShort (room / 5))) b),
             w (rowsOf s) (t .0)
                 ∙ ap (λ (l : List ℕ). sets l 0 (wordsOf (rowsOf s))) z
                 ∙ filled room (rowsOf s) m
@@ -89,22 +73,22 @@ module _ (cells next heads : List ℕ) (r : Found) (o : End State Refusal) (tell
       go (stopped j x) t = absurd t
       go spent t = absurd t
 
-  pub says-short : (used room : ℕ) (tab : List ℕ) → r ≡ Whole used → room / 5 < used → tab ≡ zeros room → Says (TableShort (room / 5)) tab room o
+  pub says-short : (used room : ℕ) (tab : List ℕ) → r ≡ Tree used → room / 5 < used → tab ≡ zeros room → Says (tableShort (room / 5)) tab room o
   says-short used room tab e l z = go o (whole used e)
     where
-      go : (o : End State Refusal) → Tells (Whole used) cells next heads o → Says (TableShort (room / 5)) tab room o
+      go : (o : End State Refusal) → Tells (Tree used) cells next heads o → Says (tableShort (room / 5)) tab room o
       go (read s) t =
           let n : length (rowsOf s) ≡ used = t .1 in
           let b = lt-leb (5 * length (rowsOf s)) room (omega arith) in (
-            sym (ap (λ (x : Bool). cond x (Tree (length (rowsOf s))) (TableShort (room / 5))) b),
+            sym (ap (λ (x : Bool). cond x (Tree (length (rowsOf s))) (tableShort (room / 5))) b),
             z ∙ sym (ap (λ (x : Bool). cond x (wordsOf (rowsOf s) ++ zeros (room - 5 * length (rowsOf s))) (zeros room)) b),
           )
       go (bad j) t = absurd t
       go (stopped j x) t = absurd t
       go spent t = absurd t
 
-  pub says-unread : (a : Answer) (room : ℕ) (tab : List ℕ) → OneOf (1 ∷ 2 ∷ 3 ∷ []) (tagOf declared.the-type r) → a ≡ answerBy r → tab ≡ zeros room → Says a tab room o
-  says-unread a room tab k e z = let u = unread r cells next heads o k tells room in (e ∙ u .0, z ∙ u .1)
+  pub says-unread : (x : StrictRefusal) (room : ℕ) (tab : List ℕ) → r ≡ Refused x → tab ≡ zeros room → Says r tab room o
+  says-unread x room tab e z = let u = unread x cells next heads o (subst (λ (y : Answer). Tells y cells next heads o) e tells) room in (e ∙ u .0, z ∙ u .1)
 
 pub in-table : (elements : List ℕ) (count n : ℕ) → n ≡ elementsIn elements count → 3 * n ≤ length elements
 in-table elements count n e = omega arith
@@ -115,6 +99,6 @@ in-size elements count n e = omega arith
 pub rooms : (r : Answer) (tab : List ℕ) (room room′ : ℕ) (o : End State Refusal) → room ≡ room′ → Says r tab room o → Says r tab room′ o
 rooms r tab room room′ o e s = subst (λ (x : ℕ). Says r tab x o) e s
 
-pub told : (r : Found) (cells next heads text elements : List ℕ) (n count : ℕ) → n ≡ elementsIn elements count → Tells r cells next heads (readingIn text elements n)
+pub told : (r : Answer) (cells next heads text elements : List ℕ) (n count : ℕ) → n ≡ elementsIn elements count → Tells r cells next heads (readingIn text elements n)
     → Tells r cells next heads (readingIn text elements (elementsIn elements count))
 told r cells next heads text elements n count e t = subst (λ (x : ℕ). Tells r cells next heads (readingIn text elements x)) e t

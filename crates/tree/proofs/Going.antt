@@ -10,24 +10,26 @@ use lib.Dec.{T, leb}
 use lib.ListN.{length, getD, drop, length-drop, drop-of-length-le}
 use lib.Seq.{drop-cons, getD-drop}
 use borrow.Author.Tests.{eq-eqb, ne-eqb}
-use Rattle.ll.specs.Grammar.{Sym, tok, nt, act, look}
-use Rattle.ll.specs.Actions.{Step, go, stop, End, runs}
-use Rattle.ll.proofs.Room as room
-use Rattle.ll.proofs.Spare as spare
-use Rattle.ll.proofs.Budget as budget
-use Rattle.alike.specs.Alike.{sameName}
+use Rattle.grammars.specs.Grammar.{Sym, tok, nt, act, look}
+use Rattle.grammars.specs.Actions.{Step, go, stop, End, runs}
+use Rattle.grammars.proofs.Room as room
+use Rattle.grammars.proofs.Spare as spare
+use Rattle.grammars.proofs.Budget as budget
+use Rattle.same_names.specs.Alike.{sameName}
 use Rattle.forms.specs.Rules.{forms, body}
 use Rattle.forms.specs.code.Picks.{predict}
 use Rattle.forms.specs.Tree.{State, Refusal, name-differs, too-deep, does, start}
 use Rattle.forms.specs.Reading.{readingFrom, steps}
 use Rattle.forms.proofs.Tests as tests
 use Rattle.forms.proofs.Nesting.{Nested, nested-grow, nested-eat, nested-act}
+use Rattle.tree.specs.code.Room.{bottom, outermost, framesWords}
 use Rattle.tree.specs.declared.Did.{Did}
 use Rattle.tree.specs.declared.Moved.{Moved}
-use Rattle.tree.specs.declared.Did.the-variants.{Went, Differs, Deep}
-use Rattle.tree.specs.declared.Found.the-variants.{Whole, Wrong, Other, Over}
-use Rattle.tree.specs.Answers.{terminalsOf}
-use Rattle.tree.specs.Held.{Frames, Held, Done, Tells, usedAfter, pickUsed}
+use Rattle.tree.specs.declared.Did.the-variants.{Went, Stopped}
+use Rattle.tree.specs.declared.Answer.the-variants.{Tree, Refused}
+use Rattle.refusals.specs.declared.StrictRefusal.{StrictRefusal}
+use Rattle.tree.specs.Answers.{terminalsOf, noFile}
+use Rattle.tree.specs.code.Held.{Frames, Held, Done, Tells, usedAfter, pickUsed}
 use Rattle.tree.proofs.Lists.{terminals-size, look-at}
 use Rattle.tree.proofs.Holding as holding
 
@@ -54,7 +56,7 @@ module _ (text elements : List ℕ) (n : ℕ) (goal : End State Refusal) where
 
   module _ {α : List Sym} {frames cells next heads : List ℕ} {fp depth used at : ℕ} (g : Going α frames cells next heads fp depth used at) where
     -- the bounds: the stack, the frames, the rows
-    pub stack-bound : length α ≤ 2175
+    pub stack-bound : length α ≤ bottom
     stack-bound =
         let t = g .nested .most in
         omega (
@@ -107,28 +109,28 @@ module _ (text elements : List ℕ) (n : ℕ) (goal : End State Refusal) where
 
   module _ {frames cells next heads : List ℕ} {fp depth used at : ℕ} where
     -- all read, or too much
-    pub ends : (g : Going [] frames cells next heads fp depth used at) → n ≤ at → at ≤ n → n ≤ 8192 → Tells (Whole used) cells next heads goal
+    pub ends : (g : Going [] frames cells next heads fp depth used at) → n ≤ at → at ≤ n → n ≤ 8192 → Tells (Tree used) cells next heads goal
     unfolding runs
     ends g l m b =
         let f = holding.framed-end (g .held .framed) (g .nested .inner-is ∙ ap suc (g .nested .frame-nest)) in
         let r = rows-bound g in
-        subst (Tells (Whole used) cells next heads) (flip (turns g [] (none-left g l))) (f .0, f .1, omega arith, g .held .within)
+        subst (Tells (Tree used) cells next heads) (flip (turns g [] (none-left g l))) (f .0, f .1, omega arith, g .held .within)
 
-    pub too-much : (g : Going [] frames cells next heads fp depth used at) → at < n → Tells (Wrong at) cells next heads goal
+    pub too-much : (g : Going [] frames cells next heads fp depth used at) → at < n → Tells (noFile at) cells next heads goal
     unfolding runs
-    too-much g l = subst (Tells (Wrong at) cells next heads) (flip (turns g _ (more-left g l))) refl
+    too-much g l = subst (Tells (noFile at) cells next heads) (flip (turns g _ (more-left g l))) refl
 
     -- an element wanted
     module _ {a : ℕ} {α : List Sym} (g : Going (tok a ∷ α) frames cells next heads fp depth used at) where
-      pub ends-early : n ≤ at → Tells (Wrong at) cells next heads goal
+      pub ends-early : n ≤ at → Tells (noFile at) cells next heads goal
       unfolding runs
-      ends-early l = subst (Tells (Wrong at) cells next heads) (flip (turns g [] (none-left g l))) refl
+      ends-early l = subst (Tells (noFile at) cells next heads) (flip (turns g [] (none-left g l))) refl
 
-      pub wrong-kind : (t : ℕ) → at < n → t ≡ look (drop at kinds) → (a ≡ t → ⊥) → Tells (Wrong at) cells next heads goal
+      pub wrong-kind : (t : ℕ) → at < n → t ≡ look (drop at kinds) → (a ≡ t → ⊥) → Tells (noFile at) cells next heads goal
       unfolding runs
       wrong-kind t l e d =
           let q : t ≡ getD kinds at 0 = e ∙ look-at kinds at (omega (arith, terminals-size n elements)) in
-          subst (Tells (Wrong at) cells next heads) (flip (turns g _ (more-left g l))) (rw (ne-eqb a (getD kinds at 0) (λ z. d (z ∙ flip q))) refl)
+          subst (Tells (noFile at) cells next heads) (flip (turns g _ (more-left g l))) (rw (ne-eqb a (getD kinds at 0) (λ z. d (z ∙ flip q))) refl)
 
       pub right-kind : (t : ℕ) → at < n → t ≡ look (drop at kinds) → a ≡ t → Going α frames cells next heads fp depth used (at + 1)
       unfolding runs
@@ -154,9 +156,9 @@ module _ (text elements : List ℕ) (n : ℕ) (goal : End State Refusal) where
 
     -- a name to read
     module _ {m : ℕ} {α : List Sym} (g : Going (nt m ∷ α) frames cells next heads fp depth used at) where
-      pub no-rule : predict m (look (drop at kinds)) ≡ 0 → Tells (Wrong at) cells next heads goal
+      pub no-rule : predict m (look (drop at kinds)) ≡ 0 → Tells (noFile at) cells next heads goal
       unfolding runs
-      no-rule e = subst (Tells (Wrong at) cells next heads) (flip (turns g (drop at kinds) refl)) (rw e refl)
+      no-rule e = subst (Tells (noFile at) cells next heads) (flip (turns g (drop at kinds) refl)) (rw e refl)
 
       pub by-rule : (p : ℕ) → predict m (look (drop at kinds)) ≡ suc p → Going (body p ++ α) frames cells next heads fp depth used at
       unfolding runs
@@ -197,7 +199,7 @@ module _ (text elements : List ℕ) (n : ℕ) (goal : End State Refusal) where
           by false q e = subst (λ (x : ℕ). spare.Fewer tests.isRow tests.spare x at α) (flip e) (spare.fewer-other tests.isRow tests.spare used at a α (g .fewer))
 
       went : (fp′ depth′ used′ : ℕ) (frames′ cells′ next′ heads′ : List ℕ) → (x : Step State Refusal) → does alike a at (g .state) ≡ x
-          → Done (Went (record { fp = fp′; depth = depth′; used = used′ })) frames′ cells′ next′ heads′ (usedAfter a used) x → Going α frames′ cells′ next′ heads′ fp′ depth′ used′ at
+          → Done (Went (record { fp = fp′; depth = depth′; used = used′ })) frames′ cells′ next′ heads′ (usedAfter a used) at x → Going α frames′ cells′ next′ heads′ fp′ depth′ used′ at
       unfolding runs
       went fp′ depth′ used′ frames′ cells′ next′ heads′ (go t) e h =
           let p = g .paid in
@@ -216,44 +218,29 @@ module _ (text elements : List ℕ) (n : ℕ) (goal : End State Refusal) where
       went fp′ depth′ used′ frames′ cells′ next′ heads′ (stop r) e h = absurd h
 
       pub goes-on : (fp′ depth′ used′ : ℕ) (frames′ cells′ next′ heads′ : List ℕ)
-          → Done (Went (record { fp = fp′; depth = depth′; used = used′ })) frames′ cells′ next′ heads′ (usedAfter a used) (does alike a at (g .state)) → Going α frames′ cells′ next′ heads′ fp′ depth′ used′ at
+          → Done (Went (record { fp = fp′; depth = depth′; used = used′ })) frames′ cells′ next′ heads′ (usedAfter a used) at (does alike a at (g .state)) → Going α frames′ cells′ next′ heads′ fp′ depth′ used′ at
       goes-on fp′ depth′ used′ frames′ cells′ next′ heads′ h = went fp′ depth′ used′ frames′ cells′ next′ heads′ (does alike a at (g .state)) refl h
 
-      pub goes-by : (r : Did) (m : Moved) (frames′ cells′ next′ heads′ : List ℕ) → r ≡ Went m → Done r frames′ cells′ next′ heads′ (usedAfter a used) (does alike a at (g .state))
+      pub goes-by : (r : Did) (m : Moved) (frames′ cells′ next′ heads′ : List ℕ) → r ≡ Went m → Done r frames′ cells′ next′ heads′ (usedAfter a used) at (does alike a at (g .state))
           → Going α frames′ cells′ next′ heads′ (m .fp) (m .depth) (m .used) at
       goes-by r m frames′ cells′ next′ heads′ e d =
-          goes-on (m .fp) (m .depth) (m .used) frames′ cells′ next′ heads′ (subst (λ (x : Did). Done x frames′ cells′ next′ heads′ (usedAfter a used) (does alike a at (g .state))) e d)
+          goes-on (m .fp) (m .depth) (m .used) frames′ cells′ next′ heads′ (subst (λ (x : Did). Done x frames′ cells′ next′ heads′ (usedAfter a used) at (does alike a at (g .state))) e d)
 
-      differs : (f c k h : List ℕ) (c′ k′ h′ : List ℕ) (x : Step State Refusal) → does alike a at (g .state) ≡ x → Done Differs f c k h (usedAfter a used) x
-          → Tells (Other (at - 1)) c′ k′ h′ goal
+      stops : (r : StrictRefusal) (f c k h c′ k′ h′ : List ℕ) (x : Step State Refusal) → does alike a at (g .state) ≡ x → Done (Stopped r) f c k h (usedAfter a used) at x
+          → Tells (Refused r) c′ k′ h′ goal
       unfolding runs
-      differs f c k h c′ k′ h′ (stop name-differs) e d = subst (Tells (Other (at - 1)) c′ k′ h′) (flip (turns g (drop at kinds) refl)) (rw e refl)
-      differs f c k h c′ k′ h′ (stop too-deep) e d = absurd d
-      differs f c k h c′ k′ h′ (go t) e d = absurd d
+      stops r f c k h c′ k′ h′ (stop x) e d = subst (Tells (Refused r) c′ k′ h′) (flip (turns g (drop at kinds) refl)) (rw e d)
+      stops r f c k h c′ k′ h′ (go t) e d = absurd d
 
-      pub name-differs-here : (r : Did) (f c k h c′ k′ h′ : List ℕ) (i : ℕ) → r ≡ Differs → i ≡ at - 1 → Done r f c k h (usedAfter a used) (does alike a at (g .state))
-          → Tells (Other i) c′ k′ h′ goal
-      name-differs-here r f c k h c′ k′ h′ i e q d =
-          subst (λ (x : ℕ). Tells (Other x) c′ k′ h′ goal) (flip q)
-          (differs f c k h c′ k′ h′ (does alike a at (g .state)) refl (subst (λ (x : Did). Done x f c k h (usedAfter a used) (does alike a at (g .state))) e d))
-
-      over : (f c k h : List ℕ) (c′ k′ h′ : List ℕ) (x : Step State Refusal) → does alike a at (g .state) ≡ x → Done Deep f c k h (usedAfter a used) x
-          → Tells (Over (at - 1)) c′ k′ h′ goal
-      unfolding runs
-      over f c k h c′ k′ h′ (stop too-deep) e d = subst (Tells (Over (at - 1)) c′ k′ h′) (flip (turns g (drop at kinds) refl)) (rw e refl)
-      over f c k h c′ k′ h′ (stop name-differs) e d = absurd d
-      over f c k h c′ k′ h′ (go t) e d = absurd d
-
-      pub too-deep-here : (r : Did) (f c k h c′ k′ h′ : List ℕ) (i : ℕ) → r ≡ Deep → i ≡ at - 1 → Done r f c k h (usedAfter a used) (does alike a at (g .state))
-          → Tells (Over i) c′ k′ h′ goal
-      too-deep-here r f c k h c′ k′ h′ i e q d =
-          subst (λ (x : ℕ). Tells (Over x) c′ k′ h′ goal) (flip q)
-          (over f c k h c′ k′ h′ (does alike a at (g .state)) refl (subst (λ (x : Did). Done x f c k h (usedAfter a used) (does alike a at (g .state))) e d))
+      pub stops-here : (r : Did) (x : StrictRefusal) (f c k h c′ k′ h′ : List ℕ) → r ≡ Stopped x → Done r f c k h (usedAfter a used) at (does alike a at (g .state))
+          → Tells (Refused x) c′ k′ h′ goal
+      stops-here r x f c k h c′ k′ h′ e d =
+          stops x f c k h c′ k′ h′ (does alike a at (g .state)) refl (subst (λ (y : Did). Done y f c k h (usedAfter a used) at (does alike a at (g .state))) e d)
 
   -- at the start, from a name that lies low enough, has no row to spare and costs less than an element pays for
   pub begins : (m : ℕ) → tests.height m ≤ 63 → tests.spare m ≡ 0 → tests.weight m < 128 → goal ≡ readingFrom (nt m) alike kinds
-      → (frames cells next heads : List ℕ) → length frames ≡ 8708 → drop 8704 frames ≡ 0 ∷ 0 ∷ 0 ∷ 0 ∷ [] → getD heads 0 0 ≡ 0
-      → Going (nt m ∷ []) frames cells next heads 8704 0 0 0
+      → (frames cells next heads : List ℕ) → length frames ≡ framesWords → drop outermost frames ≡ 0 ∷ 0 ∷ 0 ∷ 0 ∷ [] → getD heads 0 0 ≡ 0
+      → Going (nt m ∷ []) frames cells next heads outermost 0 0 0
   unfolding readingFrom
   begins m low none light is frames cells next heads l e z =
       record {

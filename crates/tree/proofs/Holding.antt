@@ -12,7 +12,7 @@ use lib.ListN.{length, getD, drop, set, length-set, length-append}
 use lib.Seq.{getD-set-same, getD-set-other}
 use Rattle.forms.specs.Tree.{Row, Frame, fresh, top, onTop, joined, marked, named, rowed}
 use Rattle.forms.specs.Words.{rowAt}
-use Rattle.tree.specs.Held.{Linked, none, more, Spans, empty, join, Frames, outermost, inside}
+use Rattle.tree.specs.code.Held.{Linked, none, more, Spans, empty, join, Frames, outermost, inside}
 
 -- the lists of the bases are what they are
 linked-one : {cells next : List ℕ} {h : ℕ} {l m : List Row} → Linked cells next h l → Linked cells next h m → l ≡ m

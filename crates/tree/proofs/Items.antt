@@ -11,8 +11,8 @@ use lib.Dec.{eqb}
 use lib.ListN.{length, getD, take, drop, length-append}
 use lib.Seq.{take-at, drop-at}
 use Rattle.laws.proofs.Laws.{clash}
-use Rattle.ll.specs.Grammar.{Sym, nt}
-use Rattle.ll.specs.Actions.{End, read, bad, stopped, spent}
+use Rattle.grammars.specs.Grammar.{Sym, nt}
+use Rattle.grammars.specs.Actions.{End, read, bad, stopped, spent}
 use Rattle.forms.specs.Names.{constant, subtype, nameNumber}
 use Rattle.forms.specs.Tree.{Row, State, Refusal, rowsOf}
 use Rattle.forms.specs.Reading.{readingFrom}
@@ -64,7 +64,7 @@ total-pieces [] = refl
 total-pieces (x ∷ []) = refl
 total-pieces (x ∷ (y ∷ l)) = total-joined (closesPiece x || opensPiece y) x (piecesOf (y ∷ l)) ∙ ap suc (total-pieces (y ∷ l))
 
--- the words of a piece, between those before it and those behind it
+-- the words of a piece, between those before it and those after it
 items-split : (before after : List (List ℕ)) (p : List ℕ) → itemWords (before ++ (p ∷ after)) ≡ itemWords before ++ (pieceWords p ++ itemWords after)
 unfolding itemWords
 items-split [] after p = refl

@@ -9,27 +9,25 @@ use borrow.Author.Tests.{eq-eqb, ne-eqb}
 use lib.Dec.{eqb}
 use lib.ListN.{length, getD}
 use lib.Seq.{sets}
-use types.Run.{OneOf}
-use denote.Enum.Declared.{tagOf}
 use Rattle.laws.proofs.Laws.{clash}
-use Rattle.ll.specs.Actions.{End, read, bad, stopped, spent}
-use Rattle.alike.specs.Alike.{sameName}
+use Rattle.grammars.specs.Actions.{End, read, bad, stopped, spent}
+use Rattle.same_names.specs.Alike.{sameName}
 use Rattle.forms.specs.Names.{constant, subtype}
 use Rattle.forms.specs.Tree.{Row, State, Refusal, rowsOf}
 use Rattle.forms.specs.Reading.{readingFrom}
 use Rattle.forms.specs.Items.{IsItem}
 use Rattle.forms.proofs.Items.{reads-items, kinds-alone, fewer-rows}
-use Rattle.tables.specs.Symbols.{symOf}
-use Rattle.tables.specs.Bytes.{encode}
+use Rattle.form_table.specs.Symbols.{symOf}
+use Rattle.form_table.specs.Bytes.{encode}
 use Rattle.pieces.specs.Kinds.{word-constant, word-subtype}
 use Rattle.places.specs.Places.{cellAt, kindsOf}
 use Rattle.places.proofs.Laws.{cell-in, kinds-length}
-use Rattle.tree.specs.declared.Found.{Found}
-use Rattle.tree.specs.declared.Found.the-variants.{Whole}
+use Rattle.refusals.specs.declared.StrictRefusal.{StrictRefusal}
+use Rattle.tree.specs.declared.Answer.{Answer}
+use Rattle.tree.specs.declared.Answer.the-variants.{Tree, Refused}
 use Rattle.tree.specs.Answers.{terminalsIn, terminalsOf, wordsOf}
-use Rattle.tree.specs.Held.{Spans, Starts, Tells}
+use Rattle.tree.specs.code.Held.{Spans, Starts, Tells}
 use Rattle.tree.specs.Items.{unlike, readingBy, readingOfPiece, rowsRead, rowsOfPiece, startOf}
-use Rattle.tree.proofs.Found as declared
 use Rattle.tree.proofs.Lists.{terminals-length}
 use Rattle.tree.proofs.Final.{unread}
 
@@ -112,7 +110,7 @@ module _ (size from : ℕ) (t : List ℕ) (some : 1 ≤ size) (e : from ≡ star
           none (inr (inl x)) = omega arith
           none (inr (inr x)) = omega arith
 
-  module _ (r : Found) (cells next heads : List ℕ) (text : List ℕ) (d : from ≡ 0 → ⊥) (tells : Tells r cells next heads (readingFrom (symOf from) (sameName text t) (terminalsOf size t))) where
+  module _ (r : Answer) (cells next heads : List ℕ) (text : List ℕ) (d : from ≡ 0 → ⊥) (tells : Tells r cells next heads (readingFrom (symOf from) (sameName text t) (terminalsOf size t))) where
     tells-piece : Tells r cells next heads (readingOfPiece (kindsOf size t))
     tells-piece = subst (Tells r cells next heads) (same told-by) tells
       where
@@ -121,31 +119,32 @@ module _ (size from : ℕ) (t : List ℕ) (some : 1 ≤ size) (e : from ≡ star
         same (inr h) = kinds-alone (symOf from) (h .1) (sameName text t) unlike (terminalsOf size t) ∙ h .2 (terminalsOf size t) ∙ is-piece
 
     -- what the rows' writing asks
-    pub piece-asks : (used : ℕ) → r ≡ Whole used
+    pub piece-asks : (used : ℕ) → r ≡ Tree used
         → ((rows : List Row) × (Spans cells next heads used 0 rows × (length rows ≡ used))) × (used ≤ size) × ((i : ℕ) → i ≤ used → getD heads i 0 ≤ used)
     unfolding rowsOfPiece
-    piece-asks used q = go (readingOfPiece (kindsOf size t)) refl (subst (λ (x : Found). Tells x cells next heads (readingOfPiece (kindsOf size t))) q tells-piece)
+    piece-asks used q = go (readingOfPiece (kindsOf size t)) refl (subst (λ (x : Answer). Tells x cells next heads (readingOfPiece (kindsOf size t))) q tells-piece)
       where
-        go : (o : End State Refusal) → readingOfPiece (kindsOf size t) ≡ o → Tells (Whole used) cells next heads o
+        go : (o : End State Refusal) → readingOfPiece (kindsOf size t) ≡ o → Tells (Tree used) cells next heads o
             → ((rows : List Row) × (Spans cells next heads used 0 rows × (length rows ≡ used))) × (used ≤ size) × ((i : ℕ) → i ≤ used → getD heads i 0 ≤ used)
         go (read s) f h = ((rowsOf s, (h .0, h .1)), omega (arith, h .1, few (kindsOf size t) (read s) f, kinds-length size t), h .3)
         go (bad j) f h = absurd h
         go (stopped j x) f h = absurd h
         go spent f h = absurd h
 
-    pub piece-written : (used : ℕ) (rows rows′ : List ℕ) → r ≡ Whole used → ((l : List Row) → Spans cells next heads used 0 l → rows′ ≡ sets rows 0 (wordsOf l))
+    pub piece-written : (used : ℕ) (rows rows′ : List ℕ) → r ≡ Tree used → ((l : List Row) → Spans cells next heads used 0 l → rows′ ≡ sets rows 0 (wordsOf l))
         → rows′ ≡ sets rows 0 (wordsOf (rowsOfPiece (kindsOf size t)))
     unfolding rowsOfPiece
-    piece-written used rows rows′ q w = go (readingOfPiece (kindsOf size t)) (subst (λ (x : Found). Tells x cells next heads (readingOfPiece (kindsOf size t))) q tells-piece)
+    piece-written used rows rows′ q w = go (readingOfPiece (kindsOf size t)) (subst (λ (x : Answer). Tells x cells next heads (readingOfPiece (kindsOf size t))) q tells-piece)
       where
-        go : (o : End State Refusal) → Tells (Whole used) cells next heads o → rows′ ≡ sets rows 0 (wordsOf (rowsRead o))
+        go : (o : End State Refusal) → Tells (Tree used) cells next heads o → rows′ ≡ sets rows 0 (wordsOf (rowsRead o))
         go (read s) h = w (rowsOf s) (h .0)
         go (bad j) h = absurd h
         go (stopped j x) h = absurd h
         go spent h = absurd h
 
     -- no form fits: no rows
-    pub piece-refused : OneOf (1 ∷ 2 ∷ 3 ∷ []) (tagOf declared.the-type r) → (rows : List ℕ) → rows ≡ sets rows 0 (wordsOf (rowsOfPiece (kindsOf size t)))
+    pub piece-refused : (x : StrictRefusal) → r ≡ Refused x → (rows : List ℕ) → rows ≡ sets rows 0 (wordsOf (rowsOfPiece (kindsOf size t)))
     unfolding rowsOfPiece
-    piece-refused k rows =
-        ap (λ (l : List Row). sets rows 0 (wordsOf l)) (sym (unread r cells next heads (readingOfPiece (kindsOf size t)) k tells-piece 0 .2))
+    piece-refused x e rows =
+        let o : End State Refusal = readingOfPiece (kindsOf size t) in
+        ap (λ (l : List Row). sets rows 0 (wordsOf l)) (sym (unread x cells next heads o (subst (λ (y : Answer). Tells y cells next heads o) e tells-piece) 0 .2))

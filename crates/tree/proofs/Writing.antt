@@ -9,7 +9,7 @@ use lib.Seq.{sets}
 use Rattle.forms.specs.Tree.{Row}
 use Rattle.tree.specs.Answers.{wordsOf}
 use Rattle.forms.specs.Words.{rowAt}
-use Rattle.tree.specs.Held.{Linked, none, more, Spans, empty, join}
+use Rattle.tree.specs.code.Held.{Linked, none, more, Spans, empty, join}
 use Rattle.tree.proofs.Holding.{spans-le, spans-one}
 
 -- rest of the list that is being written, and the lists of the bases from `base` on

@@ -1,4 +1,4 @@
--- The rows of the pieces so far, and zeros behind them: the turns of `read_pieces`, in the code's terms. Assumes nothing.
+-- The rows of the pieces so far, and zeros after them: the turns of `read_pieces`, in the code's terms. Assumes nothing.
 use Prim.Native.Nat.{ℕ, zero, suc, _+_, _-_, _*_, _/_, _≤_, _<_, min}
 use mathlib.Core.Path.{_≡_, refl, sym, _∙_, ap, ap₂, subst}
 use mathlib.Core.List.{List, [], _∷_, _++_, append-assoc, append-nil}
@@ -40,7 +40,7 @@ kinds-part n at r t h = sym (ap (take r) (kinds-drop n at t (omega arith)) ∙ k
 part-size : (l : List ℕ) (i k : ℕ) → i + k ≤ length l → k ≤ length (take (length l - i) (drop i l))
 part-size l i k h = rw (part-rest l i) (omega (arith, length-drop i l))
 
--- the words before element `at`, and that the words of the other pieces come behind them
+-- the words before element `at`, and that the words of the other pieces come after them
 pub record Written (n : ℕ) (t rows : List ℕ) (words at : ℕ) : Type 0 where
   pub ready : List ℕ
   pub many : length ready ≡ 5 * at

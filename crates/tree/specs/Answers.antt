@@ -7,13 +7,16 @@ use lib.Dec.{leb}
 use lib.ListN.{length, replicate}
 use Rattle.places.specs.Sizes.{mostElements}
 use Rattle.places.specs.Places.{rowsIn, kindsOf}
-use Rattle.ll.specs.Actions.{End, read, bad, stopped, spent}
-use Rattle.alike.specs.Alike.{sameName}
+use Rattle.grammars.specs.Actions.{End, read, bad, stopped, spent}
+use Rattle.same_names.specs.Alike.{sameName}
 use Rattle.forms.specs.Kinds.{terminalOf}
+use Rattle.forms.specs.Words.{rowNumbers}
 use Rattle.forms.specs.Tree.{Row, State, Refusal, name-differs, too-deep, rowsOf}
 use Rattle.forms.specs.Reading.{readingOf}
 use Rattle.tree.specs.declared.Answer.{Answer}
-use Rattle.tree.specs.declared.Answer.the-variants.{Tree, NoFile, NameDiffers, TooDeep, TableShort}
+use Rattle.tree.specs.declared.Answer.the-variants.{Tree, Refused}
+use Rattle.refusals.specs.declared.StrictRefusal.{StrictRefusal}
+use Rattle.refusals.specs.declared.StrictRefusal.the-variants as refusal
 
 -- how many elements count: no more than the table has, and no more than 8,192 (01, "What the reader covers")
 abbrev pub elementsIn : List ℕ → ℕ → ℕ
@@ -37,18 +40,35 @@ abbrev pub wordsOf : List Row → List ℕ
 wordsOf [] = []
 wordsOf (r ∷ rs) = r .form ∷ r .first ∷ r .count ∷ r .rows ∷ r .operator ∷ wordsOf rs
 
+-- refusals 5, 6 and 7 with their element, and 8 with the rows that the tree table has
+abbrev pub noFile : ℕ → Answer
+noFile k = Refused (refusal.NoFile (record { 0 = k }))
+
+abbrev pub nameDiffers : ℕ → Answer
+nameDiffers k = Refused (refusal.NameDiffers (record { 0 = k }))
+
+abbrev pub tooDeep : ℕ → Answer
+tooDeep k = Refused (refusal.TooDeep (record { 0 = k }))
+
+abbrev pub tableShort : ℕ → Answer
+tableShort rows = Refused (refusal.TreeShort rows)
+
+-- an action that stops when k elements were read: refusal 6 or 7, at the last of them
+abbrev pub stoppedAt : ℕ → Refusal → StrictRefusal
+stoppedAt k name-differs = refusal.NameDiffers (record { 0 = k - 1 })
+stoppedAt k too-deep = refusal.TooDeep (record { 0 = k - 1 })
+
 -- the answer, if the tree table has room for `room` words
 abbrev pub answerOf : ℕ → End State Refusal → Answer
-answerOf room (read s) = cond (leb (5 * length (rowsOf s)) room) (Tree (length (rowsOf s))) (TableShort (room / 5))
-answerOf room (bad k) = NoFile k
-answerOf room (stopped k name-differs) = NameDiffers (k - 1)
-answerOf room (stopped k too-deep) = TooDeep (k - 1)
-answerOf room spent = NoFile 0
+answerOf room (read s) = cond (leb (rowNumbers * length (rowsOf s)) room) (Tree (length (rowsOf s))) (tableShort (room / rowNumbers))
+answerOf room (bad k) = noFile k
+answerOf room (stopped k x) = Refused (stoppedAt k x)
+answerOf room spent = noFile 0
 
 -- the tree table afterwards: the rows and then zeros; on a refusal zeros
 abbrev pub tableOf : ℕ → End State Refusal → List ℕ
 tableOf room (read s) =
-    cond (leb (5 * length (rowsOf s)) room) (wordsOf (rowsOf s) ++ replicate (room - 5 * length (rowsOf s)) 0) (replicate room 0)
+    cond (leb (rowNumbers * length (rowsOf s)) room) (wordsOf (rowsOf s) ++ replicate (room - rowNumbers * length (rowsOf s)) 0) (replicate room 0)
 tableOf room (bad k) = replicate room 0
 tableOf room (stopped k r) = replicate room 0
 tableOf room spent = replicate room 0

@@ -6,11 +6,12 @@ use mathlib.Core.List.{List, [], _∷_, _++_}
 use lib.Dec.{eqb}
 use lib.ListN.{length, getD, replicate}
 use Rattle.places.specs.Sizes.{mostElements}
-use Rattle.ll.specs.Actions.{End, read, bad, stopped, spent}
+use Rattle.grammars.specs.Actions.{End, read, bad, stopped, spent}
 use Rattle.forms.specs.Names.{constant, subtype}
+use Rattle.forms.specs.Words.{rowNumbers}
 use Rattle.forms.specs.Tree.{Row, State, Refusal, rowsOf}
 use Rattle.forms.specs.Reading.{readingFrom}
-use Rattle.tables.specs.Bytes.{encode}
+use Rattle.form_table.specs.Bytes.{encode}
 use Rattle.pieces.specs.Kinds.{word-constant, word-subtype, piecesOf}
 use Rattle.places.specs.Places.{rowsIn, kindsOf}
 use Rattle.tree.specs.Answers.{terminalsIn, wordsOf}
@@ -38,9 +39,9 @@ rowsRead spent = []
 unfoldable pub rowsOfPiece : List ℕ → List Row
 rowsOfPiece p = rowsRead (readingOfPiece p)
 
--- five words to each element of a piece: its rows, and zeros behind them
+-- five words to each element of a piece: its rows, and zeros after them
 unfoldable pub pieceWords : List ℕ → List ℕ
-pieceWords p = wordsOf (rowsOfPiece p) ++ replicate (5 * length p - 5 * length (rowsOfPiece p)) 0
+pieceWords p = wordsOf (rowsOfPiece p) ++ replicate (rowNumbers * length p - rowNumbers * length (rowsOfPiece p)) 0
 
 -- the pieces' words one after the other
 unfoldable pub itemWords : List (List ℕ) → List ℕ
@@ -49,11 +50,11 @@ itemWords (p ∷ ps) = pieceWords p ++ itemWords ps
 
 -- how many elements count: no more than either table has, and no more than 8,192
 abbrev pub itemsIn : List ℕ → ℕ → ℕ → ℕ
-itemsIn table count words = min count (min (rowsIn table) (min (words / 5) mostElements))
+itemsIn table count words = min count (min (rowsIn table) (min (words / rowNumbers) mostElements))
 
 -- the row table of so many words afterwards
 unfoldable pub itemRows : List ℕ → ℕ → ℕ → List ℕ
-itemRows table count words = itemWords (piecesOf (kindsOf (itemsIn table count words) table)) ++ replicate (words - 5 * itemsIn table count words) 0
+itemRows table count words = itemWords (piecesOf (kindsOf (itemsIn table count words) table)) ++ replicate (words - rowNumbers * itemsIn table count words) 0
 
 -- the code of the symbol from which a piece is read that begins with kind k, 0 where it is not read
 abbrev pub startOf : ℕ → ℕ

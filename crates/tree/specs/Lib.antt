@@ -1,3 +1,3 @@
+pub mod code
 pub mod Answers
-pub mod Held
 pub mod Items

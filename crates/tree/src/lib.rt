@@ -2,31 +2,35 @@
 // they are kept in the order of completion, in a list to each base, and written out at the end, so that a text costs by its elements. The
 // table and the arrays are made once, in `read_tree` and `read_items`, and lent: made anew at each use, or for each piece of a package,
 // they would cost more than all else.
+use form_table::KINDS;
+use form_table::NAMES;
+use places::ElementNumber;
 use places::MOST_ELEMENTS;
-use tables::KINDS;
-use tables::NAMES;
+use refusals::StrictRefusal;
 ghost use mathlib.Core.Path.{_≡_};
 ghost use mathlib.Core.List.{List, [], _∷_, _++_};
 ghost use Prim.Native.Nat.{ℕ, _+_, _-_, _*_, _/_, _≤_, _<_, min};
 ghost use lib.ListN.{length, drop, getD, set, replicate};
 ghost use lib.Seq.{sets};
 ghost use Rattle.places.specs.Sizes.{mostElements};
-ghost use Rattle.ll.specs.Grammar.{look};
+ghost use Rattle.grammars.specs.Grammar.{look};
 ghost use Rattle.forms.specs.Kinds.{kindCount};
 ghost use Rattle.forms.specs.Names.{nameCount};
 ghost use Rattle.forms.specs.Rules.{body, forms as grammar};
 ghost use Rattle.forms.specs.code.Picks.{predict};
-ghost use Rattle.forms.specs.Tree.{State, Row, isNamed, does};
+ghost use Rattle.forms.specs.Words.{rowNumbers};
+ghost use Rattle.forms.specs.Tree.{State, Row, mostOpen, isNamed, does};
 ghost use Rattle.forms.specs.Reading.{readingFrom};
-ghost use Rattle.alike.specs.Alike.{sameName};
-ghost use Rattle.tables.specs.Symbols.{symOf, syms};
-ghost use Rattle.tables.specs.Bytes.{formBytes};
+ghost use Rattle.same_names.specs.Alike.{sameName};
+ghost use Rattle.form_table.specs.Symbols.{symOf, syms};
+ghost use Rattle.form_table.specs.Bytes.{formBytes};
 ghost use Rattle.tree.specs.declared.Did.the-variants.{Went};
 ghost use Rattle.tree.specs.Answers.{elementsIn, terminalsOf, readingIn, wordsOf, answerOf, tableOf};
 ghost use Rattle.pieces.specs.Kinds.{piecesOf};
 ghost use Rattle.places.specs.Places.{rowWords, kindsOf};
+ghost use Rattle.tree.specs.code.Room.{Room, bottom, stackWords, frameWords, outermost, framesWords, mostRows};
 ghost use Rattle.tree.specs.Items.{startOf, rowsOfPiece, itemWords, itemRows};
-ghost use Rattle.tree.specs.Held.{Held, Spans, Done, Tells, Starts, usedAfter, answerBy};
+ghost use Rattle.tree.specs.code.Held.{Held, Spans, Done, Tells, Starts, usedAfter};
 
 // The stack's words, and the last of them; those of the frames, four to each, and where the outermost stands; and how many rows there may be,
 // of five words each.
@@ -82,13 +86,10 @@ const ROW_OF: u64 = 7;
 // How many may stand open together.
 const MOST_OPEN: usize = 32;
 
-// A tree and its rows; or 01's refusals 5, 6, 7 with their element, and 8 with the rows that the table has.
+// A tree, how many rows it has; or one of 01's refusals 5, 6, 7 and 8.
 pub enum Answer {
     Tree(usize),
-    NoFile(usize),
-    NameDiffers(usize),
-    TooDeep(usize),
-    TableShort(usize),
+    Refused(StrictRefusal),
 }
 
 // Where the frames begin, how many stand open, how many rows there are.
@@ -98,23 +99,23 @@ pub struct Moved {
     pub used: usize,
 }
 
+// What an action did: the machine goes on, or refusal 6 or 7.
 pub enum Did {
     Went(Moved),
-    Differs,
-    Deep,
-}
-
-pub enum Found {
-    Whole(usize),
-    Wrong(usize),
-    Other(usize),
-    Over(usize),
+    Stopped(StrictRefusal),
 }
 
 fn minus(a: u64, b: u64) -> u64
     ensures { λ r. ⌜ r ≡ a - b ⌝ }
 {
     if b <= a { a - b } else { 0 }
+}
+
+// The element just read, when k were read.
+fn last_read(k: u64) -> ElementNumber
+    ensures { λ r. ⌜ r .0 ≡ k - 1 ⌝ }
+{
+    ElementNumber(minus(k, 1) as usize)
 }
 
 fn wide(x: u8) -> u64
@@ -131,8 +132,8 @@ fn next_kind(forms: &[u8], elements: &[u64], count: usize, at: usize) -> u64
     if count <= at {
         return 0;
     }
-    let kind = places::kind_of(elements, at);
-    if kind < tables::ELEMENT_KINDS as u64 {
+    let kind = places::kind_of(elements, ElementNumber(at));
+    if kind < form_table::ELEMENT_KINDS as u64 {
         return wide(forms[kind as usize]);
     }
     OTHER
@@ -144,7 +145,7 @@ fn pick(forms: &[u8], n: usize, t: u64) -> u64
     ensures { λ r. ⌜ r ≡ predict n t ⌝ }
 {
     let j = t as usize;
-    wide(forms[tables::PICKS + n * KINDS + j])
+    wide(forms[form_table::PICKS + n * KINDS + j])
 }
 
 // How many symbols rule p has.
@@ -152,7 +153,7 @@ fn body_len(forms: &[u8], p: usize) -> usize
     requires { ⌜ (now forms ≡ formBytes) × (p < grammar .count) ⌝ }
     ensures { λ r. ⌜ r ≡ length (body p) ⌝ }
 {
-    wide(forms[tables::SIZES + p]) as usize
+    wide(forms[form_table::SIZES + p]) as usize
 }
 
 // Puts rule p's symbols on the stack, which grows downwards.
@@ -164,7 +165,7 @@ fn push(forms: &[u8], stk: &mut [u64], sp: usize, p: usize, m: usize)
     let mut i = m;
     while 0 < i {
         i -= 1;
-        let x = wide(forms[tables::BODIES + p * tables::LINE + i]);
+        let x = wide(forms[form_table::BODIES + p * form_table::LINE + i]);
         stk[base + i] = x;
     }
 }
@@ -182,8 +183,8 @@ fn put_row(
     rows: u64,
     operator: u64,
 )
-    requires { ⌜ (5 * used + 5 ≤ length (now cells)) × (used < length (now next)) × (used + 1 < length (now heads)) × (base ≤ used) ⌝ }
-    ensures { λ _. ⌜ (now (cells .exit) ≡ sets (now (cells .entry)) (5 * used) (form ∷ first ∷ count ∷ rows ∷ operator ∷ [])) × (now (next .exit) ≡ set (now (next .entry)) used (getD (now (heads .entry)) base 0)) × (now (heads .exit) ≡ set (set (now (heads .entry)) base (used + 1)) (used + 1) 0) ⌝ }
+    requires { ⌜ (rowNumbers * used + rowNumbers ≤ length (now cells)) × (used < length (now next)) × (used + 1 < length (now heads)) × (base ≤ used) ⌝ }
+    ensures { λ _. ⌜ (now (cells .exit) ≡ sets (now (cells .entry)) (rowNumbers * used) (form ∷ first ∷ count ∷ rows ∷ operator ∷ [])) × (now (next .exit) ≡ set (now (next .entry)) used (getD (now (heads .entry)) base 0)) × (now (heads .exit) ≡ set (set (now (heads .entry)) base (used + 1)) (used + 1) 0) ⌝ }
 {
     let at = ROW * used;
     cells[at] = form;
@@ -198,8 +199,8 @@ fn put_row(
 
 // A frame more, below the others.
 fn open_frame(k: u64, frames: &mut [u64], fp: usize, used: usize)
-    requires { ⌜ (4 ≤ fp) × (fp ≤ length (now frames)) ⌝ }
-    ensures { λ _. ⌜ now (frames .exit) ≡ set (set (set (set (now (frames .entry)) (fp - 4) k) (fp - 4 + 1) k) (fp - 4 + 2) used) (fp - 4 + 3) 0 ⌝ }
+    requires { ⌜ (frameWords ≤ fp) × (fp ≤ length (now frames)) ⌝ }
+    ensures { λ _. ⌜ now (frames .exit) ≡ set (set (set (set (now (frames .entry)) (fp - frameWords) k) (fp - frameWords + 1) k) (fp - frameWords + 2) used) (fp - frameWords + 3) 0 ⌝ }
 {
     let p = fp - FRAME;
     frames[p] = k;
@@ -210,14 +211,15 @@ fn open_frame(k: u64, frames: &mut [u64], fp: usize, used: usize)
 
 // Whether the element just read is the name of the innermost frame.
 fn is_named(text: &[u8], elements: &[u64], frames: &[u64], fp: usize, k: u64) -> bool
-    requires { ⌜ fp + 4 ≤ length (now frames) ⌝ }
+    requires { ⌜ fp + frameWords ≤ length (now frames) ⌝ }
     ensures { λ r. ⌜ r ≡ isNamed (sameName (now (text .entry)) (now (elements .entry))) (getD (now (frames .entry)) (fp + 3) 0) (k - 1) ⌝ }
 {
     let n = frames[fp + 3];
     if n == 0 {
         return false;
     }
-    alike::same_name(text, elements, (n - 1) as usize, minus(k, 1) as usize)
+    let name = n - 1;
+    same_names::same_name(text, elements, ElementNumber(name as usize), last_read(k))
 }
 
 // The row of a form: what the innermost frame holds.
@@ -231,8 +233,8 @@ fn complete_row(
     fp: usize,
     used: usize,
 )
-    requires { ⌜ (fp + 4 ≤ length (now frames)) × (5 * used + 5 ≤ length (now cells)) × (used < length (now next)) × (used + 1 < length (now heads)) × (getD (now frames) (fp + 2) 0 ≤ used) ⌝ }
-    ensures { λ _. ⌜ (now (cells .exit) ≡ sets (now (cells .entry)) (5 * used) (form ∷ getD (now (frames .entry)) fp 0 ∷ (k - getD (now (frames .entry)) fp 0) ∷ (used - getD (now (frames .entry)) (fp + 2) 0 + 1) ∷ getD (now (frames .entry)) (fp + 1) 0 ∷ [])) × (now (next .exit) ≡ set (now (next .entry)) used (getD (now (heads .entry)) (getD (now (frames .entry)) (fp + 2) 0) 0)) × (now (heads .exit) ≡ set (set (now (heads .entry)) (getD (now (frames .entry)) (fp + 2) 0) (used + 1)) (used + 1) 0) ⌝ }
+    requires { ⌜ (fp + frameWords ≤ length (now frames)) × (rowNumbers * used + rowNumbers ≤ length (now cells)) × (used < length (now next)) × (used + 1 < length (now heads)) × (getD (now frames) (fp + 2) 0 ≤ used) ⌝ }
+    ensures { λ _. ⌜ (now (cells .exit) ≡ sets (now (cells .entry)) (rowNumbers * used) (form ∷ getD (now (frames .entry)) fp 0 ∷ (k - getD (now (frames .entry)) fp 0) ∷ (used - getD (now (frames .entry)) (fp + 2) 0 + 1) ∷ getD (now (frames .entry)) (fp + 1) 0 ∷ [])) × (now (next .exit) ≡ set (now (next .entry)) used (getD (now (heads .entry)) (getD (now (frames .entry)) (fp + 2) 0) 0)) × (now (heads .exit) ≡ set (set (now (heads .entry)) (getD (now (frames .entry)) (fp + 2) 0) (used + 1)) (used + 1) 0) ⌝ }
 {
     let i = frames[fp];
     let o = frames[fp + 1];
@@ -272,8 +274,8 @@ fn do_act(
     depth: usize,
     used: usize,
 ) -> Did
-    requires { ⌜ (4 ≤ fp) × (fp + 4 ≤ length (now frames)) × (5 * used + 5 ≤ length (now cells)) × (used < length (now next)) × (used + 1 < length (now heads)) × (used < 1000000) × (depth ≤ 32) × (getD (now frames) (fp + 2) 0 ≤ used) ⌝ }
-    ensures { λ r. ⌜ ((s : State) → Held (now (frames .entry)) (now (cells .entry)) (now (next .entry)) (now (heads .entry)) fp used (s .frames) → s .depth ≡ depth → Done r (now (frames .exit)) (now (cells .exit)) (now (next .exit)) (now (heads .exit)) (usedAfter a used) (does (sameName (now (text .entry)) (now (elements .entry))) a k s)) ⌝ }
+    requires { ⌜ (frameWords ≤ fp) × (fp + frameWords ≤ length (now frames)) × (rowNumbers * used + rowNumbers ≤ length (now cells)) × (used < length (now next)) × (used + 1 < length (now heads)) × (used < 1000000) × (depth ≤ mostOpen) × (getD (now frames) (fp + 2) 0 ≤ used) ⌝ }
+    ensures { λ r. ⌜ ((s : State) → Held (now (frames .entry)) (now (cells .entry)) (now (next .entry)) (now (heads .entry)) fp used (s .frames) → s .depth ≡ depth → Done r (now (frames .exit)) (now (cells .exit)) (now (next .exit)) (now (heads .exit)) (usedAfter a used) k (does (sameName (now (text .entry)) (now (elements .entry))) a k s)) ⌝ }
 {
     if a == OPENS {
         open_frame(k, frames, fp, used);
@@ -297,13 +299,13 @@ fn do_act(
         if is_named(text, elements, frames, fp, k) {
             return went(fp, depth, used);
         }
-        return Did::Differs;
+        return Did::Stopped(StrictRefusal::NameDiffers(last_read(k)));
     }
     if a == DEEPER {
         if depth < MOST_OPEN {
             return went(fp, depth + 1, used);
         }
-        return Did::Deep;
+        return Did::Stopped(StrictRefusal::TooDeep(last_read(k)));
     }
     if a == SHALLOWER {
         return went(fp, minus(depth as u64, 1) as usize, used);
@@ -314,8 +316,8 @@ fn do_act(
 
 // The machine before its first turn: the symbol at which it starts, the outermost frame, no rows.
 fn begin(from: u64, stk: &mut [u64], frames: &mut [u64], heads: &mut [u64])
-    requires { ⌜ (length (now stk) ≡ 2176) × (length (now frames) ≡ 8708) × (length (now heads) ≡ 10368) ⌝ }
-    ensures { λ _. ⌜ (syms (drop 2175 (now (stk .exit))) ≡ symOf from ∷ []) × (drop 8704 (now (frames .exit)) ≡ 0 ∷ 0 ∷ 0 ∷ 0 ∷ []) × (getD (now (heads .exit)) 0 0 ≡ 0) ⌝ }
+    requires { ⌜ (length (now stk) ≡ stackWords) × (length (now frames) ≡ framesWords) × (length (now heads) ≡ mostRows) ⌝ }
+    ensures { λ _. ⌜ (syms (drop bottom (now (stk .exit))) ≡ symOf from ∷ []) × (drop outermost (now (frames .exit)) ≡ 0 ∷ 0 ∷ 0 ∷ 0 ∷ []) × (getD (now (heads .exit)) 0 0 ≡ 0) ⌝ }
 {
     stk[BOTTOM] = from;
     frames[OUTERMOST] = 0;
@@ -337,8 +339,8 @@ fn scan(
     next: &mut [u64],
     heads: &mut [u64],
     forms: &[u8],
-) -> Found
-    requires { ⌜ (rowWords * count ≤ length (now elements)) × (count ≤ mostElements) × Starts from × (length (now stk) ≡ 2176) × (length (now frames) ≡ 8708) × (length (now cells) ≡ 51840) × (length (now next) ≡ 10368) × (length (now heads) ≡ 10368) × (now forms ≡ formBytes) ⌝ }
+) -> Answer
+    requires { ⌜ (rowWords * count ≤ length (now elements)) × (count ≤ mostElements) × Starts from × Room (now stk) (now frames) (now cells) (now next) (now heads) × (now forms ≡ formBytes) ⌝ }
     ensures { λ r. ⌜ Tells r (now (cells .exit)) (now (next .exit)) (now (heads .exit)) (readingFrom (symOf from) (sameName (now (text .entry)) (now (elements .entry))) (terminalsOf count (now (elements .entry)))) ⌝ }
 {
     begin(from, stk, frames, heads);
@@ -351,11 +353,11 @@ fn scan(
         let top = stk[sp];
         if top < FIRST_NAME {
             if count <= at {
-                return Found::Wrong(at);
+                return Answer::Refused(StrictRefusal::NoFile(ElementNumber(at)));
             }
             let t = next_kind(forms, elements, count, at);
             if top != t {
-                return Found::Wrong(at);
+                return Answer::Refused(StrictRefusal::NoFile(ElementNumber(at)));
             }
             sp += 1;
             at += 1;
@@ -363,7 +365,7 @@ fn scan(
             let t = next_kind(forms, elements, count, at);
             let q = pick(forms, (top - FIRST_NAME) as usize, t);
             if q == 0 {
-                return Found::Wrong(at);
+                return Answer::Refused(StrictRefusal::NoFile(ElementNumber(at)));
             }
             let p = (q - 1) as usize;
             let m = body_len(forms, p);
@@ -390,24 +392,21 @@ fn scan(
                     used = w.used;
                     sp += 1;
                 }
-                Did::Differs => {
-                    return Found::Other(minus(at as u64, 1) as usize);
-                }
-                Did::Deep => {
-                    return Found::Over(minus(at as u64, 1) as usize);
+                Did::Stopped(refusal) => {
+                    return Answer::Refused(refusal);
                 }
             }
         }
     }
     if at < count {
-        return Found::Wrong(at);
+        return Answer::Refused(StrictRefusal::NoFile(ElementNumber(at)));
     }
-    Found::Whole(used)
+    Answer::Tree(used)
 }
 
 // The rows in order: the list of each base, from the first base on.
 fn write_out(cells: &[u64], next: &[u64], heads: &[u64], used: usize, tab: &mut [u64])
-    requires { ⌜ ((rows : List Row) × (Spans (now cells) (now next) (now heads) used 0 rows × (length rows ≡ used))) × (5 * used ≤ length (now tab)) × (5 * used ≤ length (now cells)) × (used ≤ length (now next)) × (used ≤ length (now heads)) × (used ≤ mostElements) × ((i : ℕ) → i ≤ used → getD (now heads) i 0 ≤ used) ⌝ }
+    requires { ⌜ ((rows : List Row) × (Spans (now cells) (now next) (now heads) used 0 rows × (length rows ≡ used))) × (rowNumbers * used ≤ length (now tab)) × (rowNumbers * used ≤ length (now cells)) × (used ≤ length (now next)) × (used ≤ length (now heads)) × (used ≤ mostElements) × ((i : ℕ) → i ≤ used → getD (now heads) i 0 ≤ used) ⌝ }
     ensures { λ _. ⌜ ((rows : List Row) → Spans (now (cells .entry)) (now (next .entry)) (now (heads .entry)) used 0 rows → now (tab .exit) ≡ sets (now (tab .entry)) 0 (wordsOf rows)) ⌝ }
 {
     let mut base: usize = 0;
@@ -435,19 +434,7 @@ fn write_out(cells: &[u64], next: &[u64], heads: &[u64], used: usize, tab: &mut 
 fn least(a: usize, b: usize, c: usize) -> usize
     ensures { λ r. ⌜ r ≡ min a (min b c) ⌝ }
 {
-    lent::least(a, lent::least(b, c))
-}
-
-// What the scan found, as an answer.
-fn answered(found: Found) -> Answer
-    ensures { λ r. ⌜ r ≡ answerBy found ⌝ }
-{
-    match found {
-        Found::Whole(used) => Answer::Tree(used),
-        Found::Wrong(k) => Answer::NoFile(k),
-        Found::Other(k) => Answer::NameDiffers(k),
-        Found::Over(k) => Answer::TooDeep(k),
-    }
+    lent_tables::least(a, lent_tables::least(b, c))
 }
 
 // Elements to a tree: the first count elements, as far as the table has them and 01's sizes go, as a file. The rows go into `tree`, and
@@ -456,14 +443,14 @@ pub fn read_tree(text: &[u8], elements: &[u64], count: usize, tree: &mut [u64]) 
     ensures { λ r. ⌜ r ≡ answerOf (length (now (tree .entry))) (readingIn (now (text .entry)) (now (elements .entry)) (elementsIn (now (elements .entry)) count)) ⌝ }
     ensures { λ _. ⌜ now (tree .exit) ≡ tableOf (length (now (tree .entry))) (readingIn (now (text .entry)) (now (elements .entry)) (elementsIn (now (elements .entry)) count)) ⌝ }
 {
-    lent::clear(tree);
+    lent_tables::clear(tree);
     let n = least(count, elements.len() / places::ROW_WORDS, MOST_ELEMENTS);
     let mut stk = [0u64; STACK];
     let mut frames = [0u64; FRAMES];
     let mut cells = [0u64; ROW * ROWS];
     let mut next = [0u64; ROWS];
     let mut heads = [0u64; ROWS];
-    let forms = tables::forms();
+    let forms = form_table::forms();
     let found = scan(
         FILE,
         text,
@@ -476,12 +463,12 @@ pub fn read_tree(text: &[u8], elements: &[u64], count: usize, tree: &mut [u64]) 
         &mut heads,
         &forms,
     );
-    let Found::Whole(used) = found else {
-        return answered(found);
+    let Answer::Tree(used) = found else {
+        return found;
     };
     let rows = tree.len() / ROW;
     if rows < used {
-        return Answer::TableShort(rows);
+        return Answer::Refused(StrictRefusal::TreeShort(rows));
     }
     write_out(&cells, &next, &heads, used, tree);
     Answer::Tree(used)
@@ -500,7 +487,7 @@ fn start_of(kind: u64) -> u64
     0
 }
 
-// The rows of the piece that the elements begin with, at the front of `rows`. No name is compared, so any bytes do for the text.
+// The rows of the piece that the elements begin with, at the front of `rows`. No name is compared in it, so no text is needed.
 fn read_piece(
     elements: &[u64],
     size: usize,
@@ -512,16 +499,17 @@ fn read_piece(
     forms: &[u8],
     rows: &mut [u64],
 )
-    requires { ⌜ (1 ≤ size) × (rowWords * size ≤ length (now elements)) × (size ≤ mostElements) × (5 * size ≤ length (now rows)) × (length (now stk) ≡ 2176) × (length (now frames) ≡ 8708) × (length (now cells) ≡ 51840) × (length (now next) ≡ 10368) × (length (now heads) ≡ 10368) × (now forms ≡ formBytes) ⌝ }
+    requires { ⌜ (1 ≤ size) × (rowWords * size ≤ length (now elements)) × (size ≤ mostElements) × (rowNumbers * size ≤ length (now rows)) × Room (now stk) (now frames) (now cells) (now next) (now heads) × (now forms ≡ formBytes) ⌝ }
     ensures { λ _. ⌜ now (rows .exit) ≡ sets (now (rows .entry)) 0 (wordsOf (rowsOfPiece (kindsOf size (now (elements .entry))))) ⌝ }
 {
-    let from = start_of(places::kind_of(elements, 0));
+    let from = start_of(places::kind_of(elements, ElementNumber(0)));
     if from == 0 {
         return;
     }
+    let no_text = [0u8; 1];
     let found = scan(
         from,
-        forms,
+        &no_text,
         elements,
         size,
         stk,
@@ -531,7 +519,7 @@ fn read_piece(
         heads,
         forms,
     );
-    let Found::Whole(used) = found else {
+    let Answer::Tree(used) = found else {
         return;
     };
     write_out(cells, next, heads, used, rows);
@@ -549,15 +537,15 @@ fn read_pieces(
     forms: &[u8],
     rows: &mut [u64],
 )
-    requires { ⌜ (rowWords * n ≤ length (now elements)) × (n ≤ mostElements) × (5 * n ≤ length (now rows)) × (now rows ≡ replicate (length (now rows)) 0) × (length (now stk) ≡ 2176) × (length (now frames) ≡ 8708) × (length (now cells) ≡ 51840) × (length (now next) ≡ 10368) × (length (now heads) ≡ 10368) × (now forms ≡ formBytes) ⌝ }
-    ensures { λ _. ⌜ now (rows .exit) ≡ itemWords (piecesOf (kindsOf n (now (elements .entry)))) ++ replicate (length (now (rows .entry)) - 5 * n) 0 ⌝ }
+    requires { ⌜ (rowWords * n ≤ length (now elements)) × (n ≤ mostElements) × (rowNumbers * n ≤ length (now rows)) × (now rows ≡ replicate (length (now rows)) 0) × Room (now stk) (now frames) (now cells) (now next) (now heads) × (now forms ≡ formBytes) ⌝ }
+    ensures { λ _. ⌜ now (rows .exit) ≡ itemWords (piecesOf (kindsOf n (now (elements .entry)))) ++ replicate (length (now (rows .entry)) - rowNumbers * n) 0 ⌝ }
 {
     let mut at: usize = 0;
     while at < n {
         let size = pieces::piece_size(elements, n, at);
         let row = ROW * at;
         read_piece(
-            places::rows_from(elements, at),
+            places::rows_from(elements, ElementNumber(at)),
             size,
             stk,
             frames,
@@ -571,12 +559,12 @@ fn read_pieces(
     }
 }
 
-// The rows of each constant and subtype of a package, by the forms: those of a piece from its first element's row on, and zeros behind
+// The rows of each constant and subtype of a package, by the forms: those of a piece from its first element's row on, and zeros after
 // them; zeros for any other piece and for one that no form fits.
 pub fn read_items(elements: &[u64], count: usize, rows: &mut [u64])
     ensures { λ _. ⌜ now (rows .exit) ≡ itemRows (now (elements .entry)) count (length (now (rows .entry))) ⌝ }
 {
-    lent::clear(rows);
+    lent_tables::clear(rows);
     let n = least(
         count,
         elements.len() / places::ROW_WORDS,
@@ -587,7 +575,7 @@ pub fn read_items(elements: &[u64], count: usize, rows: &mut [u64])
     let mut cells = [0u64; ROW * ROWS];
     let mut next = [0u64; ROWS];
     let mut heads = [0u64; ROWS];
-    let forms = tables::forms();
+    let forms = form_table::forms();
     read_pieces(
         elements,
         n,

@@ -9,8 +9,8 @@ use native.Mathlib.Nat.{lt-of-not-le, eq-or-lt-of-le}
 use native.Mathlib.Omega.{arith}
 use lib.ListN.{length, drop, take-append-drop, List·getD-eq-default}
 use Rattle.laws.proofs.Laws.{clash}
-use Rattle.ll.specs.Actions.{End, read, bad, stopped, spent}
-use Rattle.ll.proofs.Acting as acting
+use Rattle.grammars.specs.Actions.{End, read, bad, stopped, spent}
+use Rattle.grammars.proofs.Acting as acting
 use Rattle.forms.specs.Rules.{forms}
 use Rattle.forms.specs.code.Picks.{predict}
 use Rattle.forms.specs.Tree.{Row, State, Refusal, name-differs, too-deep, does, IsFile, Reading, rowsOf}
@@ -20,8 +20,8 @@ use Rattle.forms.specs.Closing.{Name, named, closesAt, closedBy, walkOver, unwa
 use Rattle.forms.proofs.Meaning as meaning
 use Rattle.forms.proofs.Opening as opening
 use Rattle.forms.proofs.Closing as closing
-use Rattle.only.specs.Trees.{HasTree}
-use Rattle.only.proofs.Only.{file-tree, files-have-trees, begin-alike, trees-are-read}
+use Rattle.one_tree.specs.Trees.{HasTree}
+use Rattle.one_tree.proofs.Only.{file-tree, files-have-trees, begin-alike, trees-are-read}
 use Rattle.tree_promises.specs.Due.{NoFileDue, IsFileOf, NameDue, DepthDue, SomeDue, NoneBefore, NoFileFirst, NameFirst, DepthFirst}
 
 true-false : {A : Type 0} (b : Bool) → b ≡ true → b ≡ false → A
@@ -35,7 +35,7 @@ closes-inside w k name q =
     let z : _≡_ {A = ℕ} 0 1 = cc in
     omega arith)
 
--- past the last element as many stand open as behind it
+-- past the last element as many stand open as after it
 open-past : (p d : ℕ) (w : List ℕ) (k : ℕ) → length w ≤ k → openFrom p d w (suc k) ≡ openFrom p d w k
 unfolding openFrom
 open-past p d [] zero l = refl

@@ -8,8 +8,8 @@ use lib.Dec.{leb}
 use lib.ListN.{length, replicate}
 use borrow.Author.Tests.{le-leb, lt-leb, leb-true, leb-false}
 use Rattle.laws.proofs.Laws.{clash}
-use Rattle.ll.specs.Actions.{End, read, bad, stopped, spent}
-use Rattle.alike.specs.Alike.{sameName}
+use Rattle.grammars.specs.Actions.{End, read, bad, stopped, spent}
+use Rattle.same_names.specs.Alike.{sameName}
 use Rattle.forms.specs.Tree.{State, Refusal, name-differs, too-deep, rowsOf}
 use Rattle.forms.specs.Forest.{Tiled}
 use Rattle.forms.specs.Owners.{LeavesAre}
@@ -23,8 +23,11 @@ use Rattle.forms.proofs.Closing as closing
 use Rattle.forms.proofs.Tiling.{rows-tiled}
 use Rattle.forms.proofs.Leaves.{leaves-are}
 use Rattle.forms.proofs.Labels.{labels-lead}
-use Rattle.tree.specs.Answers.{readingIn, wordsOf, answerOf, tableOf}
-use Rattle.tree.specs.declared.Answer.the-variants.{Tree, NoFile, NameDiffers, TooDeep, TableShort}
+use Rattle.tree.specs.Answers.{readingIn, wordsOf, answerOf, tableOf, noFile, nameDiffers, tooDeep, tableShort}
+use Rattle.refusals.specs.Refusals.{strictPlace}
+use Rattle.refusals.specs.declared.StrictRefusal.the-variants as refusal
+use Rattle.tree.specs.declared.Answer.{Answer}
+use Rattle.tree.specs.declared.Answer.the-variants.{Tree, Refused}
 use Rattle.tree.proofs.Lists.{terminals-size}
 use Rattle.tree_promises.specs.Promises.{Elements, Answered, Accepts, HasRows, OneTree, NoFileExactly, NameDiffersExactly, TooDeepExactly, FileExactly, IsShort, ZerosElse, RowsNest, LeavesInOrder, OperatorColumn, RowsFitLines, EachLabelLeads}
 use Rattle.tree_promises.proofs.Exactly as exactly
@@ -33,7 +36,7 @@ use Rattle.tree_promises.proofs.Exactly as exactly
 tree-end : (room rows : ℕ) (o : End State Refusal) → answerOf room o ≡ Tree rows → (s : State) × ((o ≡ read s) × (length (rowsOf s) ≡ rows) × (5 * rows ≤ room))
 tree-end room rows (read s) e = go (leb (5 * length (rowsOf s)) room) refl e
   where
-    go : (b : Bool) → leb (5 * length (rowsOf s)) room ≡ b → cond b (Tree (length (rowsOf s))) (TableShort (room / 5)) ≡ Tree rows
+    go : (b : Bool) → leb (5 * length (rowsOf s)) room ≡ b → cond b (Tree (length (rowsOf s))) (tableShort (room / 5)) ≡ Tree rows
         → (t : State) × ((_≡_ {A = End State Refusal} (read s) (read t)) × (length (rowsOf t) ≡ rows) × (5 * rows ≤ room))
     go true q e = let z : length (rowsOf s) ≡ rows = cc in (s, (refl, z, omega (arith, leb-true (5 * length (rowsOf s)) room q)))
     go false q e = let z : _≡_ {A = ℕ} 0 1 = cc in clash z
@@ -43,7 +46,33 @@ tree-end room rows (stopped k too-deep) e = let z : _≡_ {A = ℕ} 0 1 = cc in 
 tree-end room rows spent e = let z : _≡_ {A = ℕ} 0 1 = cc in clash z
 
 answer-read : (room : ℕ) (s : State) → 5 * length (rowsOf s) ≤ room → answerOf room (read s) ≡ Tree (length (rowsOf s))
-answer-read room s l = ap (λ (b : Bool). cond b (Tree (length (rowsOf s))) (TableShort (room / 5))) (le-leb (5 * length (rowsOf s)) room l)
+answer-read room s l = ap (λ (b : Bool). cond b (Tree (length (rowsOf s))) (tableShort (room / 5))) (le-leb (5 * length (rowsOf s)) room l)
+
+-- the place of a refusal, and the rows of a tree
+abbrev placed : Answer → ℕ
+placed (Tree rows) = rows
+placed (Refused r) = strictPlace r
+
+-- refusals 1 to 4 are none of the tree's
+abbrev pub elsewhere : Answer → ℕ
+elsewhere (Tree rows) = 0
+elsewhere (Refused (refusal.Elements r)) = 1
+elsewhere (Refused (refusal.Unreadable e)) = 1
+elsewhere (Refused (refusal.NoFile e)) = 0
+elsewhere (Refused (refusal.NameDiffers e)) = 0
+elsewhere (Refused (refusal.TooDeep e)) = 0
+elsewhere (Refused (refusal.TreeShort rows)) = 0
+
+pub none-elsewhere : (room : ℕ) (o : End State Refusal) → elsewhere (answerOf room o) ≡ 0
+none-elsewhere room (read s) = go (leb (5 * length (rowsOf s)) room)
+  where
+    go : (b : Bool) → elsewhere (cond b (Tree (length (rowsOf s))) (tableShort (room / 5))) ≡ 0
+    go true = refl
+    go false = refl
+none-elsewhere room (bad k) = refl
+none-elsewhere room (stopped k name-differs) = refl
+none-elsewhere room (stopped k too-deep) = refl
+none-elsewhere room spent = refl
 
 pub accepts : Accepts
 accepts text table n room rows = (
@@ -65,41 +94,41 @@ has-rows text table n room s f l =
 pub one-tree : OneTree
 one-tree text table n s t p q = meaning.one-reading (sameName text table) (Elements table n) s t p q
 
-wrong-end : (room k : ℕ) (o : End State Refusal) → (o ≡ spent → ⊥) → answerOf room o ≡ NoFile k → o ≡ bad k
+wrong-end : (room k : ℕ) (o : End State Refusal) → (o ≡ spent → ⊥) → answerOf room o ≡ noFile k → o ≡ bad k
 wrong-end room k (read s) d e = go (leb (5 * length (rowsOf s)) room) e
   where
-    go : (b : Bool) → cond b (Tree (length (rowsOf s))) (TableShort (room / 5)) ≡ NoFile k → _≡_ {A = End State Refusal} (read s) (bad k)
+    go : (b : Bool) → cond b (Tree (length (rowsOf s))) (tableShort (room / 5)) ≡ noFile k → _≡_ {A = End State Refusal} (read s) (bad k)
     go true e = let z : _≡_ {A = ℕ} 0 1 = cc in clash z
     go false e = let z : _≡_ {A = ℕ} 0 1 = cc in clash z
-wrong-end room k (bad j) d e = let z : j ≡ k = cc in ap bad z
+wrong-end room k (bad j) d e = ap bad (ap placed e)
 wrong-end room k (stopped j name-differs) d e = let z : _≡_ {A = ℕ} 0 1 = cc in clash z
 wrong-end room k (stopped j too-deep) d e = let z : _≡_ {A = ℕ} 0 1 = cc in clash z
 wrong-end room k spent d e = absurd (d refl)
 
-deep-end : (room k : ℕ) (o : End State Refusal) → answerOf room o ≡ TooDeep k → (j : ℕ) × ((o ≡ stopped j too-deep) × (k ≡ j - 1))
+deep-end : (room k : ℕ) (o : End State Refusal) → answerOf room o ≡ tooDeep k → (j : ℕ) × ((o ≡ stopped j too-deep) × (k ≡ j - 1))
 deep-end room k (read s) e = go (leb (5 * length (rowsOf s)) room) e
   where
-    go : (b : Bool) → cond b (Tree (length (rowsOf s))) (TableShort (room / 5)) ≡ TooDeep k → (j : ℕ) × ((_≡_ {A = End State Refusal} (read s) (stopped j too-deep)) × (k ≡ j - 1))
+    go : (b : Bool) → cond b (Tree (length (rowsOf s))) (tableShort (room / 5)) ≡ tooDeep k → (j : ℕ) × ((_≡_ {A = End State Refusal} (read s) (stopped j too-deep)) × (k ≡ j - 1))
     go true e = let z : _≡_ {A = ℕ} 0 1 = cc in clash z
     go false e = let z : _≡_ {A = ℕ} 0 1 = cc in clash z
 deep-end room k (bad j) e = let z : _≡_ {A = ℕ} 0 1 = cc in clash z
 deep-end room k (stopped j name-differs) e = let z : _≡_ {A = ℕ} 0 1 = cc in clash z
-deep-end room k (stopped j too-deep) e = let z : k ≡ j - 1 = cc in (j, (refl, z))
+deep-end room k (stopped j too-deep) e = (j, (refl, sym (ap placed e)))
 deep-end room k spent e = let z : _≡_ {A = ℕ} 0 1 = cc in clash z
 
-name-end : (room k : ℕ) (o : End State Refusal) → answerOf room o ≡ NameDiffers k → (j : ℕ) × ((o ≡ stopped j name-differs) × (k ≡ j - 1))
+name-end : (room k : ℕ) (o : End State Refusal) → answerOf room o ≡ nameDiffers k → (j : ℕ) × ((o ≡ stopped j name-differs) × (k ≡ j - 1))
 name-end room k (read s) e = go (leb (5 * length (rowsOf s)) room) e
   where
-    go : (b : Bool) → cond b (Tree (length (rowsOf s))) (TableShort (room / 5)) ≡ NameDiffers k → (j : ℕ) × ((_≡_ {A = End State Refusal} (read s) (stopped j name-differs)) × (k ≡ j - 1))
+    go : (b : Bool) → cond b (Tree (length (rowsOf s))) (tableShort (room / 5)) ≡ nameDiffers k → (j : ℕ) × ((_≡_ {A = End State Refusal} (read s) (stopped j name-differs)) × (k ≡ j - 1))
     go true e = let z : _≡_ {A = ℕ} 0 1 = cc in clash z
     go false e = let z : _≡_ {A = ℕ} 0 1 = cc in clash z
 name-end room k (bad j) e = let z : _≡_ {A = ℕ} 0 1 = cc in clash z
-name-end room k (stopped j name-differs) e = let z : k ≡ j - 1 = cc in (j, (refl, z))
+name-end room k (stopped j name-differs) e = (j, (refl, sym (ap placed e)))
 name-end room k (stopped j too-deep) e = let z : _≡_ {A = ℕ} 0 1 = cc in clash z
 name-end room k spent e = let z : _≡_ {A = ℕ} 0 1 = cc in clash z
 
 -- the reading that is answered by refusal 6, and by refusal 7: the element at the place is the last that was read
-name-reading : (text table : List ℕ) (n room k : ℕ) → Answered text table n room ≡ NameDiffers k → readingIn text table n ≡ stopped (suc k) name-differs
+name-reading : (text table : List ℕ) (n room k : ℕ) → Answered text table n room ≡ nameDiffers k → readingIn text table n ≡ stopped (suc k) name-differs
 name-reading text table n room k e =
     let t = name-end room k (readingIn text table n) e in
     let r = closing.name-differs-at (sameName text table) (Elements table n) (t .0) (t .1 .0) in
@@ -108,7 +137,7 @@ name-reading text table n room k e =
     let z : t .0 ≡ suc k = omega arith in
     t .1 .0 ∙ ap (λ (j : ℕ). stopped j name-differs) z
 
-deep-reading : (text table : List ℕ) (n room k : ℕ) → Answered text table n room ≡ TooDeep k → readingIn text table n ≡ stopped (suc k) too-deep
+deep-reading : (text table : List ℕ) (n room k : ℕ) → Answered text table n room ≡ tooDeep k → readingIn text table n ≡ stopped (suc k) too-deep
 unfolding openFrom
 deep-reading text table n room k e =
     let t = deep-end room k (readingIn text table n) e in
@@ -129,21 +158,21 @@ pub name-differs-exactly : NameDiffersExactly
 name-differs-exactly text table n room k =
     let x = exactly.name-exactly (sameName text table) (Elements table n) k in
     let z : suc k - 1 ≡ k = omega arith in
-    ((λ e. x .0 (name-reading text table n room k e)), λ f. ap (answerOf room) (x .1 f) ∙ ap NameDiffers z)
+    ((λ e. x .0 (name-reading text table n room k e)), λ f. ap (answerOf room) (x .1 f) ∙ ap nameDiffers z)
 
 pub too-deep-exactly : TooDeepExactly
 too-deep-exactly text table n room k =
     let x = exactly.depth-exactly (sameName text table) (Elements table n) k in
     let z : suc k - 1 ≡ k = omega arith in
-    ((λ e. x .0 (deep-reading text table n room k e)), λ f. ap (answerOf room) (x .1 f) ∙ ap TooDeep z)
+    ((λ e. x .0 (deep-reading text table n room k e)), λ f. ap (answerOf room) (x .1 f) ∙ ap tooDeep z)
 
 pub file-exactly : FileExactly
 file-exactly text table n = exactly.read-exactly (sameName text table) (Elements table n)
 
-short-end : (room k : ℕ) (o : End State Refusal) → answerOf room o ≡ TableShort k → (k ≡ room / 5) × ((s : State) × ((o ≡ read s) × (room < 5 * length (rowsOf s))))
+short-end : (room k : ℕ) (o : End State Refusal) → answerOf room o ≡ tableShort k → (k ≡ room / 5) × ((s : State) × ((o ≡ read s) × (room < 5 * length (rowsOf s))))
 short-end room k (read s) e = go (leb (5 * length (rowsOf s)) room) refl e
   where
-    go : (b : Bool) → leb (5 * length (rowsOf s)) room ≡ b → cond b (Tree (length (rowsOf s))) (TableShort (room / 5)) ≡ TableShort k
+    go : (b : Bool) → leb (5 * length (rowsOf s)) room ≡ b → cond b (Tree (length (rowsOf s))) (tableShort (room / 5)) ≡ tableShort k
         → (k ≡ room / 5) × ((t : State) × ((_≡_ {A = End State Refusal} (read s) (read t)) × (room < 5 * length (rowsOf t))))
     go true q e = let z : _≡_ {A = ℕ} 0 1 = cc in clash z
     go false q e = let z : k ≡ room / 5 = cc in (z, (s, (refl, leb-false (5 * length (rowsOf s)) room q)))
@@ -152,8 +181,8 @@ short-end room k (stopped j name-differs) e = let z : _≡_ {A = ℕ} 0 1 = cc i
 short-end room k (stopped j too-deep) e = let z : _≡_ {A = ℕ} 0 1 = cc in clash z
 short-end room k spent e = let z : _≡_ {A = ℕ} 0 1 = cc in clash z
 
-answer-short : (room : ℕ) (s : State) → room < 5 * length (rowsOf s) → answerOf room (read s) ≡ TableShort (room / 5)
-answer-short room s l = ap (λ (b : Bool). cond b (Tree (length (rowsOf s))) (TableShort (room / 5))) (lt-leb (5 * length (rowsOf s)) room l)
+answer-short : (room : ℕ) (s : State) → room < 5 * length (rowsOf s) → answerOf room (read s) ≡ tableShort (room / 5)
+answer-short room s l = ap (λ (b : Bool). cond b (Tree (length (rowsOf s))) (tableShort (room / 5))) (lt-leb (5 * length (rowsOf s)) room l)
 
 pub is-short : IsShort
 is-short text table n room k = (
@@ -165,13 +194,13 @@ is-short text table n room k = (
       let s = f .1 .0 in
       let r : readingIn text table n ≡ read s = meaning.reads-files (sameName text table) (Elements table n) s .1 (f .1 .1 .0) in
       let l = f .1 .1 .1 in
-      ap (answerOf room) r ∙ answer-short room s (omega arith) ∙ ap TableShort (sym (f .0)),
+      ap (answerOf room) r ∙ answer-short room s (omega arith) ∙ ap tableShort (sym (f .0)),
 )
 
 zeros-end : (room : ℕ) (o : End State Refusal) → ((rows : ℕ) → answerOf room o ≡ Tree rows → ⊥) → tableOf room o ≡ replicate room 0
 zeros-end room (read s) d = go (leb (5 * length (rowsOf s)) room) d
   where
-    go : (b : Bool) → ((rows : ℕ) → cond b (Tree (length (rowsOf s))) (TableShort (room / 5)) ≡ Tree rows → ⊥)
+    go : (b : Bool) → ((rows : ℕ) → cond b (Tree (length (rowsOf s))) (tableShort (room / 5)) ≡ Tree rows → ⊥)
         → cond b (wordsOf (rowsOf s) ++ replicate (room - 5 * length (rowsOf s)) 0) (replicate room 0) ≡ replicate room 0
     go true d = absurd (d (length (rowsOf s)) refl)
     go false d = refl

@@ -5,16 +5,17 @@ use mathlib.Core.Path.{_≡_}
 use mathlib.Core.Logic.{_↔_}
 use mathlib.Core.List.{List, _++_}
 use lib.ListN.{length, replicate}
-use Rattle.alike.specs.Alike.{sameName}
+use Rattle.same_names.specs.Alike.{sameName}
+use Rattle.forms.specs.Words.{rowNumbers}
 use Rattle.forms.specs.Tree.{State, rowsOf, Reading}
 use Rattle.forms.specs.Forest.{Tiled}
 use Rattle.forms.specs.Operators.{OperatorsRight}
 use Rattle.forms.specs.Lines.{TreeFits}
 use Rattle.forms.specs.Owners.{AllOwned, OwnedOnce, LeavesAre}
 use Rattle.forms.specs.Labels.{LabelsLead}
-use Rattle.tree.specs.Answers.{terminalsOf, readingIn, wordsOf, answerOf, tableOf}
+use Rattle.tree.specs.Answers.{terminalsOf, readingIn, wordsOf, answerOf, tableOf, noFile, nameDiffers, tooDeep, tableShort}
 use Rattle.tree.specs.declared.Answer.{Answer}
-use Rattle.tree.specs.declared.Answer.the-variants.{Tree, NoFile, NameDiffers, TooDeep, TableShort}
+use Rattle.tree.specs.declared.Answer.the-variants.{Tree}
 use Rattle.tree_promises.specs.Due.{SomeDue, NoFileFirst, NameFirst, DepthFirst}
 
 -- what the first n elements are to the forms
@@ -36,13 +37,13 @@ Left text table n room = tableOf room (readingIn text table n)
 abbrev pub Accepts : Type 0
 Accepts =
     (text table : List ℕ) (n room rows : ℕ)
-    → (Answered text table n room ≡ Tree rows) ↔ ((s : State) × (File text table n s × (length (rowsOf s) ≡ rows) × (5 * rows ≤ room)))
+    → (Answered text table n room ≡ Tree rows) ↔ ((s : State) × (File text table n s × (length (rowsOf s) ≡ rows) × (rowNumbers * rows ≤ room)))
 
 -- The table then has the file's rows, parent first, and zeros.
 abbrev pub HasRows : Type 0
 HasRows =
-    (text table : List ℕ) (n room : ℕ) (s : State) → File text table n s → 5 * length (rowsOf s) ≤ room
-    → Left text table n room ≡ wordsOf (rowsOf s) ++ replicate (room - 5 * length (rowsOf s)) 0
+    (text table : List ℕ) (n room : ℕ) (s : State) → File text table n s → rowNumbers * length (rowsOf s) ≤ room
+    → Left text table n room ≡ wordsOf (rowsOf s) ++ replicate (room - rowNumbers * length (rowsOf s)) 0
 
 -- There is one tree: two readings of the same elements give the same.
 abbrev pub OneTree : Type 0
@@ -51,13 +52,13 @@ OneTree = (text table : List ℕ) (n : ℕ) (s t : State) → File text table n 
 -- Refusals 5, 6 and 7 are answered exactly where 01 says: at the first place at which one of them is due, and of those that are due there
 -- the one that 01's table has first. Due.antt says when each is due, of the elements alone.
 abbrev pub NoFileExactly : Type 0
-NoFileExactly = (text table : List ℕ) (n room k : ℕ) → (Answered text table n room ≡ NoFile k) ↔ NoFileFirst (sameName text table) (Elements table n) k
+NoFileExactly = (text table : List ℕ) (n room k : ℕ) → (Answered text table n room ≡ noFile k) ↔ NoFileFirst (sameName text table) (Elements table n) k
 
 abbrev pub NameDiffersExactly : Type 0
-NameDiffersExactly = (text table : List ℕ) (n room k : ℕ) → (Answered text table n room ≡ NameDiffers k) ↔ NameFirst (sameName text table) (Elements table n) k
+NameDiffersExactly = (text table : List ℕ) (n room k : ℕ) → (Answered text table n room ≡ nameDiffers k) ↔ NameFirst (sameName text table) (Elements table n) k
 
 abbrev pub TooDeepExactly : Type 0
-TooDeepExactly = (text table : List ℕ) (n room k : ℕ) → (Answered text table n room ≡ TooDeep k) ↔ DepthFirst (sameName text table) (Elements table n) k
+TooDeepExactly = (text table : List ℕ) (n room k : ℕ) → (Answered text table n room ≡ tooDeep k) ↔ DepthFirst (sameName text table) (Elements table n) k
 
 -- The elements are a file, with names that agree and never more than 32 open, exactly where none of the three is due at any place.
 abbrev pub FileExactly : Type 0
@@ -69,7 +70,7 @@ FileExactly =
 abbrev pub IsShort : Type 0
 IsShort =
     (text table : List ℕ) (n room k : ℕ)
-    → (Answered text table n room ≡ TableShort k) ↔ ((k ≡ room / 5) × ((s : State) × (File text table n s × (room < 5 * length (rowsOf s)))))
+    → (Answered text table n room ≡ tableShort k) ↔ ((k ≡ room / rowNumbers) × ((s : State) × (File text table n s × (room < rowNumbers * length (rowsOf s)))))
 
 -- On a refusal the tree table is all zeros.
 abbrev pub ZerosElse : Type 0
@@ -97,6 +98,6 @@ OperatorColumn = (text table : List ℕ) (n : ℕ) (s : State) → File text tab
 abbrev pub RowsFitLines : Type 0
 RowsFitLines = (text table : List ℕ) (n : ℕ) (s : State) → File text table n s → TreeFits (Elements table n) (rowsOf s)
 
--- A label's row stands right behind that of the statement which it leads.
+-- A label's row stands right after that of the statement which it leads.
 abbrev pub EachLabelLeads : Type 0
 EachLabelLeads = (text table : List ℕ) (n : ℕ) (s : State) → File text table n s → LabelsLead (rowsOf s)

@@ -7,18 +7,20 @@ use lib.ListN.{getD}
 use Rattle.records.specs.Records.{wordAt}
 use Rattle.names.specs.Language.{languageOf}
 use Rattle.values.specs.Values.{languageValue}
-use Rattle.values.specs.Words.{usedValue}
+use Rattle.values.specs.code.Used.{usedValue}
 use Rattle.values.specs.declared.Value.{Value}
 use Rattle.values.specs.declared.Value.the-variants.{Without}
-use Rattle.uses.specs.Uses.{recordValue, ownUse, languageUse, useIn}
+use Rattle.pieces.specs.Columns as column
+use Rattle.states.specs.States as state
+use Rattle.uses.specs.code.Uses.{recordValue, ownUse, languageUse, useIn}
 
-pub record-words : (items : List ℕ) (j class state kind low high : ℕ) (r : Value) → class ≡ wordAt items j 0 → state ≡ wordAt items j 4 → kind ≡ wordAt items j 5
-    → low ≡ wordAt items j 6 → high ≡ wordAt items j 7 → r ≡ usedValue class state kind low high → r ≡ recordValue items j
+pub record-words : (items : List ℕ) (j class state kind low high : ℕ) (r : Value) → class ≡ wordAt items j column.class → state ≡ wordAt items j column.state → kind ≡ wordAt items j column.kind
+    → low ≡ wordAt items j column.low → high ≡ wordAt items j column.high → r ≡ usedValue class state kind low high → r ≡ recordValue items j
 unfolding recordValue
 record-words items j class state kind low high r a b c d e z = rw (← a, ← b, ← c, ← d, ← e) z
 
 module _ (text table items links : List ℕ) (i e language link : ℕ) (p : language ≡ languageOf text table e) (q : link ≡ getD links e 0) where
-  pub claimed-too : (language ≡ 0 → ⊥) → (link ≡ 0 → ⊥) → Without 5 ≡ useIn text table items links i e
+  pub claimed-too : (language ≡ 0 → ⊥) → (link ≡ 0 → ⊥) → Without state.leans ≡ useIn text table items links i e
   unfolding useIn languageUse
   claimed-too h k = rw (← p, ← q, ne-eqb language 0 h, ne-eqb link 0 k)
 
@@ -26,7 +28,7 @@ module _ (text table items links : List ℕ) (i e language link : ℕ) (p : lang
   unfolding useIn languageUse
   of-language r h k z = rw (← p, ← q, ne-eqb language 0 h, eq-eqb link 0 k) z
 
-  pub no-claim : language ≡ 0 → link ≡ 0 → Without 4 ≡ useIn text table items links i e
+  pub no-claim : language ≡ 0 → link ≡ 0 → Without state.unknown ≡ useIn text table items links i e
   unfolding useIn ownUse
   no-claim h k = rw (← p, ← q, eq-eqb language 0 h, eq-eqb link 0 k)
 
@@ -34,6 +36,6 @@ module _ (text table items links : List ℕ) (i e language link : ℕ) (p : lang
   unfolding useIn ownUse
   above r h k l z = rw (← p, ← q, eq-eqb language 0 h, ne-eqb link 0 k, lt-ltb (link - 1) i l) z
 
-  pub below : language ≡ 0 → (link ≡ 0 → ⊥) → i ≤ link - 1 → Without 4 ≡ useIn text table items links i e
+  pub below : language ≡ 0 → (link ≡ 0 → ⊥) → i ≤ link - 1 → Without state.unknown ≡ useIn text table items links i e
   unfolding useIn ownUse
   below h k l = rw (← p, ← q, eq-eqb language 0 h, ne-eqb link 0 k, le-ltb (link - 1) i l)

@@ -1,17 +1,17 @@
 // What a name comes to where it is used, by the records above and the links of names. Every function takes any tables.
 use values::Value;
 ghost use mathlib.Core.Path.{_≡_};
-ghost use Rattle.uses.specs.Uses.{recordValue, useIn};
+ghost use Rattle.uses.specs.code.Uses.{recordValue, useIn};
 
 // What record j comes to for those that use its name.
 fn record_value(items: &[u64], j: usize) -> Value
     ensures { λ r. ⌜ r ≡ recordValue (now (items .entry)) j ⌝ }
 {
-    let class = records::word(items, j, 0);
-    let state = records::word(items, j, 4);
-    let kind = records::word(items, j, 5);
-    let low = records::word(items, j, 6);
-    let high = records::word(items, j, 7);
+    let class = records::word(items, j, pieces::CLASS);
+    let state = records::word(items, j, pieces::STATE);
+    let kind = records::word(items, j, pieces::KIND);
+    let low = records::word(items, j, pieces::LOW);
+    let high = records::word(items, j, pieces::HIGH);
     values::used_value(class, state, kind, low, high)
 }
 
@@ -27,19 +27,19 @@ pub fn use_of(
     ensures { λ r. ⌜ r ≡ useIn (now (text .entry)) (now (elements .entry)) (now (items .entry)) (now (links .entry)) i e ⌝ }
 {
     let language = names::language(text, elements, e);
-    let link = lent::word_at(links, e);
+    let link = lent_tables::word_at(links, e);
     if language != 0 {
         if link != 0 {
-            return Value::Without(5);
+            return Value::Without(states::LEANS);
         }
         return values::language_value(language);
     }
     if link == 0 {
-        return Value::Without(4);
+        return Value::Without(states::UNKNOWN);
     }
     let j = (link - 1) as usize;
     if j < i {
         return record_value(items, j);
     }
-    Value::Without(4)
+    Value::Without(states::UNKNOWN)
 }

@@ -10,31 +10,36 @@ use mir.Syntax.{w32}
 use mir.Val.{toZ}
 use mir.ValLaws.{toZ-pos}
 use borrow.Author.Tests.{lt-ltb, le-ltb, ltb-true, ne-eqb}
+use Rattle.integers.specs.Numbers.{integerKind, truthKind}
+use Rattle.pieces.specs.Classes.{constant, subtype}
+use Rattle.names.specs.Language.{name-integer, name-natural, name-positive, name-boolean, name-true, name-false}
+use Rattle.states.specs.States.{leans, unknown}
 use Rattle.values.specs.declared.Value.the-variants.{Without}
 use Rattle.values.specs.Values.{languageValue}
-use Rattle.values.specs.Words.{wordOf, signedHalf, numberOf, usedConstant, usedSubtype, usedValue}
+use Rattle.values.specs.Words.{wordOf, allWords, halves, positives}
+use Rattle.values.specs.code.Used.{signedHalf, signedNumber, usedConstant, usedSubtype, usedValue}
 
 -- ---- the language's names, and records that give nothing
 
-pub language-none : (k : ℕ) → (k ≡ 1 → ⊥) → (k ≡ 2 → ⊥) → (k ≡ 3 → ⊥) → (k ≡ 4 → ⊥) → (k ≡ 5 → ⊥) → (k ≡ 6 → ⊥) → Without 4 ≡ languageValue k
+pub language-none : (k : ℕ) → (k ≡ name-integer → ⊥) → (k ≡ name-natural → ⊥) → (k ≡ name-positive → ⊥) → (k ≡ name-boolean → ⊥) → (k ≡ name-true → ⊥) → (k ≡ name-false → ⊥) → Without unknown ≡ languageValue k
 unfolding languageValue
-language-none k a b c d e f = rw (ne-eqb k 1 a, ne-eqb k 2 b, ne-eqb k 3 c, ne-eqb k 4 d, ne-eqb k 5 e, ne-eqb k 6 f)
+language-none k a b c d e f = rw (ne-eqb k name-integer a, ne-eqb k name-natural b, ne-eqb k name-positive c, ne-eqb k name-boolean d, ne-eqb k name-true e, ne-eqb k name-false f)
 
-pub constant-none : (kind low : ℕ) → (kind ≡ 1 → ⊥) → (kind ≡ 2 → ⊥) → Without 5 ≡ usedConstant kind low
+pub constant-none : (kind low : ℕ) → (kind ≡ integerKind → ⊥) → (kind ≡ truthKind → ⊥) → Without leans ≡ usedConstant kind low
 unfolding usedConstant
-constant-none kind low a b = rw (ne-eqb kind 1 a, ne-eqb kind 2 b)
+constant-none kind low a b = rw (ne-eqb kind integerKind a, ne-eqb kind truthKind b)
 
-pub subtype-none : (kind low high : ℕ) → (kind ≡ 1 → ⊥) → (kind ≡ 2 → ⊥) → Without 5 ≡ usedSubtype kind low high
+pub subtype-none : (kind low high : ℕ) → (kind ≡ integerKind → ⊥) → (kind ≡ truthKind → ⊥) → Without leans ≡ usedSubtype kind low high
 unfolding usedSubtype
-subtype-none kind low high a b = rw (ne-eqb kind 1 a, ne-eqb kind 2 b)
+subtype-none kind low high a b = rw (ne-eqb kind integerKind a, ne-eqb kind truthKind b)
 
-pub used-stated : (class state kind low high : ℕ) → (state ≡ 0 → ⊥) → Without 5 ≡ usedValue class state kind low high
+pub used-stated : (class state kind low high : ℕ) → (state ≡ 0 → ⊥) → Without leans ≡ usedValue class state kind low high
 unfolding usedValue
 used-stated class state kind low high a = rw (ne-eqb state 0 a)
 
-pub used-none : (class state kind low high : ℕ) → state ≡ 0 → (class ≡ 3 → ⊥) → (class ≡ 4 → ⊥) → Without 5 ≡ usedValue class state kind low high
+pub used-none : (class state kind low high : ℕ) → state ≡ 0 → (class ≡ constant → ⊥) → (class ≡ subtype → ⊥) → Without leans ≡ usedValue class state kind low high
 unfolding usedValue
-used-none class state kind low high z a b = rw (z, ne-eqb class 3 a, ne-eqb class 4 b)
+used-none class state kind low high z a b = rw (z, ne-eqb class constant a, ne-eqb class subtype b)
 
 -- ---- numbers in words
 
@@ -46,7 +51,7 @@ pub minus-one-less : (m : ℕ) → negsuc 0 -ℤ pos m ≡ negsuc m
 minus-one-less zero = refl
 minus-one-less (suc m) = ap negsuc (omega arith)
 
-pub word-below : (z : ℤ) → ltZ z (pos 0) ≡ true → 18446744073709551615 - mag z ≡ wordOf z
+pub word-below : (z : ℤ) → ltZ z (pos 0) ≡ true → (allWords - 1) - mag z ≡ wordOf z
 word-below (pos n) p = absurd (omega (arith, ltb-true n 0 p))
 word-below (negsuc n) p = omega arith
 
@@ -58,16 +63,16 @@ pub above : (z : ℤ) → ltZ z (pos 0) ≡ false → T (nonNeg z)
 above (pos n) p = tt
 above (negsuc n) p = absurd (true≢false p)
 
-pub half-low : (m : ℕ) → m < 2147483648 → signedHalf m ≡ pos m
-half-low m h = rw (lt-ltb m 2147483648 h)
+pub half-low : (m : ℕ) → m < positives → signedHalf m ≡ pos m
+half-low m h = rw (lt-ltb m positives h)
 
-pub half-high : (m : ℕ) → 2147483648 ≤ m → signedHalf m ≡ negsuc (4294967295 - m)
-half-high m h = rw (le-ltb m 2147483648 h)
+pub half-high : (m : ℕ) → positives ≤ m → signedHalf m ≡ negsuc (halves - 1 - m)
+half-high m h = rw (le-ltb m positives h)
 
-pub number-low : (n : ℕ) → n % 4294967296 < 2147483648 → toZ w32 (n % 4294967296) ≡ numberOf n
-unfolding numberOf
-number-low n h = toZ-pos w32 (n % 4294967296) h ∙ sym (half-low (n % 4294967296) h)
+pub number-low : (n : ℕ) → n % halves < positives → toZ w32 (n % halves) ≡ signedNumber n
+unfolding signedNumber
+number-low n h = toZ-pos w32 (n % halves) h ∙ sym (half-low (n % halves) h)
 
-pub number-high : (n : ℕ) → 2147483648 ≤ n % 4294967296 → negsuc (4294967295 - n % 4294967296) ≡ numberOf n
-unfolding numberOf
-number-high n h = sym (half-high (n % 4294967296) h)
+pub number-high : (n : ℕ) → positives ≤ n % halves → negsuc (halves - 1 - n % halves) ≡ signedNumber n
+unfolding signedNumber
+number-high n h = sym (half-high (n % halves) h)

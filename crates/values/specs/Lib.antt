@@ -1,3 +1,3 @@
-pub mod States
 pub mod Values
 pub mod Words
+pub mod code

@@ -4,6 +4,8 @@ use mathlib.Core.Bool.{true, false, cond}
 use lib.Dec.{eqb}
 use lib.IntN.{pos, negℤ}
 use Rattle.integers.specs.Integers.{largest}
+use Rattle.states.specs.States as state
+use Rattle.names.specs.Language.{name-integer, name-natural, name-positive, name-boolean, name-true, name-false}
 use Rattle.values.specs.declared.Value.{Value}
 use Rattle.values.specs.declared.Value.the-variants.{Truth, Range, Truths, Without}
 
@@ -11,9 +13,9 @@ use Rattle.values.specs.declared.Value.the-variants.{Truth, Range, Truth
 -- -2147483647"; any other number is 4, "a name used with no claim above"
 unfoldable pub languageValue : ℕ → Value
 languageValue k =
-    cond (eqb k 1) (Range (negℤ (pos largest)) (pos largest))
-    (cond (eqb k 2) (Range (pos 0) (pos largest))
-    (cond (eqb k 3) (Range (pos 1) (pos largest))
-    (cond (eqb k 4) Truths
-    (cond (eqb k 5) (Truth true)
-    (cond (eqb k 6) (Truth false) (Without 4))))))
+    cond (eqb k name-integer) (Range (negℤ (pos largest)) (pos largest))
+    (cond (eqb k name-natural) (Range (pos 0) (pos largest))
+    (cond (eqb k name-positive) (Range (pos 1) (pos largest))
+    (cond (eqb k name-boolean) Truths
+    (cond (eqb k name-true) (Truth true)
+    (cond (eqb k name-false) (Truth false) (Without state.unknown))))))

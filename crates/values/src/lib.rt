@@ -2,7 +2,8 @@
 // values.
 ghost use mathlib.Core.Path.{_≡_};
 ghost use Rattle.values.specs.Values.{languageValue};
-ghost use Rattle.values.specs.Words.{wordOf, numberOf, truthWord, stateOf, kindOf, lowOf, highOf, usedConstant, usedSubtype, usedValue};
+ghost use Rattle.values.specs.Words.{wordOf, truthWord, stateOf, valueKind, lowOf, highOf};
+ghost use Rattle.values.specs.code.Used.{signedNumber, usedConstant, usedSubtype, usedValue};
 
 // What an item comes to: a number, a truth, a subtype's ends, the truths as a type; or the state that it is without one.
 pub enum Value {
@@ -15,18 +16,25 @@ pub enum Value {
 
 const LARGEST: i32 = integers::LARGEST as i32;
 
+// How many numbers there are in half a word, and of them those that are not negative.
+const HALVES: u64 = 4294967296;
+
+const POSITIVES: u64 = HALVES / 2;
+
+const LAST_HALF: u64 = HALVES - 1;
+
 // The names that the language claims, by number.
 pub fn language_value(k: u64) -> Value
     ensures { λ r. ⌜ r ≡ languageValue k ⌝ }
 {
     match k {
-        1 => Value::Range(-LARGEST, LARGEST),
-        2 => Value::Range(0, LARGEST),
-        3 => Value::Range(1, LARGEST),
-        4 => Value::Truths,
-        5 => Value::Truth(true),
-        6 => Value::Truth(false),
-        _ => Value::Without(4),
+        names::INTEGER => Value::Range(-LARGEST, LARGEST),
+        names::NATURAL => Value::Range(0, LARGEST),
+        names::POSITIVE => Value::Range(1, LARGEST),
+        names::BOOLEAN => Value::Truths,
+        names::TRUE => Value::Truth(true),
+        names::FALSE => Value::Truth(false),
+        _ => Value::Without(states::UNKNOWN),
     }
 }
 
@@ -42,13 +50,13 @@ pub fn word(z: i32) -> u64
 
 // The number in a word's low half.
 pub fn number(n: u64) -> i32
-    ensures { λ r. ⌜ r ≡ numberOf n ⌝ }
+    ensures { λ r. ⌜ r ≡ signedNumber n ⌝ }
 {
-    let m = n % 4294967296;
-    if m < 2147483648 {
+    let m = n % HALVES;
+    if m < POSITIVES {
         return m as i32;
     }
-    -1 - ((4294967295 - m) as i32)
+    -1 - ((LAST_HALF - m) as i32)
 }
 
 fn truth_word(t: bool) -> u64
@@ -57,7 +65,7 @@ fn truth_word(t: bool) -> u64
     if t { 1 } else { 0 }
 }
 
-// Word 4 of the record.
+// The state of the record.
 pub fn state_word(v: Value) -> u64
     ensures { λ r. ⌜ r ≡ stateOf v ⌝ }
 {
@@ -70,20 +78,20 @@ pub fn state_word(v: Value) -> u64
     }
 }
 
-// Word 5.
+// Its kind.
 pub fn kind_word(v: Value) -> u64
-    ensures { λ r. ⌜ r ≡ kindOf v ⌝ }
+    ensures { λ r. ⌜ r ≡ valueKind v ⌝ }
 {
     match v {
-        Value::Number(_) => 1,
-        Value::Truth(_) => 2,
-        Value::Range(_, _) => 1,
-        Value::Truths => 2,
+        Value::Number(_) => integers::KIND_INTEGER,
+        Value::Truth(_) => integers::KIND_TRUTH,
+        Value::Range(_, _) => integers::KIND_INTEGER,
+        Value::Truths => integers::KIND_TRUTH,
         Value::Without(_) => 0,
     }
 }
 
-// Word 6.
+// Its first number.
 pub fn low_word(v: Value) -> u64
     ensures { λ r. ⌜ r ≡ lowOf v ⌝ }
 {
@@ -96,7 +104,7 @@ pub fn low_word(v: Value) -> u64
     }
 }
 
-// Word 7.
+// Its second.
 pub fn high_word(v: Value) -> u64
     ensures { λ r. ⌜ r ≡ highOf v ⌝ }
 {
@@ -113,9 +121,9 @@ fn used_constant(kind: u64, low: u64) -> Value
     ensures { λ r. ⌜ r ≡ usedConstant kind low ⌝ }
 {
     match kind {
-        1 => Value::Number(number(low)),
-        2 => Value::Truth(low != 0),
-        _ => Value::Without(5),
+        integers::KIND_INTEGER => Value::Number(number(low)),
+        integers::KIND_TRUTH => Value::Truth(low != 0),
+        _ => Value::Without(states::LEANS),
     }
 }
 
@@ -123,9 +131,9 @@ fn used_subtype(kind: u64, low: u64, high: u64) -> Value
     ensures { λ r. ⌜ r ≡ usedSubtype kind low high ⌝ }
 {
     match kind {
-        1 => Value::Range(number(low), number(high)),
-        2 => Value::Truths,
-        _ => Value::Without(5),
+        integers::KIND_INTEGER => Value::Range(number(low), number(high)),
+        integers::KIND_TRUTH => Value::Truths,
+        _ => Value::Without(states::LEANS),
     }
 }
 
@@ -134,11 +142,11 @@ pub fn used_value(class: u64, state: u64, kind: u64, low: u64, high: u64) -> Val
     ensures { λ r. ⌜ r ≡ usedValue class state kind low high ⌝ }
 {
     if state != 0 {
-        return Value::Without(5);
+        return Value::Without(states::LEANS);
     }
     match class {
-        3 => used_constant(kind, low),
-        4 => used_subtype(kind, low, high),
-        _ => Value::Without(5),
+        pieces::CONSTANT => used_constant(kind, low),
+        pieces::SUBTYPE => used_subtype(kind, low, high),
+        _ => Value::Without(states::LEANS),
     }
 }

@@ -17,7 +17,7 @@ use Rattle.verdict.specs.declared.Verdict.{Verdict}
 use Rattle.verdict.specs.declared.Verdict.the-variants.{Passes, NotSupported}
 use Rattle.verdict.specs.Verdict.{IsRow, while-loop, bare-loop, guard, block-is, next-statement, exit-statement, null-statement, FormFails, while-loops, bare-loops, guards, block-is-words, LabelFails, on-next, on-exit, on-null, Unsupported, form, labelled, Judged, passes, names}
 use Rattle.verdict.specs.code.Judging.{unsupported, verdictFrom, formsIn, verdictOf}
-use Rattle.verdict.specs.Promises.{rowsHad, JudgedExactly, OneVerdict}
+use Rattle.verdict.specs.code.Promises.{rowsHad, JudgedExactly, OneVerdict}
 
 -- what the code asks of a row is what 01 asks
 fails-by : (b n : ℕ) → T (unsupported b n) → FormFails n ⊎ ((n ≡ label) × LabelFails b)

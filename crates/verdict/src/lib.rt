@@ -3,20 +3,40 @@ ghost use mathlib.Core.Path.{_≡_};
 ghost use Prim.Native.Nat.{_+_, _/_, _<_, _*_};
 ghost use Rattle.verdict.specs.code.Judging.{unsupported, verdictOf};
 
+// "A row has five numbers".
+const ROW_NUMBERS: usize = 5;
+
+// 01's numbers of the forms that its verdict names.
+const WHILE_LOOP: u64 = 19;
+
+const BARE_LOOP: u64 = 20;
+
+const NEXT: u64 = 21;
+
+const EXIT: u64 = 22;
+
+const NULL: u64 = 23;
+
+const LABEL: u64 = 30;
+
+const GUARD: u64 = 32;
+
+const BLOCK_IS: u64 = 33;
+
 pub enum Verdict {
     Passes,
     NotSupported(usize),
 }
 
-// A row of this form, behind a row of form before, is not supported.
+// A row of this form, after a row of form before, is not supported.
 fn fails(before: u64, form: u64) -> bool
     ensures { λ r. ⌜ r ≡ unsupported before form ⌝ }
 {
-    (form == 19)
-        | (form == 20)
-        | (form == 32)
-        | (form == 33)
-        | ((form == 30) & ((before == 21) | (before == 22) | (before == 23)))
+    (form == WHILE_LOOP)
+        | (form == BARE_LOOP)
+        | (form == GUARD)
+        | (form == BLOCK_IS)
+        | ((form == LABEL) & ((before == NEXT) | (before == EXIT) | (before == NULL)))
 }
 
 // The first of the tree's rows that is not supported. Rows that the table does not have are not there.
@@ -26,10 +46,10 @@ pub fn judge(tree: &[u64], rows: usize) -> Verdict
     let mut before: u64 = 0;
     let mut i: usize = 0;
     while i < rows {
-        if tree.len() / 5 <= i {
+        if tree.len() / ROW_NUMBERS <= i {
             return Verdict::Passes;
         }
-        let form = tree[5 * i];
+        let form = tree[ROW_NUMBERS * i];
         if fails(before, form) {
             return Verdict::NotSupported(i);
         }

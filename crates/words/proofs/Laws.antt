@@ -16,7 +16,7 @@ use Rattle.laws.proofs.Laws.{both-left, both-right}
 use Rattle.classes.specs.Bytes.{within, isLetter, lower}
 use Rattle.classes.proofs.Laws.{part-rest, by-test, within-low, within-high, not-upper, not-lower}
 use Rattle.words.specs.Words.{delimiters, bytesOf, begins, spells, placeFrom}
-use Rattle.words.specs.Packed.{searched, byteFrom}
+use Rattle.words.specs.code.Packed.{searched, byteFrom}
 use Rattle.words.specs.declared.Place.{Place}
 use Rattle.words.specs.declared.Place.the-variants.{At, Nowhere}
 
@@ -69,7 +69,7 @@ module _ (w t : List ℕ) (i k : ℕ) (whole : Place) where
     pub search-past : x ≡ false → searched 0 (k + 1) w (drop (i + 1 + getD t i 0) t) ≡ whole
     search-past y = rw (add-one k, add-one i) (sym (past-this h (test ∙ y)) ∙ v)
 
--- what stands behind a word does not matter
+-- what stands after a word does not matter
 begins-front : (w b r : List ℕ) → length b ≡ length w → begins w (b ++ r) ≡ begins w b
 unfolding begins
 begins-front [] b r e = refl
@@ -84,7 +84,7 @@ entry-spells w x r = go (eqb (length (bytesOf x)) (length w)) refl
     go true e = begins-front w (bytesOf x) r (eqb-true _ _ e)
     go false e = refl
 
--- words in one string of bytes, each behind its length
+-- words in one string of bytes, each after its length
 unfoldable pub packed : List String → List ℕ
 packed [] = []
 packed (x ∷ xs) = length (bytesOf x) ∷ (bytesOf x ++ packed xs)
@@ -187,7 +187,7 @@ plain-place (x ∷ xs) k b p = go (spells (b ∷ []) x) refl (plain-place xs (su
     go true e h = rw (sym (one-spelled b (bytesOf x) one plain) ∙ e, byteFrom, e, placeFrom)
     go false e h = rw (sym (one-spelled b (bytesOf x) one plain) ∙ e, byteFrom, e, placeFrom) h
 
--- the delimiters: those of one byte behind those of two
+-- the delimiters: those of one byte after those of two
 abbrev pub pairs : List String
 pairs = "=>" ∷ "**" ∷ ":=" ∷ "/=" ∷ ">=" ∷ "<=" ∷ "<>" ∷ []
 

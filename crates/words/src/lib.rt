@@ -7,7 +7,10 @@ ghost use Prim.Native.Nat.{_≤_};
 ghost use lib.Dec.{eqb};
 ghost use lib.ListN.{length};
 ghost use Rattle.words.specs.Words.{begins, placeIn, reservedWords, delimiters};
-ghost use Rattle.words.specs.Packed.{searched, byteFrom};
+ghost use Rattle.words.specs.code.Packed.{delimiterCount, searched, byteFrom};
+
+// How many delimiters have two bytes: they stand first in the list.
+const TWO_BYTE_DELIMITERS: usize = 7;
 
 // The number of a word in its list, counted from 0.
 pub enum Place {
@@ -41,7 +44,7 @@ fn entry_is(w: &[u8], t: &[u8], n: usize) -> bool
     begins_with(w, t)
 }
 
-// The place of a word in a list that holds each word behind its length.
+// The place of a word in a list that holds each word after its length.
 fn search(w: &[u8], list: &[u8]) -> Place
     ensures { λ r. ⌜ r ≡ searched 0 0 (now (w .entry)) (now (list .entry)) ⌝ }
 {
@@ -70,7 +73,7 @@ pub fn reserved_word(w: &[u8]) -> Place
 
 // The place of a byte in a list of bytes, the first of which has the number k.
 fn byte_place(b: u8, list: &[u8], k: usize) -> Place
-    requires { ⌜ k ≤ 25 ⌝ }
+    requires { ⌜ k ≤ delimiterCount ⌝ }
     ensures { λ r. ⌜ r ≡ byteFrom k b (now (list .entry)) ⌝ }
 {
     let mut i = 0;
@@ -83,11 +86,11 @@ fn byte_place(b: u8, list: &[u8], k: usize) -> Place
     Place::Nowhere
 }
 
-// A delimiter of one byte: they stand behind the seven of two bytes.
+// A delimiter of one byte: they stand after the seven of two bytes.
 pub fn delimiter_one(b: u8) -> Place
     ensures { λ r. ⌜ r ≡ placeIn (b ∷ []) delimiters ⌝ }
 {
-    byte_place(b, b"&'()*+,-./:;<=>|[]", 7)
+    byte_place(b, b"&'()*+,-./:;<=>|[]", TWO_BYTE_DELIMITERS)
 }
 
 // A delimiter of two bytes: each ends with `=`, `>` or `*`.

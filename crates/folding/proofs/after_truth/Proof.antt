@@ -1,4 +1,4 @@
--- The right side behind a truth. Assumes nothing.
+-- The right side after a truth. Assumes nothing.
 use borrow.Author.Needs.{needs}
 use Rattle.folding.proofs.after_truth.Statement.{statement}
 use Rattle.folding.proofs.after_truth.Tie as tie
@@ -16,7 +16,7 @@ enum-known-y-2 : tie.Need-enum-known-y-2
 enum-known-y-2 c = search needs
 
 returns : tie.Need-returns
-returns c = search needs
+returns c = rw (c .enum-told .given .1)
 
 returns-2 : tie.Need-returns-2
 returns-2 c = rw (c .before .before .y .given .1) (c .on-truths .ensures)

@@ -1,4 +1,4 @@
--- The right side behind an integer. Assumes nothing.
+-- The right side after an integer. Assumes nothing.
 use mir.Syntax.{w32}
 use mir.Val.{SFits}
 use mir.ValLaws.{toZ-ofZ}
@@ -25,7 +25,7 @@ returns c = let s = c .before .before .before .before in
     rw (y .1) (rw (toZ-ofZ w32 (s .args .a) (s .fits .a), toZ-ofZ w32 (y .0 .0) f) at (c .on-wholes .ensures))
 
 returns-2 : tie.Need-returns-2
-returns-2 c = search needs
+returns-2 c = rw (c .enum-told .given .1)
 
 returns-3 : tie.Need-returns-3
 returns-3 c = rw (c .before .y2 .given .1)

@@ -33,7 +33,7 @@ enum-told-2 : tie.Need-enum-told-2
 enum-told-2 c = search needs
 
 returns : tie.Need-returns
-returns c = search needs
+returns c = rw (c .enum-told .given .1)
 
 returns-2 : tie.Need-returns-2
 returns-2 c = let p = c .before .before .place in
@@ -47,7 +47,7 @@ returns-3 : tie.Need-returns-3
 returns-3 c = rw (c .before .before .op2 .given .1) (ap Truth (c .connected .ensures))
 
 returns-4 : tie.Need-returns-4
-returns-4 c = search needs
+returns-4 c = rw (c .enum-told2 .given .1)
 
 pub on-truths-spec : {M : Type 1} → statement M
 on-truths-spec =

@@ -34,10 +34,10 @@ returns-2 c = let s = c .before .before .before .before in
     rw (c .before .before .op2 .given .1) (ap Truth (rw (toZ-ofZ w32 (s .args .a) (s .fits .a), toZ-ofZ w32 (s .args .b) (s .fits .b)) at (c .relates .ensures)))
 
 returns-3 : tie.Need-returns-3
-returns-3 c = search needs
+returns-3 c = rw (c .enum-told .given .1)
 
 returns-4 : tie.Need-returns-4
-returns-4 c = search needs
+returns-4 c = rw (c .enum-told2 .given .1)
 
 pub on-wholes-spec : {M : Type 1} → statement M
 on-wholes-spec =

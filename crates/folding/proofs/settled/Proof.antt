@@ -6,9 +6,6 @@ use Rattle.folding.proofs.settled.Tie as tie
 enum-told : tie.Need-enum-told
 enum-told c = search needs
 
-enum-told-2 : tie.Need-enum-told-2
-enum-told-2 c = search needs
-
 enum-known-sort : tie.Need-enum-known-sort
 enum-known-sort c = search needs
 
@@ -16,11 +13,7 @@ returns : tie.Need-returns
 returns c = search needs
 
 returns-2 : tie.Need-returns-2
-returns-2 c = search needs
-
-returns-3 : tie.Need-returns-3
-returns-3 c = rw (c .before .sort .given .1)
+returns-2 c = rw (c .before .sort .given .1)
 
 pub settled-spec : {M : Type 1} → statement M
-settled-spec =
-    tie.close (tie.spec enum-told enum-told-2 enum-known-sort returns returns-2 returns-3)
+settled-spec = tie.close (tie.spec enum-told enum-known-sort returns returns-2)

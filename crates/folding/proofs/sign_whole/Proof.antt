@@ -39,7 +39,7 @@ returns-3 c = let s = c .before .before .before in
     rw (c .before .enum-told3 .given .1) (rw (toZ-ofZ w32 (s .args .a) (s .fits .a)) at (c .absolute .ensures))
 
 returns-4 : tie.Need-returns-4
-returns-4 c = search needs
+returns-4 c = rw (c .enum-told4 .given .1)
 
 pub sign-whole-spec : {M : Type 1} → statement M
 sign-whole-spec =

@@ -9,13 +9,13 @@ use mir.Syntax.{w64}
 use mir.Val.{SFits, toZ, ofZ}
 use mir.ValLaws.{toZ-ofZ}
 use borrow.Author.Tests.{leb-true}
-use Rattle.integers.specs.Integers.{sizedOf}
+use Rattle.integers.specs.Integers.{largest, sizedOf}
 use Rattle.integers.proofs.Ints.{sfits-small, mul-small, pow-step, pow-over, low-test, high-test, small-test}
 use Rattle.integers.proofs.climb.Statement.{statement}
 use Rattle.integers.proofs.climb.Tie as tie
 
 abbrev Inv-loop : tie.InvT-loop
-Inv-loop a n acc₀ i₀ acc i = (i ≤ n) × ((acc ≡ ofZ w64 (pow (toZ w64 a) i)) × (natAbs (pow (toZ w64 a) i) ≤ 2147483647))
+Inv-loop a n acc₀ i₀ acc i = (i ≤ n) × ((acc ≡ ofZ w64 (pow (toZ w64 a) i)) × (natAbs (pow (toZ w64 a) i) ≤ largest))
 
 abbrev μ-loop : tie.MeasureT-loop
 μ-loop a n acc₀ i₀ acc i = n - i
@@ -24,11 +24,11 @@ module _ (c : tie.At-loop Inv-loop μ-loop) where
   back : toZ w64 (ofZ w64 (c .before .args .a)) ≡ c .before .args .a
   back = toZ-ofZ w64 (c .before .args .a) (c .before .fits .a)
 
-  small : natAbs (pow (c .before .args .a) (c .loop .i)) ≤ 2147483647
+  small : natAbs (pow (c .before .args .a) (c .loop .i)) ≤ largest
   small = rw back at (c .loop .inv .1 .1)
 
   acc-is : toZ w64 (c .loop .acc) ≡ pow (c .before .args .a) (c .loop .i)
-  acc-is = ap (toZ w64) (rw back at (c .loop .inv .1 .0)) ∙ toZ-ofZ w64 _ (sfits-small _ 2147483647 small (lit< tt))
+  acc-is = ap (toZ w64) (rw back at (c .loop .inv .1 .0)) ∙ toZ-ofZ w64 _ (sfits-small _ largest small (lit< tt))
 
   fits : SFits w64 (pow (c .before .args .a) (c .loop .i) *ℤ c .before .args .a)
   fits = mul-small (pow (c .before .args .a) (c .loop .i)) (c .before .args .a) small (c .before .pre .0)

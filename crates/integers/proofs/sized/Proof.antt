@@ -6,7 +6,7 @@ use lib.Dec.{leb}
 use lib.IntN.{natAbs}
 use mir.Val.{toZ, ofZ}
 use mir.ValLaws.{toZ-ofZ}
-use Rattle.integers.specs.Integers.{sizedOf}
+use Rattle.integers.specs.Integers.{largest, sizedOf}
 use Rattle.integers.proofs.Ints.{low-test, high-test, small-test, narrow-fits}
 use Rattle.integers.proofs.sized.Statement.{statement}
 use Rattle.integers.proofs.sized.Tie as tie
@@ -22,7 +22,7 @@ returns-2 : tie.Need-returns-2
 unfolding sizedOf
 returns-2 c = rw (high-test (c .before .before .args .z) (rw (back (c .before .before)) at (c .if2 .taken)))
 
-kept : (c : tie.Else2) → leb (natAbs (c .before .before .args .z)) 2147483647 ≡ true
+kept : (c : tie.Else2) → leb (natAbs (c .before .before .args .z)) largest ≡ true
 kept c = let s = c .before .before in small-test (s .args .z) (rw (back s) at (c .before .if1 .left)) (rw (back s) at (c .if2 .left))
 
 cast-t3 : tie.Need-cast-t3

@@ -1,20 +1,21 @@
 -- The invariant: the table with the records left completed is the whole. Assumes nothing.
+use Rattle.pieces.specs.Columns.{recordWords}
 use Rattle.items.proofs.complete_items.Statement.{statement}
 use Rattle.items.proofs.complete_items.Tie as tie
 use Rattle.items.proofs.complete_items.Reads as reads
 use Rattle.items.proofs.complete_items.Lts as lts
 use Rattle.items.proofs.complete.Reads as complete-reads
-use Rattle.lent.proofs.least.Reads as least-reads
+use Rattle.lent_tables.proofs.least.Reads as least-reads
 use borrow.Author.Needs.{needs}
 use native.Mathlib.Omega.{arith}
 use mathlib.Core.Path.{_≡_, refl}
 use Prim.Native.Nat.{_-_, _*_, _≤_}
 use lib.ListN.{length}
-use Rattle.items.specs.Items.{completedFrom, completed}
+use Rattle.items.specs.code.Items.{completedFrom, completed}
 use Rattle.items.proofs.Laws.{completed-start, completed-turn, completed-end}
 
 abbrev Inv-loop : tie.InvT-loop
-Inv-loop text elements links twins rows items₀ n most i₀ items i = (i ≤ most) × (length items ≡ length items₀) × (8 * most ≤ length items₀) × (completedFrom text elements links twins rows items i (most - i) ≡ completed text elements links twins rows items₀ n)
+Inv-loop text elements links twins rows items₀ n most i₀ items i = (i ≤ most) × (length items ≡ length items₀) × (recordWords * most ≤ length items₀) × (completedFrom text elements links twins rows items i (most - i) ≡ completed text elements links twins rows items₀ n)
 
 abbrev μ-loop : tie.MeasureT-loop
 μ-loop text elements links twins rows items₀ n most i₀ items i = most - i

@@ -4,7 +4,7 @@ use Rattle.items.proofs.expression.Statement.{statement}
 use Rattle.items.proofs.expression.Tie as tie
 use Rattle.items.proofs.expression.Reads as reads
 use Rattle.items.proofs.expression.Lts as lts
-use Rattle.folds.proofs.fold.Reads as fold-reads
+use Rattle.expressions.proofs.fold.Reads as fold-reads
 use Rattle.records.proofs.word.Reads as word-reads
 use native.Mathlib.Omega.{arith}
 use Rattle.items.proofs.Laws.{held-room, part-is}

@@ -3,7 +3,7 @@ use Rattle.items.proofs.goes_down.Statement.{statement}
 use Rattle.items.proofs.goes_down.Tie as tie
 use Rattle.items.proofs.goes_down.Reads as reads
 use Rattle.items.proofs.goes_down.Lts as lts
-use Rattle.lent.proofs.least.Reads as least-reads
+use Rattle.lent_tables.proofs.least.Reads as least-reads
 use Rattle.items.proofs.minus.Reads as minus-reads
 use Rattle.records.proofs.word.Reads as word-reads
 use borrow.Author.Needs.{needs}
@@ -35,8 +35,8 @@ least-requires c κs = search needs
 loop-holds : tie.Need-loop-holds Inv-loop μ-loop
 loop-holds c = (omega arith, search down-start)
 
-add-kind-of : tie.Need-add-kind-of Inv-loop μ-loop
-add-kind-of c = search needs
+add-e : tie.Need-add-e Inv-loop μ-loop
+add-e c = search needs
 
 kind-of-requires : tie.Need-kind-of-requires Inv-loop μ-loop
 kind-of-requires c κs = search needs
@@ -73,7 +73,7 @@ goes-down-spec =
     minus-requires
     least-requires
     loop-holds
-    add-kind-of
+    add-e
     kind-of-requires
     returns
     add-m

@@ -4,7 +4,7 @@ use Rattle.items.proofs.is_doubled.Statement.{statement}
 use Rattle.items.proofs.is_doubled.Tie as tie
 use Rattle.items.proofs.is_doubled.Reads as reads
 use Rattle.items.proofs.is_doubled.Lts as lts
-use Rattle.lent.proofs.word_at.Reads as word-at-reads
+use Rattle.lent_tables.proofs.word_at.Reads as word-at-reads
 use Rattle.names.proofs.language.Reads as language-reads
 use Rattle.records.proofs.is_claim.Reads as is-claim-reads
 use Rattle.records.proofs.word.Reads as word-reads

@@ -4,7 +4,7 @@ use Rattle.items.proofs.mark_value.Statement.{statement}
 use Rattle.items.proofs.mark_value.Tie as tie
 use Rattle.items.proofs.mark_value.Reads as reads
 use Rattle.items.proofs.mark_value.Lts as lts
-use Rattle.folds.proofs.name_value.Reads as name-value-reads
+use Rattle.expressions.proofs.name_value.Reads as name-value-reads
 use Rattle.records.proofs.word.Reads as word-reads
 use native.Mathlib.Omega.{arith}
 use Rattle.items.proofs.Laws.{held-room, mark-is}

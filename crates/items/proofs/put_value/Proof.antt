@@ -1,5 +1,6 @@
 -- Four words, each at its place. Assumes nothing.
 use borrow.Author.Needs.{needs}
+use Rattle.pieces.specs.Columns.{recordWords}
 use Rattle.items.proofs.put_value.Statement.{statement}
 use Rattle.items.proofs.put_value.Tie as tie
 use Rattle.items.proofs.put_value.Reads as reads
@@ -69,7 +70,7 @@ same-length c = search needs
 
 returns : tie.Need-returns
 returns c = let s = c .before .before .before .before .before in
-    four-stored (s .args .items .now) (8 * s .args .i) (s .args .v) _ _ _ _ (c .before .before .before .state-word .ensures) (c .before .before .kind-word .ensures) (c .before .low-word .ensures) (c .high-word .ensures)
+    four-stored (s .args .items .now) (recordWords * s .args .i) (s .args .v) _ _ _ _ (c .before .before .before .state-word .ensures) (c .before .before .kind-word .ensures) (c .before .low-word .ensures) (c .high-word .ensures)
 
 pub put-value-spec : {M : Type 1} → statement M
 put-value-spec =

@@ -3,7 +3,7 @@ use Rattle.items.proofs.rows_held.Statement.{statement}
 use Rattle.items.proofs.rows_held.Tie as tie
 use Rattle.items.proofs.rows_held.Reads as reads
 use Rattle.items.proofs.rows_held.Lts as lts
-use Rattle.lent.proofs.least.Reads as least-reads
+use Rattle.lent_tables.proofs.least.Reads as least-reads
 use Rattle.items.proofs.minus.Reads as minus-reads
 use Rattle.records.proofs.word.Reads as word-reads
 use borrow.Author.Needs.{needs}

@@ -1,4 +1,4 @@
--- Behind the first bound's rows, or none. Assumes nothing.
+-- After the first bound's rows, or none. Assumes nothing.
 use borrow.Author.Needs.{needs}
 use Rattle.items.proofs.second_bound.Statement.{statement}
 use Rattle.items.proofs.second_bound.Tie as tie

@@ -3,10 +3,10 @@ use mathlib.Core.Path.{_≡_, ap, _∙_}
 use mathlib.Core.List.{List}
 use Prim.Native.Nat.{ℕ}
 use lib.ListN.{length}
-use Rattle.reading.specs.Reading.{readingOf, tableOf}
-use Rattle.reading.specs.Permitted.{Permitted}
-use Rattle.reading.specs.declared.Reading.{Reading}
-use Rattle.reading.proofs.Answers.{permitted-is}
+use Rattle.element_reading.specs.Reading.{readingOf, tableOf}
+use Rattle.element_reading.specs.Permitted.{Permitted}
+use Rattle.element_reading.specs.declared.Reading.{Reading}
+use Rattle.element_reading.proofs.Answers.{permitted-is}
 use borrow.Author.Needs.{needs}
 use Rattle.kawhiluhe.specs.Numbers.{elementNumbers}
 use Rattle.kawhiluhe.specs.declared.Elements.{Elements}

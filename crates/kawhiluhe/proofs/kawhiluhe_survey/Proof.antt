@@ -5,7 +5,7 @@ use lib.ListN.{length}
 use Rattle.kawhiluhe.specs.Numbers.{surveyNumbers}
 use Rattle.kawhiluhe.proofs.kawhiluhe_survey.Statement.{statement}
 use Rattle.kawhiluhe.proofs.kawhiluhe_survey.Tie as tie
-use Rattle.packages.proofs.Permits.{permitted-is}
+use Rattle.survey_reading.proofs.Permits.{permitted-is}
 
 read-survey-requires : tie.Need-read-survey-requires
 read-survey-requires c κs = search needs

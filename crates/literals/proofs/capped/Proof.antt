@@ -1,4 +1,4 @@
--- The invariant: the value, with the rest of the digits behind it, is the value of the whole, each capped. Assumes nothing.
+-- The invariant: the value, with the rest of the digits after it, is the value of the whole, each capped. Assumes nothing.
 use borrow.Author.Needs.{needs}
 use native.Mathlib.Omega.{arith}
 use Rattle.numbers.proofs.Spelled.{value-turn, value-end}
@@ -6,11 +6,12 @@ use Rattle.numbers.specs.Numbers.{spelled}
 use lib.ListN.{length, drop}
 use Prim.Native.Nat.{_-_, _≤_, min}
 use mathlib.Core.Path.{_≡_, refl}
+use Rattle.integers.specs.Integers.{beyond}
 use Rattle.literals.proofs.capped.Statement.{statement}
 use Rattle.literals.proofs.capped.Tie as tie
 
 abbrev Inv-loop : tie.InvT-loop
-Inv-loop base s v₀ i₀ v i = (v ≤ 2147483648) × (min 2147483648 (spelled base v (drop i s)) ≡ min 2147483648 (spelled base 0 s))
+Inv-loop base s v₀ i₀ v i = (v ≤ beyond) × (min beyond (spelled base v (drop i s)) ≡ min beyond (spelled base 0 s))
 
 abbrev μ-loop : tie.MeasureT-loop
 μ-loop base s v₀ i₀ v i = length s - i

@@ -7,6 +7,7 @@ use mathlib.Core.Path.{ap, _∙_}
 use Prim.Native.Nat.{_<_}
 use borrow.Author.Needs.{needs}
 use native.Mathlib.Omega.{arith}
+use Rattle.integers.specs.Integers.{largest}
 use Rattle.literals.proofs.Laws.{scale-none, scale-start, scale-step, scale-over, scale-done, product-fits}
 use Prim.Native.Nat.{_-_, _≤_, _*_, _^_}
 use mathlib.Core.Path.{_≡_}
@@ -14,7 +15,7 @@ use Rattle.literals.proofs.scaled.Statement.{statement}
 use Rattle.literals.proofs.scaled.Tie as tie
 
 abbrev Inv-loop : tie.InvT-loop
-Inv-loop m base e acc₀ i₀ acc i = (i ≤ e) × ((acc ≡ m * base ^ i) × (acc ≤ 2147483647))
+Inv-loop m base e acc₀ i₀ acc i = (i ≤ e) × ((acc ≡ m * base ^ i) × (acc ≤ largest))
 
 abbrev μ-loop : tie.MeasureT-loop
 μ-loop m base e acc₀ i₀ acc i = e - i

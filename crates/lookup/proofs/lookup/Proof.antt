@@ -3,12 +3,12 @@ use borrow.Author.Needs.{needs}
 use Rattle.lookup.proofs.Laws.{found-start, found-turn, finds-hit, finds-none}
 use mathlib.Core.Path.{_≡_}
 use Prim.Native.Nat.{_-_, _≤_}
-use Rattle.lookup.specs.Lookup.{claimsName, firstFrom, foundOf}
+use Rattle.lookup.specs.Lookup.{claimsName, foundFrom, foundOf}
 use Rattle.lookup.proofs.lookup.Statement.{statement}
 use Rattle.lookup.proofs.lookup.Tie as tie
 
 abbrev Inv-loop : tie.InvT-loop
-Inv-loop text elements name items n i₀ i = (i ≤ n) × (firstFrom (claimsName text elements name items) i (n - i) ≡ foundOf text elements name items)
+Inv-loop text elements name items n i₀ i = (i ≤ n) × (foundFrom (claimsName text elements name items) i (n - i) ≡ foundOf text elements name items)
 
 abbrev μ-loop : tie.MeasureT-loop
 μ-loop text elements name items n i₀ i = n - i

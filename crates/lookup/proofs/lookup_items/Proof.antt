@@ -49,7 +49,7 @@ use denote.Triple.Clauses.{ensured, lasts}
 use denote.Triple.Table.{entered, cited}
 use denote.Triple.Walked.{says, Stays, stay-none-slice, walkOf, goes-none-slice, ends-at, walked, walk-meets}
 use denote.Exit.{yes}
-use Rattle.lookup.specs.Lookup.{claimsName, firstFrom, foundOf}
+use Rattle.lookup.specs.Lookup.{claimsName, foundFrom, foundOf}
 use Rattle.lookup.specs.Structs.{noItem, claimsBy, wordsOf}
 use Rattle.lookup.specs.declared.Item.{Item}
 use Rattle.lookup.specs.declared.Found.{Found}
@@ -124,7 +124,7 @@ module _ {M : Type 1} (𝓤 : URA M) (H : Heap 𝓤) (A : Atoms 𝓤) (W : Given
 
   -- the first record that claims, of m from the i-th on; and the answer
   abbrev onward : ℕ → ℕ → Found
-  onward i m = firstFrom (claimsName (x₁ .now) (x₂ .now) (x₃ .now) (wordsOf ys)) i m
+  onward i m = foundFrom (claimsName (x₁ .now) (x₂ .now) (x₃ .now) (wordsOf ys)) i m
 
   abbrev answer : Found
   answer = foundOf (x₁ .now) (x₂ .now) (x₃ .now) (wordsOf ys)

@@ -1,5 +1,5 @@
 -- A name in the text has its hash's chain; any other the first. Assumes nothing.
-use Rattle.names.specs.Chains.{chainOf}
+use Rattle.names.specs.code.Chains.{chainOf}
 use Rattle.names.proofs.Hashing.{bucket-out, bucket-in, stands-in, chain-low}
 use borrow.Author.Needs.{needs}
 use Rattle.names.proofs.bucket.Statement.{statement}

@@ -3,21 +3,22 @@ use Prim.Native.Nat.{_≤_}
 use mathlib.Core.Path.{_≡_, refl}
 use borrow.Author.Needs.{needs}
 use lib.ListN.{length, length-set}
-use Rattle.names.specs.Chains.{inBucket, Chained}
+use Rattle.places.specs.Sizes.{mostPieces}
+use Rattle.names.specs.code.Chains.{inBucket, Chained, buckets}
 use Rattle.names.proofs.Tables.{all-zero, zeros-long}
 use Rattle.names.proofs.Chaining.{chain-none, chain-whole, record-passed, record-chained}
 use Rattle.names.proofs.chain_names.Statement.{statement}
 use Rattle.names.proofs.chain_names.Tie as tie
 
 abbrev Inv-loop : tie.InvT-loop
-Inv-loop text elements items n heads₀ next₀ i₀ heads next i = (i ≤ n) × (length heads ≡ 1024) × (length next ≡ 1024) × Chained (inBucket text elements items) n i heads next
+Inv-loop text elements items n heads₀ next₀ i₀ heads next i = (i ≤ n) × (length heads ≡ buckets) × (length next ≡ mostPieces) × Chained (inBucket text elements items) n i heads next
 
 abbrev μ-loop : tie.MeasureT-loop
 μ-loop text elements items n heads₀ next₀ i₀ heads next i = i
 
 loop-holds : tie.Need-loop-holds Inv-loop μ-loop
 loop-holds c = let s = c .before .before .before in
-    (search needs, zeros-long 1024 _ (s .pre .1), zeros-long 1024 _ (s .pre .2), chain-none _ _ _ _ (all-zero 1024 _ (s .pre .1)))
+    (search needs, zeros-long buckets _ (s .pre .1), zeros-long mostPieces _ (s .pre .2), chain-none _ _ _ _ (all-zero buckets _ (s .pre .1)))
 
 sub-i : tie.Need-sub-i Inv-loop μ-loop
 sub-i c = search needs

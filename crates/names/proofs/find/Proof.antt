@@ -1,7 +1,7 @@
 -- The invariant: what is left of the search along the chain says what all records say. Assumes nothing.
 use mathlib.Core.Path.{refl}
 use borrow.Author.Needs.{needs}
-use Rattle.names.specs.Names.{recordsIn}
+use Rattle.names.specs.code.Links.{recordsIn}
 use Rattle.names.proofs.Chaining.{leftOf, Searching, search-start, search-place, search-short, search-less, search-found, search-on, search-done}
 use Rattle.names.proofs.find.Statement.{statement}
 use Rattle.names.proofs.find.Tie as tie

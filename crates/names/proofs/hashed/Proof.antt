@@ -1,12 +1,13 @@
 -- The invariant: the hash so far, with the bytes left, is that of all. Assumes nothing.
 use Prim.Native.Nat.{_-_, _≤_, _<_}
 use borrow.Author.Needs.{needs}
+use Rattle.names.specs.code.Chains.{hashes}
 use Rattle.names.proofs.Hashing.{Hashing, hash-start, hash-turn, hash-end}
 use Rattle.names.proofs.hashed.Statement.{statement}
 use Rattle.names.proofs.hashed.Tie as tie
 
 abbrev Inv-loop : tie.InvT-loop
-Inv-loop text from n basic h₀ i₀ h i = (i ≤ n) × (h < 4294967296) × Hashing basic text from n i h
+Inv-loop text from n basic h₀ i₀ h i = (i ≤ n) × (h < hashes) × Hashing basic text from n i h
 
 abbrev μ-loop : tie.MeasureT-loop
 μ-loop text from n basic h₀ i₀ h i = n - i

@@ -5,20 +5,21 @@ use mathlib.Core.Logic.{⊎-elim}
 use native.Mathlib.Omega.{arith}
 use borrow.Author.Needs.{needs}
 use lib.ListN.{length, length-set}
-use Rattle.names.specs.Chains.{Marking}
+use Rattle.places.specs.Sizes.{mostPieces}
+use Rattle.names.specs.code.Chains.{Marking}
 use Rattle.names.proofs.Tables.{all-zero, zeros-long}
 use Rattle.names.proofs.Twins.{none-marked, mark-passes, mark-named, mark-room, mark-takes, marks-whole}
 use Rattle.names.proofs.mark_twins.Statement.{statement}
 use Rattle.names.proofs.mark_twins.Tie as tie
 
 abbrev Inv-loop : tie.InvT-loop
-Inv-loop own n marks₀ any₀ i₀ marks any i = (i ≤ n) × (length marks ≡ 1024) × Marking own n i marks any
+Inv-loop own n marks₀ any₀ i₀ marks any i = (i ≤ n) × (length marks ≡ mostPieces) × Marking own n i marks any
 
 abbrev μ-loop : tie.MeasureT-loop
 μ-loop own n marks₀ any₀ i₀ marks any i = n - i
 
 loop-holds : tie.Need-loop-holds Inv-loop μ-loop
-loop-holds c = (search needs, zeros-long 1024 _ (c .pre .2), none-marked _ _ _ (all-zero 1024 _ (c .pre .2)))
+loop-holds c = (search needs, zeros-long mostPieces _ (c .pre .2), none-marked _ _ _ (all-zero mostPieces _ (c .pre .2)))
 
 mul-f : tie.Need-mul-f Inv-loop μ-loop
 mul-f c = search needs

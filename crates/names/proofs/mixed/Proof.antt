@@ -1,7 +1,7 @@
 -- A byte more, kept below 2 to the 32nd. Assumes nothing.
 use mathlib.Core.Path.{refl}
 use borrow.Author.Needs.{needs}
-use Rattle.names.specs.Chains.{mixedWith}
+use Rattle.names.specs.code.Chains.{mixedWith}
 use Rattle.names.proofs.mixed.Statement.{statement}
 use Rattle.names.proofs.mixed.Tie as tie
 

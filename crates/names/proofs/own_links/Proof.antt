@@ -4,19 +4,20 @@ use mathlib.Core.Path.{_≡_}
 use native.Mathlib.Omega.{arith}
 use borrow.Author.Needs.{needs}
 use lib.ListN.{length, length-set}
-use Rattle.names.specs.Names.{ownOf}
+use Rattle.places.specs.Sizes.{mostPieces}
+use Rattle.names.specs.code.Links.{ownOf}
 use Rattle.names.proofs.Tables.{Written, word-written, zeros-long}
 use Rattle.names.proofs.own_links.Statement.{statement}
 use Rattle.names.proofs.own_links.Tie as tie
 
 abbrev Inv-loop : tie.InvT-loop
-Inv-loop text elements items n rows heads next links own₀ i₀ own i = (i ≤ n) × (length own ≡ 1024) × Written (ownOf text elements items) own i
+Inv-loop text elements items n rows heads next links own₀ i₀ own i = (i ≤ n) × (length own ≡ mostPieces) × Written (ownOf text elements items) own i
 
 abbrev μ-loop : tie.MeasureT-loop
 μ-loop text elements items n rows heads next links own₀ i₀ own i = n - i
 
 loop-holds : tie.Need-loop-holds Inv-loop μ-loop
-loop-holds c = (search needs, zeros-long 1024 _ (c .before .before .before .before .pre .2), λ k h. absurd (omega arith))
+loop-holds c = (search needs, zeros-long mostPieces _ (c .before .before .before .before .pre .2), λ k h. absurd (omega arith))
 
 own-link-requires : tie.Need-own-link-requires Inv-loop μ-loop
 own-link-requires c κs = let r = c .before .before .before .before .before .before .pre in (r .1, r .3)

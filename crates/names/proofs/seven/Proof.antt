@@ -1,4 +1,4 @@
--- The three names, one behind the other. Assumes nothing.
+-- The three names, one after the other. Assumes nothing.
 use Rattle.names.proofs.Speaking.{seven-first, seven-second, seven-third}
 use borrow.Author.Needs.{needs}
 use Rattle.names.proofs.seven.Statement.{statement}

@@ -4,13 +4,13 @@ use mathlib.Core.Path.{_≡_, refl}
 use native.Mathlib.Omega.{arith}
 use borrow.Author.Needs.{needs}
 use lib.ListN.{length, length-set}
-use Rattle.names.specs.Names.{linkOf, below}
+use Rattle.names.specs.code.Links.{linkOf, upTo}
 use Rattle.names.proofs.Tables.{Written, word-written, all-written}
 use Rattle.names.proofs.write_links.Statement.{statement}
 use Rattle.names.proofs.write_links.Tie as tie
 
 abbrev Inv-loop : tie.InvT-loop
-Inv-loop text elements items rows heads next links₀ e₀ links e = (e ≤ length links₀) × (length links ≡ length links₀) × Written (below (linkOf text elements items) rows) links e
+Inv-loop text elements items rows heads next links₀ e₀ links e = (e ≤ length links₀) × (length links ≡ length links₀) × Written (upTo (linkOf text elements items) rows) links e
 
 abbrev μ-loop : tie.MeasureT-loop
 μ-loop text elements items rows heads next links₀ e₀ links e = length links₀ - e

@@ -4,13 +4,13 @@ use mathlib.Core.Path.{_≡_, refl}
 use native.Mathlib.Omega.{arith}
 use borrow.Author.Needs.{needs}
 use lib.ListN.{length, getD, length-set}
-use Rattle.names.specs.Names.{below}
+use Rattle.names.specs.code.Links.{upTo}
 use Rattle.names.proofs.Tables.{Written, word-written, all-written}
 use Rattle.names.proofs.write_words.Statement.{statement}
 use Rattle.names.proofs.write_words.Tie as tie
 
 abbrev Inv-loop : tie.InvT-loop
-Inv-loop from n to₀ i₀ to i = (i ≤ length to₀) × (length to ≡ length to₀) × Written (below (λ (k : ℕ). getD from k 0) n) to i
+Inv-loop from n to₀ i₀ to i = (i ≤ length to₀) × (length to ≡ length to₀) × Written (upTo (λ (k : ℕ). getD from k 0) n) to i
 
 abbrev μ-loop : tie.MeasureT-loop
 μ-loop from n to₀ i₀ to i = length to₀ - i

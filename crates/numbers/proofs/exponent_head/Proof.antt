@@ -1,4 +1,4 @@
--- A sign behind the E, or none. Assumes nothing.
+-- A sign after the E, or none. Assumes nothing.
 use Rattle.numbers.proofs.Laws.{head-two, head-one}
 use borrow.Author.Needs.{needs}
 use Rattle.numbers.proofs.exponent_head.Statement.{statement}

@@ -1,4 +1,4 @@
--- The digits, then the exponent behind them. Assumes nothing.
+-- The digits, then the exponent after them. Assumes nothing.
 use mathlib.Core.Bool.{true}
 use Rattle.numbers.proofs.Laws.{fraction-whole, exponent-fits}
 use Rattle.classes.proofs.Laws.{run-le}

@@ -1,4 +1,4 @@
--- The invariant: the value, with the rest of the digits behind it, is the value of the whole, each capped at 17. Assumes nothing.
+-- The invariant: the value, with the rest of the digits after it, is the value of the whole, each capped at 17. Assumes nothing.
 use borrow.Author.Needs.{needs}
 use Rattle.numbers.proofs.Spelled.{value-turn, value-end}
 use Rattle.numbers.specs.Numbers.{spelled}

@@ -83,6 +83,7 @@ unfolding spelling operatorOf
 returns-19 c = ap operatorOf (sym (c .match .keys19))
 
 returns-20 : tie.Need-returns-20
+unfolding spelling
 returns-20 c = search joins
 
 pub operator-of-spec : {M : Type 1} → statement M

@@ -19,6 +19,7 @@ unfolding spelling signOf
 returns-3 c = ap signOf (sym (c .if3 .taken))
 
 returns-4 : tie.Need-returns-4
+unfolding spelling
 returns-4 c = search pluses
 
 pub sign-of-spec : {M : Type 1} → statement M

@@ -1,4 +1,4 @@
--- Behind `end` and perhaps `package`. Assumes nothing.
+-- After `end` and perhaps `package`. Assumes nothing.
 use Rattle.pieces.proofs.Marks.{behind-two, behind-one}
 use borrow.Author.Needs.{needs}
 use Rattle.pieces.proofs.behind_word.Statement.{statement}

@@ -4,8 +4,8 @@ use borrow.Author.Needs.{needs}
 use Rattle.pieces.proofs.kind_in.Statement.{statement}
 use Rattle.pieces.proofs.kind_in.Tie as tie
 
-add-kind-of : tie.Need-add-kind-of
-add-kind-of c = search needs
+add-e : tie.Need-add-e
+add-e c = search needs
 
 kind-of-requires : tie.Need-kind-of-requires
 kind-of-requires c κs = search needs
@@ -17,4 +17,4 @@ returns-2 : tie.Need-returns-2
 returns-2 c = search piece-past
 
 pub kind-in-spec : {M : Type 1} → statement M
-kind-in-spec = tie.close (tie.spec add-kind-of kind-of-requires returns returns-2)
+kind-in-spec = tie.close (tie.spec add-e kind-of-requires returns returns-2)

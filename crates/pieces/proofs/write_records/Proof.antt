@@ -1,6 +1,7 @@
--- The invariant: the table, with the records of the rest stored behind, is the table with all of them. Assumes nothing.
+-- The invariant: the table, with the records of the rest stored after, is the table with all of them. Assumes nothing.
 use borrow.Author.Needs.{needs}
 use native.Mathlib.Omega.{arith}
+use Rattle.pieces.specs.Columns.{recordWords}
 use Rattle.pieces.proofs.Table.{place-fits, record-turn, room-here, room-turn, length-turn, records-end}
 use Rattle.pieces.proofs.Laws.{size-inside, at-fits, at-less}
 use Prim.Native.Nat.{_-_, _≤_, _+_, _*_}
@@ -9,12 +10,12 @@ use lib.ListN.{length, drop}
 use lib.Seq.{sets}
 use Rattle.pieces.specs.Kinds.{piecesOf}
 use Rattle.places.specs.Places.{kindsOf}
-use Rattle.pieces.specs.Records.{recordsFrom}
+use Rattle.pieces.specs.Records.{pendingRecords}
 use Rattle.pieces.proofs.write_records.Statement.{statement}
 use Rattle.pieces.proofs.write_records.Tie as tie
 
 abbrev Inv-loop : tie.InvT-loop
-Inv-loop elements n items₀ at₀ w₀ items at w = (at ≤ n) × (w + 8 * length (piecesOf (drop at (kindsOf n elements))) ≤ length items) × (length items ≡ length items₀) × (sets items w (recordsFrom at (piecesOf (drop at (kindsOf n elements)))) ≡ sets items₀ 0 (recordsFrom 0 (piecesOf (kindsOf n elements))))
+Inv-loop elements n items₀ at₀ w₀ items at w = (at ≤ n) × (w + recordWords * length (piecesOf (drop at (kindsOf n elements))) ≤ length items) × (length items ≡ length items₀) × (sets items w (pendingRecords at (piecesOf (drop at (kindsOf n elements)))) ≡ sets items₀ 0 (pendingRecords 0 (piecesOf (kindsOf n elements))))
 
 abbrev μ-loop : tie.MeasureT-loop
 μ-loop elements n items₀ at₀ w₀ items at w = n - at

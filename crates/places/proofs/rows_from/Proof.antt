@@ -20,7 +20,7 @@ part-result-end : tie.Need-part-result-end
 part-result-end c = search needs
 
 returns : tie.Need-returns
-returns c = rest-of (c .before .before .args .table .now) (c .before .before .args .i)
+returns c = rest-of (c .before .before .args .table .now) (c .before .before .args .e .0)
 
 mul-result-3 : tie.Need-mul-result-3
 mul-result-3 c = search needs
@@ -35,7 +35,7 @@ part-result-end-2 : tie.Need-part-result-end-2
 part-result-end-2 c = search needs
 
 returns-2 : tie.Need-returns-2
-returns-2 c = nothing-past (c .before .before .args .table .now) (c .before .before .args .i) (c .before .if1 .left)
+returns-2 c = nothing-past (c .before .before .args .table .now) (c .before .before .args .e .0) (c .before .if1 .left)
 
 pub rows-from-spec : {M : Type 1} → statement M
 rows-from-spec =

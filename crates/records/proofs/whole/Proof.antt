@@ -1,5 +1,6 @@
 -- The invariant: what the counts left say, all say. Assumes nothing.
 use borrow.Author.Needs.{needs}
+use Rattle.states.specs.States.{states}
 use Rattle.records.proofs.Laws.{whole-frame, whole-start, whole-stop, whole-turn, whole-end}
 use mathlib.Core.Path.{_≡_}
 use Prim.Native.Nat.{_-_, _≤_}
@@ -8,10 +9,10 @@ use Rattle.records.proofs.whole.Statement.{statement}
 use Rattle.records.proofs.whole.Tie as tie
 
 abbrev Inv-loop : tie.InvT-loop
-Inv-loop frame t k₀ k = (k ≤ 11) × (noneFrom (t .counts) k (11 - k) ≡ wholeOf frame t)
+Inv-loop frame t k₀ k = (k ≤ states) × (noneFrom (t .counts) k (states - k) ≡ wholeOf frame t)
 
 abbrev μ-loop : tie.MeasureT-loop
-μ-loop frame t k₀ k = 11 - k
+μ-loop frame t k₀ k = states - k
 
 returns : tie.Need-returns Inv-loop μ-loop
 returns c = search whole-frame

@@ -1,8 +1,8 @@
 -- `tree::body_len` meets its contract. The part of the sizes has a byte to each rule. Assumes nothing.
 use mathlib.Core.Path.{_∙_}
 use native.Mathlib.Omega.{arith}
-use Rattle.tables.proofs.Tables.{forms-size}
-use Rattle.tables.proofs.Lines.{size-is}
+use Rattle.form_table.proofs.Tables.{forms-size}
+use Rattle.form_table.proofs.Lines.{size-is}
 use borrow.Author.Needs.{needs}
 use Rattle.tree.proofs.body_len.Statement.{statement}
 use Rattle.tree.proofs.body_len.Tie as tie

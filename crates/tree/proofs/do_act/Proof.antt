@@ -3,7 +3,7 @@ use Prim.Native.Nat.{_+_}
 use mathlib.Core.Path.{sym, subst}
 use native.Mathlib.Omega.{arith}
 use lib.ListN.{set}
-use Rattle.alike.specs.Alike.{sameName}
+use Rattle.same_names.specs.Alike.{sameName}
 use Rattle.tree.specs.declared.Did.{Did}
 use Rattle.tree.proofs.Acts as acts
 use borrow.Author.Needs.{needs}
@@ -121,15 +121,19 @@ returns-6 c =
     let start = at-if6 .before .before .before .before .before .before .before .before .before .before .before in
     λ s h d. subst (λ (x : Did). acts.After (start .args .frames .now) (start .args .cells .now) (start .args .next .now) (start .args .heads .now) (start .args .fp) (start .args .used) (start .args .depth) (start .args .k) (sameName (start .args .text .now) (start .args .elements .now)) s h d x (start .args .frames .now) (start .args .cells .now) (start .args .next .now) (start .args .heads .now) (start .args .a)) (sym (c .went6 .ensures)) (acts.act-same (start .args .frames .now) (start .args .cells .now) (start .args .next .now) (start .args .heads .now) (start .args .fp) (start .args .used) (start .args .depth) (start .args .k) (sameName (start .args .text .now) (start .args .elements .now)) s h d (start .args .a) (at-is-named .is-named .result) (at-if6 .if6 .taken) (at-is-named .is-named .ensures) (at-if7 .if7 .taken))
 
+last-read-requires : tie.Need-last-read-requires
+last-read-requires c κs = search needs
+
 same-length-5 : tie.Need-same-length-5
 same-length-5 c = search needs
 
 returns-7 : tie.Need-returns-7
 returns-7 c =
-    let at-is-named = c .before in
+    let at-if7 = c .before in
+    let at-is-named = at-if7 .before in
     let at-if6 = at-is-named .before .before in
     let start = at-if6 .before .before .before .before .before .before .before .before .before .before .before in
-    λ s h d. acts.act-differs (start .args .frames .now) (start .args .cells .now) (start .args .next .now) (start .args .heads .now) (start .args .fp) (start .args .used) (start .args .depth) (start .args .k) (sameName (start .args .text .now) (start .args .elements .now)) s h d (start .args .a) (at-is-named .is-named .result) (at-if6 .if6 .taken) (at-is-named .is-named .ensures) (c .if7 .left)
+    λ s h d. acts.act-differs (start .args .frames .now) (start .args .cells .now) (start .args .next .now) (start .args .heads .now) (start .args .fp) (start .args .used) (start .args .depth) (start .args .k) (sameName (start .args .text .now) (start .args .elements .now)) s h d (start .args .a) (at-is-named .is-named .result) (c .last-read .result) (at-if6 .if6 .taken) (at-is-named .is-named .ensures) (at-if7 .if7 .left) (c .last-read .ensures)
 
 add-went-2 : tie.Need-add-went-2
 add-went-2 c = search needs
@@ -144,11 +148,15 @@ returns-8 c =
     let start = at-if8 .before .before .before .before .before .before .before .before .before .before .before .before in
     λ s h d. subst (λ (x : Did). acts.After (start .args .frames .now) (start .args .cells .now) (start .args .next .now) (start .args .heads .now) (start .args .fp) (start .args .used) (start .args .depth) (start .args .k) (sameName (start .args .text .now) (start .args .elements .now)) s h d x (start .args .frames .now) (start .args .cells .now) (start .args .next .now) (start .args .heads .now) (start .args .a)) (sym (c .went7 .ensures)) (acts.act-deeper (start .args .frames .now) (start .args .cells .now) (start .args .next .now) (start .args .heads .now) (start .args .fp) (start .args .used) (start .args .depth) (start .args .k) (sameName (start .args .text .now) (start .args .elements .now)) s h d (start .args .a) (at-if8 .if8 .taken) (at-if9 .if9 .taken))
 
+last-read-requires-2 : tie.Need-last-read-requires-2
+last-read-requires-2 c κs = search needs
+
 returns-9 : tie.Need-returns-9
 returns-9 c =
-    let at-if8 = c .before in
+    let at-if9 = c .before in
+    let at-if8 = at-if9 .before in
     let start = at-if8 .before .before .before .before .before .before .before .before .before .before .before .before in
-    λ s h d. acts.act-deep (start .args .frames .now) (start .args .cells .now) (start .args .next .now) (start .args .heads .now) (start .args .fp) (start .args .used) (start .args .depth) (start .args .k) (sameName (start .args .text .now) (start .args .elements .now)) s h d (start .args .a) (at-if8 .if8 .taken) (c .if9 .left)
+    λ s h d. acts.act-deep (start .args .frames .now) (start .args .cells .now) (start .args .next .now) (start .args .heads .now) (start .args .fp) (start .args .used) (start .args .depth) (start .args .k) (sameName (start .args .text .now) (start .args .elements .now)) s h d (start .args .a) (c .last-read2 .result) (at-if8 .if8 .taken) (at-if9 .if9 .left) (c .last-read2 .ensures)
 
 minus-requires-2 : tie.Need-minus-requires-2
 minus-requires-2 c κs = search needs
@@ -241,11 +249,13 @@ do-act-spec =
     went-requires-6
     same-length-4
     returns-6
+    last-read-requires
     same-length-5
     returns-7
     add-went-2
     went-requires-7
     returns-8
+    last-read-requires-2
     returns-9
     minus-requires-2
     went-requires-8

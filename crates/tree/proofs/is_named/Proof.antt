@@ -1,5 +1,5 @@
 -- `tree::is_named` meets its contract. A frame with no name has none like it. Assumes nothing.
-use Rattle.alike.specs.Alike.{sameName}
+use Rattle.same_names.specs.Alike.{sameName}
 use Rattle.tree.proofs.Acts.{nameless, named-by}
 use borrow.Author.Needs.{needs}
 use Rattle.tree.proofs.is_named.Statement.{statement}
@@ -19,21 +19,21 @@ returns c =
     let start = c .before .before .before .before .before in
     nameless (sameName (start .args .text .now) (start .args .elements .now)) _ (start .args .k) (c .if1 .taken)
 
-sub-same-name : tie.Need-sub-same-name
-sub-same-name c = search needs
+sub-name : tie.Need-sub-name
+sub-name c = search needs
 
-minus-requires : tie.Need-minus-requires
-minus-requires c κs = search needs
+last-read-requires : tie.Need-last-read-requires
+last-read-requires c κs = search needs
 
 same-name-requires : tie.Need-same-name-requires
 same-name-requires c κs = search needs
 
 returns-2 : tie.Need-returns-2
 returns-2 c =
-    let at-minus = c .before in
-    let at-if1 = at-minus .before in
+    let at-last-read = c .before in
+    let at-if1 = at-last-read .before in
     let start = at-if1 .before .before .before .before .before in
-    named-by (sameName (start .args .text .now) (start .args .elements .now)) _ (start .args .k) (at-minus .minus .result) (c .same-name .result) (at-if1 .if1 .left) (at-minus .minus .ensures) (c .same-name .ensures)
+    named-by (sameName (start .args .text .now) (start .args .elements .now)) _ (start .args .k) (at-last-read .last-read .result .0) (c .same-name .result) (at-if1 .if1 .left) (at-last-read .last-read .ensures) (c .same-name .ensures)
 
 pub is-named-spec : {M : Type 1} → statement M
 is-named-spec =
@@ -43,7 +43,7 @@ is-named-spec =
     mul-n
     shared-slice-read-n
     returns
-    sub-same-name
-    minus-requires
+    sub-name
+    last-read-requires
     same-name-requires
     returns-2)

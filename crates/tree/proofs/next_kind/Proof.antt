@@ -2,7 +2,7 @@
 use mathlib.Core.Path.{_∙_}
 use native.Mathlib.Omega.{arith}
 use Rattle.forms.specs.Kinds.{numberOf, other}
-use Rattle.tables.proofs.Tables.{forms-size, kind-at, kind-past}
+use Rattle.form_table.proofs.Tables.{forms-size, kind-at, kind-past}
 use Rattle.tree.proofs.Lists.{terminals-at, terminals-end}
 use borrow.Author.Needs.{needs}
 use Rattle.tree.proofs.next_kind.Statement.{statement}

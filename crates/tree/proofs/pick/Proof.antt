@@ -1,7 +1,7 @@
 -- `tree::pick` meets its contract. The part of the rules has a line to each name, a byte to each kind. Assumes nothing.
 use mathlib.Core.Path.{_∙_}
 use native.Mathlib.Omega.{arith}
-use Rattle.tables.proofs.Tables.{forms-size, pick-at}
+use Rattle.form_table.proofs.Tables.{forms-size, pick-at}
 use borrow.Author.Needs.{needs}
 use Rattle.tree.proofs.pick.Statement.{statement}
 use Rattle.tree.proofs.pick.Tie as tie

@@ -6,9 +6,9 @@ use mathlib.Core.Path.{_≡_, refl, _∙_, ap}
 use mathlib.Core.List.{_++_}
 use lib.ListN.{length, drop, length-set}
 use Rattle.forms.specs.Rules.{body}
-use Rattle.tables.specs.Symbols.{symOf, syms}
-use Rattle.tables.proofs.Tables.{forms-size}
-use Rattle.tables.proofs.Lines.{ruled, body-place, body-is}
+use Rattle.form_table.specs.Symbols.{symOf, syms}
+use Rattle.form_table.proofs.Tables.{forms-size}
+use Rattle.form_table.proofs.Lines.{ruled, body-place, body-is}
 use Rattle.tree.proofs.Lists.{push-start, push-more, push-end}
 use Rattle.tree.proofs.push.Statement.{statement}
 use Rattle.tree.proofs.push.Tie as tie

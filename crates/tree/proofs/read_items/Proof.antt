@@ -1,6 +1,7 @@
 -- Zeros first, then the rows of each piece. Assumes nothing.
 use mathlib.Core.Path.{sym, _∙_, ap}
 use lib.ListN.{length}
+use Rattle.tree.specs.code.Room.{stackWords, framesWords, mostRows, cellsWords}
 use Rattle.tree.proofs.Zeros.{zeros, zeros-size}
 use Rattle.tree.proofs.Written.{all-in, all-small, all-room, all-rows}
 use borrow.Author.Needs.{needs}
@@ -48,11 +49,7 @@ read-pieces-requires c κs =
       all-small (start .args .elements .now) (start .args .count) (at-least2 .least2 .result) (at-least .least .result) (length (start .args .rows .now)) (length (at-clear .clear .last .0)) (at-clear .clear .kept .0) (at-least .least .ensures) (at-least2 .least2 .ensures),
       all-room (start .args .elements .now) (start .args .count) (at-least2 .least2 .result) (at-least .least .result) (length (start .args .rows .now)) (length (at-clear .clear .last .0)) (at-clear .clear .kept .0) (at-least .least .ensures) (at-least2 .least2 .ensures),
       at-clear .clear .ensures ∙ ap zeros (sym (at-clear .clear .kept .0)),
-      zeros-size 2176,
-      zeros-size 8708,
-      zeros-size 51840,
-      zeros-size 10368,
-      zeros-size 10368,
+      record { stack = zeros-size stackWords; framed = zeros-size framesWords; rows = zeros-size cellsWords; links = zeros-size mostRows; firsts = zeros-size mostRows },
       at-forms .forms .ensures,
     )
 

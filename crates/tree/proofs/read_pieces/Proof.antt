@@ -1,9 +1,10 @@
--- The invariant: the words of the pieces so far stand, and zeros behind them. Assumes nothing.
+-- The invariant: the words of the pieces so far stand, and zeros after them. Assumes nothing.
 use Prim.Native.Nat.{_≤_, _-_}
 use mathlib.Core.Path.{_≡_, refl, sym, _∙_}
 use native.Mathlib.Omega.{arith}
 use borrow.Author.Needs.{needs}
 use lib.ListN.{length}
+use Rattle.tree.specs.code.Room.{stackWords, framesWords, mostRows, cellsWords}
 use Rattle.tree.proofs.Written as written
 use Rattle.tree.proofs.Written.{Written}
 use Rattle.tree.proofs.read_pieces.Statement.{statement}
@@ -12,11 +13,11 @@ use Rattle.tree.proofs.read_pieces.Tie as tie
 abbrev Inv-loop : tie.InvT-loop
 Inv-loop elements n stk₀ frames₀ cells₀ next₀ heads₀ forms rows₀ at₀ stk frames cells next heads rows at =
     (at ≤ n)
-    × (length stk ≡ 2176)
-    × (length frames ≡ 8708)
-    × (length cells ≡ 51840)
-    × (length next ≡ 10368)
-    × (length heads ≡ 10368)
+    × (length stk ≡ stackWords)
+    × (length frames ≡ framesWords)
+    × (length cells ≡ cellsWords)
+    × (length next ≡ mostRows)
+    × (length heads ≡ mostRows)
     × (length rows ≡ length rows₀)
     × Written n elements rows (length rows₀) at
 
@@ -26,7 +27,7 @@ abbrev μ-loop : tie.MeasureT-loop
 loop-holds : tie.Need-loop-holds Inv-loop μ-loop
 loop-holds c =
     let start = c .before .before .before .before .before .before .before .before in
-    (omega arith, start .pre .4, start .pre .5, start .pre .6, start .pre .7, start .pre .8, refl, written.written-start (start .args .n) (start .args .elements .now) (start .args .rows .now) (start .pre .3))
+    (omega arith, start .pre .4 .stack, start .pre .4 .framed, start .pre .4 .rows, start .pre .4 .links, start .pre .4 .firsts, refl, written.written-start (start .args .n) (start .args .elements .now) (start .args .rows .now) (start .pre .3))
 
 piece-size-requires : tie.Need-piece-size-requires Inv-loop μ-loop
 piece-size-requires c κs = search needs
@@ -62,12 +63,8 @@ read-piece-requires c κs =
       written.turn-part (start .args .n) (start .args .elements .now) (at-loop .loop .at) (at-piece-size .piece-size .result) (length (start .args .rows .now)) (start .pre .0) (start .pre .2) (at-loop-test .loop-test .taken) (at-piece-size .piece-size .ensures) (at-rows-from .rows-from .result .now) (at-rows-from .rows-from .ensures),
       omega arith,
       written.turn-room (start .args .n) (start .args .elements .now) (at-loop .loop .at) (at-piece-size .piece-size .result) (length (start .args .rows .now)) (start .pre .0) (start .pre .2) (at-loop-test .loop-test .taken) (at-piece-size .piece-size .ensures) (at-loop .loop .rows) (at-loop .loop .inv .6),
-      at-loop .loop .inv .1,
-      at-loop .loop .inv .2,
-      at-loop .loop .inv .3,
-      at-loop .loop .inv .4,
-      at-loop .loop .inv .5,
-      start .pre .9,
+      record { stack = at-loop .loop .inv .1; framed = at-loop .loop .inv .2; rows = at-loop .loop .inv .3; links = at-loop .loop .inv .4; firsts = at-loop .loop .inv .5 },
+      start .pre .5,
     )
 
 add-at : tie.Need-add-at Inv-loop μ-loop
@@ -108,31 +105,31 @@ same-length : tie.Need-same-length Inv-loop μ-loop
 same-length c =
     let at-loop = c .before in
     let start = at-loop .before .before .before .before .before .before .before .before .before in
-    at-loop .loop .inv .1 ∙ sym (start .pre .4)
+    at-loop .loop .inv .1 ∙ sym (start .pre .4 .stack)
 
 same-length-2 : tie.Need-same-length-2 Inv-loop μ-loop
 same-length-2 c =
     let at-loop = c .before in
     let start = at-loop .before .before .before .before .before .before .before .before .before in
-    at-loop .loop .inv .2 ∙ sym (start .pre .5)
+    at-loop .loop .inv .2 ∙ sym (start .pre .4 .framed)
 
 same-length-3 : tie.Need-same-length-3 Inv-loop μ-loop
 same-length-3 c =
     let at-loop = c .before in
     let start = at-loop .before .before .before .before .before .before .before .before .before in
-    at-loop .loop .inv .3 ∙ sym (start .pre .6)
+    at-loop .loop .inv .3 ∙ sym (start .pre .4 .rows)
 
 same-length-4 : tie.Need-same-length-4 Inv-loop μ-loop
 same-length-4 c =
     let at-loop = c .before in
     let start = at-loop .before .before .before .before .before .before .before .before .before in
-    at-loop .loop .inv .4 ∙ sym (start .pre .7)
+    at-loop .loop .inv .4 ∙ sym (start .pre .4 .links)
 
 same-length-5 : tie.Need-same-length-5 Inv-loop μ-loop
 same-length-5 c =
     let at-loop = c .before in
     let start = at-loop .before .before .before .before .before .before .before .before .before in
-    at-loop .loop .inv .5 ∙ sym (start .pre .8)
+    at-loop .loop .inv .5 ∙ sym (start .pre .4 .firsts)
 
 same-length-6 : tie.Need-same-length-6 Inv-loop μ-loop
 same-length-6 c = c .before .loop .inv .6

@@ -3,6 +3,7 @@ use mathlib.Core.Path.{refl, sym, _∙_, ap}
 use mathlib.Core.Logic.{inl}
 use native.Mathlib.Omega.{arith}
 use lib.ListN.{length}
+use Rattle.tree.specs.code.Room.{stackWords, framesWords, mostRows, cellsWords}
 use Rattle.tree.specs.Answers.{readingIn, elementsIn}
 use Rattle.tree.proofs.Zeros.{zeros, zeros-size}
 use Rattle.tree.proofs.Final.{says-tree, says-short, says-unread, whole-asks, in-table, in-size, rooms, told}
@@ -42,13 +43,13 @@ scan-requires c κs =
     let at-forms = c .before .before .before .before .before .before in
     let at-least = at-forms .before in
     let start = at-least .before .before .before .before .before .before .before .before in
-    (in-table (start .args .elements .now) (start .args .count) (at-least .least .result) (at-least .least .ensures), in-size (start .args .elements .now) (start .args .count) (at-least .least .result) (at-least .least .ensures), inl refl, zeros-size 2176, zeros-size 8708, zeros-size 51840, zeros-size 10368, zeros-size 10368, at-forms .forms .ensures)
+    (in-table (start .args .elements .now) (start .args .count) (at-least .least .result) (at-least .least .ensures), in-size (start .args .elements .now) (start .args .count) (at-least .least .result) (at-least .least .ensures), inl refl, record { stack = zeros-size stackWords; framed = zeros-size framesWords; rows = zeros-size cellsWords; links = zeros-size mostRows; firsts = zeros-size mostRows }, at-forms .forms .ensures)
 
 enum-known-found : tie.Need-enum-known-found
 enum-known-found c = search needs
 
-answered-requires : tie.Need-answered-requires
-answered-requires c κs = search needs
+enum-told : tie.Need-enum-told
+enum-told c = search needs
 
 same-length : tie.Need-same-length
 same-length c = search needs
@@ -59,7 +60,7 @@ returns c =
     let at-least = at-scan .before .before .before .before .before .before .before .before in
     let at-clear = at-least .before .before .before in
     let start = at-clear .before .before .before .before .before in
-    says-unread (at-scan .scan .last .1 .1 .1 .1 .1 .1 .0) (at-scan .scan .last .1 .1 .1 .1 .1 .1 .1 .0) (at-scan .scan .last .1 .1 .1 .1 .1 .1 .1 .1 .0) (at-scan .scan .result) (readingIn (start .args .text .now) (start .args .elements .now) (elementsIn (start .args .elements .now) (start .args .count))) (told (at-scan .scan .result) (at-scan .scan .last .1 .1 .1 .1 .1 .1 .0) (at-scan .scan .last .1 .1 .1 .1 .1 .1 .1 .0) (at-scan .scan .last .1 .1 .1 .1 .1 .1 .1 .1 .0) (start .args .text .now) (start .args .elements .now) (at-least .least .result) (start .args .count) (at-least .least .ensures) (at-scan .scan .ensures)) (c .answered .result) (length (start .args .tree .now)) (at-clear .clear .last .0) (c .before .match .keys2) (c .answered .ensures) (at-clear .clear .ensures)
+    says-unread (at-scan .scan .last .1 .1 .1 .1 .1 .1 .0) (at-scan .scan .last .1 .1 .1 .1 .1 .1 .1 .0) (at-scan .scan .last .1 .1 .1 .1 .1 .1 .1 .1 .0) (at-scan .scan .result) (readingIn (start .args .text .now) (start .args .elements .now) (elementsIn (start .args .elements .now) (start .args .count))) (told (at-scan .scan .result) (at-scan .scan .last .1 .1 .1 .1 .1 .1 .0) (at-scan .scan .last .1 .1 .1 .1 .1 .1 .1 .0) (at-scan .scan .last .1 .1 .1 .1 .1 .1 .1 .1 .0) (start .args .text .now) (start .args .elements .now) (at-least .least .result) (start .args .count) (at-least .least .ensures) (at-scan .scan .ensures)) _ (length (start .args .tree .now)) (at-clear .clear .last .0) (c .enum-told .given .1) (at-clear .clear .ensures)
 
 same-length-2 : tie.Need-same-length-2
 same-length-2 c = search needs
@@ -94,7 +95,7 @@ write-out-requires c κs =
     let kc = at-scan .scan .kept .1 .1 .1 .1 .1 .1 .0 in
     let kn = at-scan .scan .kept .1 .1 .1 .1 .1 .1 .1 .0 in
     let kh = at-scan .scan .kept .1 .1 .1 .1 .1 .1 .1 .1 .0 in
-    (w .0, omega (arith, at-if1 .if1 .left), omega (arith, zeros-size 51840), omega (arith, zeros-size 10368), omega (arith, zeros-size 10368), w .1, w .2)
+    (w .0, omega (arith, at-if1 .if1 .left), omega (arith, zeros-size cellsWords), omega (arith, zeros-size mostRows), omega (arith, zeros-size mostRows), w .1, w .2)
 
 same-length-3 : tie.Need-same-length-3
 same-length-3 c = search needs
@@ -125,7 +126,7 @@ read-tree-spec =
     slice-aggregate-scan-6
     scan-requires
     enum-known-found
-    answered-requires
+    enum-told
     same-length
     returns
     same-length-2

@@ -6,9 +6,10 @@ use borrow.Author.Needs.{needs}
 use lib.ListN.{length, getD, drop}
 use Rattle.forms.specs.Kinds.{kindCount}
 use Rattle.forms.specs.code.Picks.{predict}
-use Rattle.tables.specs.Symbols.{symOf, syms}
-use Rattle.alike.specs.Alike.{sameName}
+use Rattle.form_table.specs.Symbols.{symOf, syms}
+use Rattle.same_names.specs.Alike.{sameName}
 use Rattle.forms.specs.Reading.{readingFrom}
+use Rattle.tree.specs.code.Room.{stackWords, framesWords, mostRows, cellsWords}
 use Rattle.tree.specs.Answers.{terminalsOf}
 use Rattle.tree.proofs.Going as going
 use Rattle.tree.proofs.Going.{Going}
@@ -19,12 +20,12 @@ use Rattle.tree.proofs.scan.Tie as tie
 
 abbrev Inv-loop : tie.InvT-loop
 Inv-loop from text elements count stk₀ frames₀ cells₀ next₀ heads₀ forms sp₀ fp₀ depth₀ used₀ at₀ stk frames cells next heads sp fp depth used at =
-    (length stk ≡ 2176)
-    × (sp ≤ 2176)
-    × (length frames ≡ 8708)
-    × (length cells ≡ 51840)
-    × (length next ≡ 10368)
-    × (length heads ≡ 10368)
+    (length stk ≡ stackWords)
+    × (sp ≤ stackWords)
+    × (length frames ≡ framesWords)
+    × (length cells ≡ cellsWords)
+    × (length next ≡ mostRows)
+    × (length heads ≡ mostRows)
     × (at ≤ count)
     × Going text elements count (readingFrom (symOf from) (sameName text elements) (terminalsOf count elements)) (syms (drop sp stk)) frames cells next heads fp depth used at
 
@@ -34,20 +35,20 @@ abbrev μ-loop : tie.MeasureT-loop
 begin-requires : tie.Need-begin-requires Inv-loop μ-loop
 begin-requires c κs =
     let start = c .before .before .before .before .before .before .before .before .before .before .before in
-    (start .pre .3, start .pre .4, start .pre .7)
+    (start .pre .3 .stack, start .pre .3 .framed, start .pre .3 .firsts)
 
 loop-holds : tie.Need-loop-holds Inv-loop μ-loop
 loop-holds c =
     let at-begin = c .before .before .before .before .before .before in
     let start = at-begin .before .before .before .before .before .before .before .before .before .before .before .before in (
-      at-begin .begin .kept .1 .0 ∙ start .pre .3,
+      at-begin .begin .kept .1 .0 ∙ start .pre .3 .stack,
       omega arith,
-      at-begin .begin .kept .1 .1 .0 ∙ start .pre .4,
-      start .pre .5,
-      start .pre .6,
-      at-begin .begin .kept .1 .1 .1 .0 ∙ start .pre .7,
+      at-begin .begin .kept .1 .1 .0 ∙ start .pre .3 .framed,
+      start .pre .3 .rows,
+      start .pre .3 .links,
+      at-begin .begin .kept .1 .1 .1 .0 ∙ start .pre .3 .firsts,
       omega arith,
-      turns.first-turn (start .args .text .now) (start .args .elements .now) (start .args .count) (start .args .from) (at-begin .begin .last .1 .0) (at-begin .begin .last .1 .1 .0) (start .args .cells .now) (start .args .next .now) (at-begin .begin .last .1 .1 .1 .0) (at-begin .begin .ensures .0) (at-begin .begin .kept .1 .1 .0 ∙ start .pre .4) (at-begin .begin .ensures .1) (at-begin .begin .ensures .2) (start .pre .2),
+      turns.first-turn (start .args .text .now) (start .args .elements .now) (start .args .count) (start .args .from) (at-begin .begin .last .1 .0) (at-begin .begin .last .1 .1 .0) (start .args .cells .now) (start .args .next .now) (at-begin .begin .last .1 .1 .1 .0) (at-begin .begin .ensures .0) (at-begin .begin .kept .1 .1 .0 ∙ start .pre .3 .framed) (at-begin .begin .ensures .1) (at-begin .begin .ensures .2) (start .pre .2),
     )
 
 mul-top : tie.Need-mul-top Inv-loop μ-loop
@@ -60,31 +61,31 @@ same-length : tie.Need-same-length Inv-loop μ-loop
 same-length c =
     let at-loop = c .before .before .before .before in
     let start = at-loop .before .before .before .before .before .before .before .before .before .before .before .before .before .before .before .before .before .before .before in
-    at-loop .loop .inv .0 ∙ sym (start .pre .3)
+    at-loop .loop .inv .0 ∙ sym (start .pre .3 .stack)
 
 same-length-2 : tie.Need-same-length-2 Inv-loop μ-loop
 same-length-2 c =
     let at-loop = c .before .before .before .before in
     let start = at-loop .before .before .before .before .before .before .before .before .before .before .before .before .before .before .before .before .before .before .before in
-    at-loop .loop .inv .2 ∙ sym (start .pre .4)
+    at-loop .loop .inv .2 ∙ sym (start .pre .3 .framed)
 
 same-length-3 : tie.Need-same-length-3 Inv-loop μ-loop
 same-length-3 c =
     let at-loop = c .before .before .before .before in
     let start = at-loop .before .before .before .before .before .before .before .before .before .before .before .before .before .before .before .before .before .before .before in
-    at-loop .loop .inv .3 ∙ sym (start .pre .5)
+    at-loop .loop .inv .3 ∙ sym (start .pre .3 .rows)
 
 same-length-4 : tie.Need-same-length-4 Inv-loop μ-loop
 same-length-4 c =
     let at-loop = c .before .before .before .before in
     let start = at-loop .before .before .before .before .before .before .before .before .before .before .before .before .before .before .before .before .before .before .before in
-    at-loop .loop .inv .4 ∙ sym (start .pre .6)
+    at-loop .loop .inv .4 ∙ sym (start .pre .3 .links)
 
 same-length-5 : tie.Need-same-length-5 Inv-loop μ-loop
 same-length-5 c =
     let at-loop = c .before .before .before .before in
     let start = at-loop .before .before .before .before .before .before .before .before .before .before .before .before .before .before .before .before .before .before .before in
-    at-loop .loop .inv .5 ∙ sym (start .pre .7)
+    at-loop .loop .inv .5 ∙ sym (start .pre .3 .firsts)
 
 returns : tie.Need-returns Inv-loop μ-loop
 returns c =
@@ -97,37 +98,37 @@ returns c =
 next-kind-requires : tie.Need-next-kind-requires Inv-loop μ-loop
 next-kind-requires c κs =
     let start = c .before .before .before .before .before .before .before .before .before .before .before .before .before .before .before .before .before .before .before .before .before .before .before in
-    (start .pre .8, start .pre .0)
+    (start .pre .4, start .pre .0)
 
 same-length-6 : tie.Need-same-length-6 Inv-loop μ-loop
 same-length-6 c =
     let at-loop = c .before .before .before .before .before .before in
     let start = at-loop .before .before .before .before .before .before .before .before .before .before .before .before .before .before .before .before .before .before .before in
-    at-loop .loop .inv .0 ∙ sym (start .pre .3)
+    at-loop .loop .inv .0 ∙ sym (start .pre .3 .stack)
 
 same-length-7 : tie.Need-same-length-7 Inv-loop μ-loop
 same-length-7 c =
     let at-loop = c .before .before .before .before .before .before in
     let start = at-loop .before .before .before .before .before .before .before .before .before .before .before .before .before .before .before .before .before .before .before in
-    at-loop .loop .inv .2 ∙ sym (start .pre .4)
+    at-loop .loop .inv .2 ∙ sym (start .pre .3 .framed)
 
 same-length-8 : tie.Need-same-length-8 Inv-loop μ-loop
 same-length-8 c =
     let at-loop = c .before .before .before .before .before .before in
     let start = at-loop .before .before .before .before .before .before .before .before .before .before .before .before .before .before .before .before .before .before .before in
-    at-loop .loop .inv .3 ∙ sym (start .pre .5)
+    at-loop .loop .inv .3 ∙ sym (start .pre .3 .rows)
 
 same-length-9 : tie.Need-same-length-9 Inv-loop μ-loop
 same-length-9 c =
     let at-loop = c .before .before .before .before .before .before in
     let start = at-loop .before .before .before .before .before .before .before .before .before .before .before .before .before .before .before .before .before .before .before in
-    at-loop .loop .inv .4 ∙ sym (start .pre .6)
+    at-loop .loop .inv .4 ∙ sym (start .pre .3 .links)
 
 same-length-10 : tie.Need-same-length-10 Inv-loop μ-loop
 same-length-10 c =
     let at-loop = c .before .before .before .before .before .before in
     let start = at-loop .before .before .before .before .before .before .before .before .before .before .before .before .before .before .before .before .before .before .before in
-    at-loop .loop .inv .5 ∙ sym (start .pre .7)
+    at-loop .loop .inv .5 ∙ sym (start .pre .3 .firsts)
 
 returns-2 : tie.Need-returns-2 Inv-loop μ-loop
 returns-2 c =
@@ -175,43 +176,43 @@ loop-again c =
 next-kind-requires-2 : tie.Need-next-kind-requires-2 Inv-loop μ-loop
 next-kind-requires-2 c κs =
     let start = c .before .before .before .before .before .before .before .before .before .before .before .before .before .before .before .before .before .before .before .before .before .before .before in
-    (start .pre .8, start .pre .0)
+    (start .pre .4, start .pre .0)
 
 pick-requires : tie.Need-pick-requires Inv-loop μ-loop
 pick-requires c κs =
     let at-loop = c .before .before .before .before .before in
     let start = at-loop .before .before .before .before .before .before .before .before .before .before .before .before .before .before .before .before .before .before .before in
-    (start .pre .8, omega arith, kind-small (start .args .count) (start .args .elements .now) (at-loop .loop .at) (c .next-kind2 .result) (c .next-kind2 .ensures))
+    (start .pre .4, omega arith, kind-small (start .args .count) (start .args .elements .now) (at-loop .loop .at) (c .next-kind2 .result) (c .next-kind2 .ensures))
 
 same-length-11 : tie.Need-same-length-11 Inv-loop μ-loop
 same-length-11 c =
     let at-loop = c .before .before .before .before .before .before .before in
     let start = at-loop .before .before .before .before .before .before .before .before .before .before .before .before .before .before .before .before .before .before .before in
-    at-loop .loop .inv .0 ∙ sym (start .pre .3)
+    at-loop .loop .inv .0 ∙ sym (start .pre .3 .stack)
 
 same-length-12 : tie.Need-same-length-12 Inv-loop μ-loop
 same-length-12 c =
     let at-loop = c .before .before .before .before .before .before .before in
     let start = at-loop .before .before .before .before .before .before .before .before .before .before .before .before .before .before .before .before .before .before .before in
-    at-loop .loop .inv .2 ∙ sym (start .pre .4)
+    at-loop .loop .inv .2 ∙ sym (start .pre .3 .framed)
 
 same-length-13 : tie.Need-same-length-13 Inv-loop μ-loop
 same-length-13 c =
     let at-loop = c .before .before .before .before .before .before .before in
     let start = at-loop .before .before .before .before .before .before .before .before .before .before .before .before .before .before .before .before .before .before .before in
-    at-loop .loop .inv .3 ∙ sym (start .pre .5)
+    at-loop .loop .inv .3 ∙ sym (start .pre .3 .rows)
 
 same-length-14 : tie.Need-same-length-14 Inv-loop μ-loop
 same-length-14 c =
     let at-loop = c .before .before .before .before .before .before .before in
     let start = at-loop .before .before .before .before .before .before .before .before .before .before .before .before .before .before .before .before .before .before .before in
-    at-loop .loop .inv .4 ∙ sym (start .pre .6)
+    at-loop .loop .inv .4 ∙ sym (start .pre .3 .links)
 
 same-length-15 : tie.Need-same-length-15 Inv-loop μ-loop
 same-length-15 c =
     let at-loop = c .before .before .before .before .before .before .before in
     let start = at-loop .before .before .before .before .before .before .before .before .before .before .before .before .before .before .before .before .before .before .before in
-    at-loop .loop .inv .5 ∙ sym (start .pre .7)
+    at-loop .loop .inv .5 ∙ sym (start .pre .3 .firsts)
 
 returns-3 : tie.Need-returns-3 Inv-loop μ-loop
 returns-3 c =
@@ -236,7 +237,7 @@ body-len-requires c κs =
     let at-loop-test = at-if1 .before .before in
     let at-loop = at-loop-test .before in
     let start = at-loop .before .before .before .before .before .before .before .before .before .before .before .before .before .before .before .before .before .before .before in
-    (start .pre .8, turns.rule-in (start .args .text .now) (start .args .elements .now) (start .args .count) (at-loop .loop .stk) (at-loop .loop .sp) (at-loop .loop .inv .0) (at-loop .loop .at) (at-next-kind2 .next-kind2 .result) (at-pick .pick .result) (at-loop-test .loop-test .taken) (at-if1 .if1 .left) (at-if4 .if4 .taken) (at-next-kind2 .next-kind2 .ensures) (at-pick .pick .ensures) (c .if5 .left))
+    (start .pre .4, turns.rule-in (start .args .text .now) (start .args .elements .now) (start .args .count) (at-loop .loop .stk) (at-loop .loop .sp) (at-loop .loop .inv .0) (at-loop .loop .at) (at-next-kind2 .next-kind2 .result) (at-pick .pick .result) (at-loop-test .loop-test .taken) (at-if1 .if1 .left) (at-if4 .if4 .taken) (at-next-kind2 .next-kind2 .ensures) (at-pick .pick .ensures) (c .if5 .left))
 
 add-push : tie.Need-add-push Inv-loop μ-loop
 add-push c = omega arith
@@ -252,7 +253,7 @@ push-requires c κs =
     let at-loop-test = at-if1 .before .before in
     let at-loop = at-loop-test .before in
     let start = at-loop .before .before .before .before .before .before .before .before .before .before .before .before .before .before .before .before .before .before .before in
-    (at-body-len .body-len .ensures, turns.rule-room (start .args .text .now) (start .args .elements .now) (start .args .count) (at-loop .loop .stk) (at-loop .loop .sp) (at-loop .loop .inv .0) (at-loop .loop .at) (at-next-kind2 .next-kind2 .result) (at-pick .pick .result) (at-loop-test .loop-test .taken) (at-if1 .if1 .left) (at-if4 .if4 .taken) (at-next-kind2 .next-kind2 .ensures) (at-pick .pick .ensures) (at-if5 .if5 .left) (at-loop .loop .inv .7) (at-body-len .body-len .result) (at-body-len .body-len .ensures), omega arith, start .pre .8)
+    (at-body-len .body-len .ensures, turns.rule-room (start .args .text .now) (start .args .elements .now) (start .args .count) (at-loop .loop .stk) (at-loop .loop .sp) (at-loop .loop .inv .0) (at-loop .loop .at) (at-next-kind2 .next-kind2 .result) (at-pick .pick .result) (at-loop-test .loop-test .taken) (at-if1 .if1 .left) (at-if4 .if4 .taken) (at-next-kind2 .next-kind2 .ensures) (at-pick .pick .ensures) (at-if5 .if5 .left) (at-loop .loop .inv .7) (at-body-len .body-len .result) (at-body-len .body-len .ensures), omega arith, start .pre .4)
 
 add-sp-2 : tie.Need-add-sp-2 Inv-loop μ-loop
 add-sp-2 c = omega arith
@@ -357,179 +358,123 @@ loop-again-3 c =
       going.goes-by (start .args .text .now) (start .args .elements .now) (start .args .count) _ g (d .result) _ (d .last .1 .1 .1 .1 .0) (d .last .1 .1 .1 .1 .1 .0) (d .last .1 .1 .1 .1 .1 .1 .0) (d .last .1 .1 .1 .1 .1 .1 .1 .0) (at-r .r .given .1) (d .ensures (g .state) (g .held) (g .deep)),
     )
 
-enum-told : tie.Need-enum-told Inv-loop μ-loop
-enum-told c = search needs
-
-minus-requires : tie.Need-minus-requires Inv-loop μ-loop
-minus-requires c κs = search needs
+enum-known-r-2 : tie.Need-enum-known-r-2 Inv-loop μ-loop
+enum-known-r-2 c = search needs
 
 same-length-16 : tie.Need-same-length-16 Inv-loop μ-loop
 same-length-16 c =
     let at-loop = c .before .before .before .before .before .before .before .before .before .before .before .before .before .before .before .before .before .before .before .before in
     let start = at-loop .before .before .before .before .before .before .before .before .before .before .before .before .before .before .before .before .before .before .before in
-    at-loop .loop .inv .0 ∙ sym (start .pre .3)
+    at-loop .loop .inv .0 ∙ sym (start .pre .3 .stack)
 
 same-length-17 : tie.Need-same-length-17 Inv-loop μ-loop
 same-length-17 c =
     let at-do-act = c .before .before .before .before .before .before .before .before .before .before .before in
     let at-loop = at-do-act .before .before .before .before .before .before .before .before .before in
     let start = at-loop .before .before .before .before .before .before .before .before .before .before .before .before .before .before .before .before .before .before .before in
-    at-do-act .do-act .kept .1 .1 .1 .1 .0 ∙ at-loop .loop .inv .2 ∙ sym (start .pre .4)
+    at-do-act .do-act .kept .1 .1 .1 .1 .0 ∙ at-loop .loop .inv .2 ∙ sym (start .pre .3 .framed)
 
 same-length-18 : tie.Need-same-length-18 Inv-loop μ-loop
 same-length-18 c =
     let at-do-act = c .before .before .before .before .before .before .before .before .before .before .before in
     let at-loop = at-do-act .before .before .before .before .before .before .before .before .before in
     let start = at-loop .before .before .before .before .before .before .before .before .before .before .before .before .before .before .before .before .before .before .before in
-    at-do-act .do-act .kept .1 .1 .1 .1 .1 .0 ∙ at-loop .loop .inv .3 ∙ sym (start .pre .5)
+    at-do-act .do-act .kept .1 .1 .1 .1 .1 .0 ∙ at-loop .loop .inv .3 ∙ sym (start .pre .3 .rows)
 
 same-length-19 : tie.Need-same-length-19 Inv-loop μ-loop
 same-length-19 c =
     let at-do-act = c .before .before .before .before .before .before .before .before .before .before .before in
     let at-loop = at-do-act .before .before .before .before .before .before .before .before .before in
     let start = at-loop .before .before .before .before .before .before .before .before .before .before .before .before .before .before .before .before .before .before .before in
-    at-do-act .do-act .kept .1 .1 .1 .1 .1 .1 .0 ∙ at-loop .loop .inv .4 ∙ sym (start .pre .6)
+    at-do-act .do-act .kept .1 .1 .1 .1 .1 .1 .0 ∙ at-loop .loop .inv .4 ∙ sym (start .pre .3 .links)
 
 same-length-20 : tie.Need-same-length-20 Inv-loop μ-loop
 same-length-20 c =
     let at-do-act = c .before .before .before .before .before .before .before .before .before .before .before in
     let at-loop = at-do-act .before .before .before .before .before .before .before .before .before in
     let start = at-loop .before .before .before .before .before .before .before .before .before .before .before .before .before .before .before .before .before .before .before in
-    at-do-act .do-act .kept .1 .1 .1 .1 .1 .1 .1 .0 ∙ at-loop .loop .inv .5 ∙ sym (start .pre .7)
+    at-do-act .do-act .kept .1 .1 .1 .1 .1 .1 .1 .0 ∙ at-loop .loop .inv .5 ∙ sym (start .pre .3 .firsts)
 
 returns-4 : tie.Need-returns-4 Inv-loop μ-loop
 returns-4 c =
-    let at-enum-told = c .before in
-    let at-do-act = at-enum-told .before .before .before .before .before .before .before .before .before .before in
+    let at-do-act = c .before .before .before .before .before .before .before .before .before .before .before in
     let at-if4 = at-do-act .before .before .before .before .before in
     let at-loop-test = at-if4 .before .before .before in
     let at-loop = at-loop-test .before in
     let start = at-loop .before .before .before .before .before .before .before .before .before .before .before .before .before .before .before .before .before .before .before in
     let g = turns.at-act (start .args .text .now) (start .args .elements .now) (start .args .count) (at-loop .loop .stk) (at-loop .loop .sp) (at-loop .loop .inv .0) (at-loop .loop .inv .7) (at-loop-test .loop-test .taken) (at-if4 .if4 .left) in
     let d = at-do-act .do-act in
-    going.name-differs-here (start .args .text .now) (start .args .elements .now) (start .args .count) _ g (d .result) (d .last .1 .1 .1 .1 .0) (d .last .1 .1 .1 .1 .1 .0) (d .last .1 .1 .1 .1 .1 .1 .0) (d .last .1 .1 .1 .1 .1 .1 .1 .0) _ _ _ (c .minus .result) (at-enum-told .enum-told .given .1) (c .minus .ensures) (d .ensures (g .state) (g .held) (g .deep))
-
-enum-told-2 : tie.Need-enum-told-2 Inv-loop μ-loop
-enum-told-2 c = search needs
-
-minus-requires-2 : tie.Need-minus-requires-2 Inv-loop μ-loop
-minus-requires-2 c κs = search needs
+    going.stops-here (start .args .text .now) (start .args .elements .now) (start .args .count) _ g (d .result) _ (d .last .1 .1 .1 .1 .0) (d .last .1 .1 .1 .1 .1 .0) (d .last .1 .1 .1 .1 .1 .1 .0) (d .last .1 .1 .1 .1 .1 .1 .1 .0) _ _ _ (c .before .r2 .given .1) (d .ensures (g .state) (g .held) (g .deep))
 
 same-length-21 : tie.Need-same-length-21 Inv-loop μ-loop
 same-length-21 c =
-    let at-loop = c .before .before .before .before .before .before .before .before .before .before .before .before .before .before .before .before .before .before .before .before in
+    let at-loop = c .before .before in
     let start = at-loop .before .before .before .before .before .before .before .before .before .before .before .before .before .before .before .before .before .before .before in
-    at-loop .loop .inv .0 ∙ sym (start .pre .3)
+    at-loop .loop .inv .0 ∙ sym (start .pre .3 .stack)
 
 same-length-22 : tie.Need-same-length-22 Inv-loop μ-loop
 same-length-22 c =
-    let at-do-act = c .before .before .before .before .before .before .before .before .before .before .before in
-    let at-loop = at-do-act .before .before .before .before .before .before .before .before .before in
+    let at-loop = c .before .before in
     let start = at-loop .before .before .before .before .before .before .before .before .before .before .before .before .before .before .before .before .before .before .before in
-    at-do-act .do-act .kept .1 .1 .1 .1 .0 ∙ at-loop .loop .inv .2 ∙ sym (start .pre .4)
+    at-loop .loop .inv .2 ∙ sym (start .pre .3 .framed)
 
 same-length-23 : tie.Need-same-length-23 Inv-loop μ-loop
 same-length-23 c =
-    let at-do-act = c .before .before .before .before .before .before .before .before .before .before .before in
-    let at-loop = at-do-act .before .before .before .before .before .before .before .before .before in
+    let at-loop = c .before .before in
     let start = at-loop .before .before .before .before .before .before .before .before .before .before .before .before .before .before .before .before .before .before .before in
-    at-do-act .do-act .kept .1 .1 .1 .1 .1 .0 ∙ at-loop .loop .inv .3 ∙ sym (start .pre .5)
+    at-loop .loop .inv .3 ∙ sym (start .pre .3 .rows)
 
 same-length-24 : tie.Need-same-length-24 Inv-loop μ-loop
 same-length-24 c =
-    let at-do-act = c .before .before .before .before .before .before .before .before .before .before .before in
-    let at-loop = at-do-act .before .before .before .before .before .before .before .before .before in
+    let at-loop = c .before .before in
     let start = at-loop .before .before .before .before .before .before .before .before .before .before .before .before .before .before .before .before .before .before .before in
-    at-do-act .do-act .kept .1 .1 .1 .1 .1 .1 .0 ∙ at-loop .loop .inv .4 ∙ sym (start .pre .6)
+    at-loop .loop .inv .4 ∙ sym (start .pre .3 .links)
 
 same-length-25 : tie.Need-same-length-25 Inv-loop μ-loop
 same-length-25 c =
-    let at-do-act = c .before .before .before .before .before .before .before .before .before .before .before in
-    let at-loop = at-do-act .before .before .before .before .before .before .before .before .before in
+    let at-loop = c .before .before in
     let start = at-loop .before .before .before .before .before .before .before .before .before .before .before .before .before .before .before .before .before .before .before in
-    at-do-act .do-act .kept .1 .1 .1 .1 .1 .1 .1 .0 ∙ at-loop .loop .inv .5 ∙ sym (start .pre .7)
+    at-loop .loop .inv .5 ∙ sym (start .pre .3 .firsts)
 
 returns-5 : tie.Need-returns-5 Inv-loop μ-loop
 returns-5 c =
-    let at-enum-told2 = c .before in
-    let at-do-act = at-enum-told2 .before .before .before .before .before .before .before .before .before .before in
-    let at-if4 = at-do-act .before .before .before .before .before in
-    let at-loop-test = at-if4 .before .before .before in
-    let at-loop = at-loop-test .before in
-    let start = at-loop .before .before .before .before .before .before .before .before .before .before .before .before .before .before .before .before .before .before .before in
-    let g = turns.at-act (start .args .text .now) (start .args .elements .now) (start .args .count) (at-loop .loop .stk) (at-loop .loop .sp) (at-loop .loop .inv .0) (at-loop .loop .inv .7) (at-loop-test .loop-test .taken) (at-if4 .if4 .left) in
-    let d = at-do-act .do-act in
-    going.too-deep-here (start .args .text .now) (start .args .elements .now) (start .args .count) _ g (d .result) (d .last .1 .1 .1 .1 .0) (d .last .1 .1 .1 .1 .1 .0) (d .last .1 .1 .1 .1 .1 .1 .0) (d .last .1 .1 .1 .1 .1 .1 .1 .0) _ _ _ (c .minus2 .result) (at-enum-told2 .enum-told2 .given .1) (c .minus2 .ensures) (d .ensures (g .state) (g .held) (g .deep))
-
-same-length-26 : tie.Need-same-length-26 Inv-loop μ-loop
-same-length-26 c =
-    let at-loop = c .before .before in
-    let start = at-loop .before .before .before .before .before .before .before .before .before .before .before .before .before .before .before .before .before .before .before in
-    at-loop .loop .inv .0 ∙ sym (start .pre .3)
-
-same-length-27 : tie.Need-same-length-27 Inv-loop μ-loop
-same-length-27 c =
-    let at-loop = c .before .before in
-    let start = at-loop .before .before .before .before .before .before .before .before .before .before .before .before .before .before .before .before .before .before .before in
-    at-loop .loop .inv .2 ∙ sym (start .pre .4)
-
-same-length-28 : tie.Need-same-length-28 Inv-loop μ-loop
-same-length-28 c =
-    let at-loop = c .before .before in
-    let start = at-loop .before .before .before .before .before .before .before .before .before .before .before .before .before .before .before .before .before .before .before in
-    at-loop .loop .inv .3 ∙ sym (start .pre .5)
-
-same-length-29 : tie.Need-same-length-29 Inv-loop μ-loop
-same-length-29 c =
-    let at-loop = c .before .before in
-    let start = at-loop .before .before .before .before .before .before .before .before .before .before .before .before .before .before .before .before .before .before .before in
-    at-loop .loop .inv .4 ∙ sym (start .pre .6)
-
-same-length-30 : tie.Need-same-length-30 Inv-loop μ-loop
-same-length-30 c =
-    let at-loop = c .before .before in
-    let start = at-loop .before .before .before .before .before .before .before .before .before .before .before .before .before .before .before .before .before .before .before in
-    at-loop .loop .inv .5 ∙ sym (start .pre .7)
-
-returns-6 : tie.Need-returns-6 Inv-loop μ-loop
-returns-6 c =
     let at-loop-test = c .before in
     let at-loop = at-loop-test .before in
     let start = at-loop .before .before .before .before .before .before .before .before .before .before .before .before .before .before .before .before .before .before .before in
     going.too-much (start .args .text .now) (start .args .elements .now) (start .args .count) _ (turns.at-end (start .args .text .now) (start .args .elements .now) (start .args .count) (at-loop .loop .stk) (at-loop .loop .sp) (at-loop .loop .inv .0) (at-loop .loop .inv .7) (at-loop-test .loop-test .left)) (c .if6 .taken)
 
-same-length-31 : tie.Need-same-length-31 Inv-loop μ-loop
-same-length-31 c =
+same-length-26 : tie.Need-same-length-26 Inv-loop μ-loop
+same-length-26 c =
     let at-loop = c .before .before in
     let start = at-loop .before .before .before .before .before .before .before .before .before .before .before .before .before .before .before .before .before .before .before in
-    at-loop .loop .inv .0 ∙ sym (start .pre .3)
+    at-loop .loop .inv .0 ∙ sym (start .pre .3 .stack)
 
-same-length-32 : tie.Need-same-length-32 Inv-loop μ-loop
-same-length-32 c =
+same-length-27 : tie.Need-same-length-27 Inv-loop μ-loop
+same-length-27 c =
     let at-loop = c .before .before in
     let start = at-loop .before .before .before .before .before .before .before .before .before .before .before .before .before .before .before .before .before .before .before in
-    at-loop .loop .inv .2 ∙ sym (start .pre .4)
+    at-loop .loop .inv .2 ∙ sym (start .pre .3 .framed)
 
-same-length-33 : tie.Need-same-length-33 Inv-loop μ-loop
-same-length-33 c =
+same-length-28 : tie.Need-same-length-28 Inv-loop μ-loop
+same-length-28 c =
     let at-loop = c .before .before in
     let start = at-loop .before .before .before .before .before .before .before .before .before .before .before .before .before .before .before .before .before .before .before in
-    at-loop .loop .inv .3 ∙ sym (start .pre .5)
+    at-loop .loop .inv .3 ∙ sym (start .pre .3 .rows)
 
-same-length-34 : tie.Need-same-length-34 Inv-loop μ-loop
-same-length-34 c =
+same-length-29 : tie.Need-same-length-29 Inv-loop μ-loop
+same-length-29 c =
     let at-loop = c .before .before in
     let start = at-loop .before .before .before .before .before .before .before .before .before .before .before .before .before .before .before .before .before .before .before in
-    at-loop .loop .inv .4 ∙ sym (start .pre .6)
+    at-loop .loop .inv .4 ∙ sym (start .pre .3 .links)
 
-same-length-35 : tie.Need-same-length-35 Inv-loop μ-loop
-same-length-35 c =
+same-length-30 : tie.Need-same-length-30 Inv-loop μ-loop
+same-length-30 c =
     let at-loop = c .before .before in
     let start = at-loop .before .before .before .before .before .before .before .before .before .before .before .before .before .before .before .before .before .before .before in
-    at-loop .loop .inv .5 ∙ sym (start .pre .7)
+    at-loop .loop .inv .5 ∙ sym (start .pre .3 .firsts)
 
-returns-7 : tie.Need-returns-7 Inv-loop μ-loop
-returns-7 c =
+returns-6 : tie.Need-returns-6 Inv-loop μ-loop
+returns-6 c =
     let at-loop-test = c .before in
     let at-loop = at-loop-test .before in
     let start = at-loop .before .before .before .before .before .before .before .before .before .before .before .before .before .before .before .before .before .before .before in
@@ -583,16 +528,13 @@ scan-spec =
     add-sp-3
     loop-less-3
     loop-again-3
-    enum-told
-    minus-requires
+    enum-known-r-2
     same-length-16
     same-length-17
     same-length-18
     same-length-19
     same-length-20
     returns-4
-    enum-told-2
-    minus-requires-2
     same-length-21
     same-length-22
     same-length-23
@@ -604,10 +546,4 @@ scan-spec =
     same-length-28
     same-length-29
     same-length-30
-    returns-6
-    same-length-31
-    same-length-32
-    same-length-33
-    same-length-34
-    same-length-35
-    returns-7)
+    returns-6)

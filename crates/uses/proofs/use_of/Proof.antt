@@ -5,7 +5,7 @@ use Rattle.uses.proofs.use_of.Tie as tie
 use Rattle.uses.proofs.use_of.Reads as reads
 use Rattle.uses.proofs.use_of.Lts as lts
 use Rattle.names.proofs.language.Reads as language-reads
-use Rattle.lent.proofs.word_at.Reads as word-at-reads
+use Rattle.lent_tables.proofs.word_at.Reads as word-at-reads
 use Rattle.uses.proofs.record_value.Reads as record-value-reads
 use Rattle.values.proofs.language_value.Reads as language-value-reads
 use Rattle.uses.proofs.Laws.{claimed-too, of-language, no-claim, above, below}

@@ -3,7 +3,7 @@ use mathlib.Core.Path.{ap}
 use mir.Syntax.{w32}
 use mir.ValLaws.{toZ-ofZ}
 use borrow.Author.Needs.{needs}
-use Rattle.values.specs.Words.{usedConstant}
+use Rattle.values.specs.code.Used.{usedConstant}
 use Rattle.values.specs.declared.Value.the-variants.{Number}
 use Rattle.values.proofs.Steps.{constant-none}
 use Rattle.values.proofs.used_constant.Tie as tie

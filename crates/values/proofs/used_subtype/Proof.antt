@@ -3,7 +3,7 @@ use mathlib.Core.Path.{ap₂}
 use mir.Syntax.{w32}
 use mir.ValLaws.{toZ-ofZ}
 use borrow.Author.Needs.{needs}
-use Rattle.values.specs.Words.{usedSubtype}
+use Rattle.values.specs.code.Used.{usedSubtype}
 use Rattle.values.specs.declared.Value.the-variants.{Range}
 use Rattle.values.proofs.Steps.{subtype-none}
 use Rattle.values.proofs.used_subtype.Tie as tie

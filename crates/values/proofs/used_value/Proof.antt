@@ -1,6 +1,6 @@
 -- By the state and the class. Assumes nothing.
 use borrow.Author.Needs.{needs}
-use Rattle.values.specs.Words.{usedValue}
+use Rattle.values.specs.code.Used.{usedValue}
 use Rattle.values.proofs.Steps.{used-stated, used-none}
 use Rattle.values.proofs.used_value.Tie as tie
 use Rattle.values.proofs.used_value.Statement.{statement}

@@ -11,7 +11,7 @@ use Rattle.verdict.specs.Verdict.{while-loop, bare-loop, guard, block-is
 use Rattle.verdict.specs.declared.Verdict.{Verdict}
 use Rattle.verdict.specs.declared.Verdict.the-variants.{Passes, NotSupported}
 
--- a row of this form behind one of form `before` is not supported
+-- a row of this form after one of form `before` is not supported
 abbrev pub unsupported : ℕ → ℕ → Bool
 unsupported before form =
     eqb form while-loop || eqb form bare-loop || eqb form guard || eqb form block-is

@@ -1,7 +1,7 @@
 -- The invariant: the search from here is the search in the whole. Assumes nothing.
 use borrow.Author.Needs.{needs}
 use Rattle.words.proofs.Laws.{byte-hit, byte-past, byte-end}
-use Rattle.words.specs.Packed.{byteFrom}
+use Rattle.words.specs.code.Packed.{byteFrom}
 use lib.ListN.{length, drop}
 use native.Mathlib.Nat.{add-zero}
 use Prim.Native.Nat.{_+_, _-_}

@@ -1,4 +1,4 @@
--- The bytes of the code are the reserved words, each behind its length: antt computes it. Assumes nothing.
+-- The bytes of the code are the reserved words, each after its length: antt computes it. Assumes nothing.
 use Rattle.words.proofs.Laws.{packed, packed-place}
 use Rattle.words.specs.Words.{reservedWords, bytesOf}
 use mathlib.Core.Path.{_∙_}

@@ -1,7 +1,7 @@
 -- The invariant: the search from here, in the rest of the list, is the search in the whole. Assumes nothing.
 use borrow.Author.Needs.{needs}
 use Rattle.words.proofs.Laws.{search-hit, search-past, search-end}
-use Rattle.words.specs.Packed.{searched}
+use Rattle.words.specs.code.Packed.{searched}
 use lib.ListN.{length, drop}
 use native.Mathlib.Omega.{arith}
 use Prim.Native.Nat.{_-_, _≤_}

@@ -1,0 +1,8 @@
+pub mod Rows
+pub mod code
+pub mod Table
+pub mod Given
+pub mod Permitted
+pub mod Reading
+pub mod Promises
+pub mod Examples

@@ -1,0 +1,17 @@
+-- The element table: three words to a row. The code puts each row as it is found, where the table has room. Request 13 (packed rows)
+-- changes `cells`. Assumes nothing.
+use Prim.Native.Nat.{ℕ, suc}
+use mathlib.Core.List.{List, [], _∷_}
+use Rattle.places.specs.Places.{put}
+use Rattle.elements.specs.Kinds.{kindNumber}
+use Rattle.element_reading.specs.Rows.{Row}
+
+-- the words of rows: "kind, first byte and length"
+unfoldable pub cells : List Row → List ℕ
+cells [] = []
+cells (r ∷ rs) = kindNumber (r .kind) ∷ r .first ∷ r .size ∷ cells rs
+
+-- rows put one after the other, from number n on
+unfoldable pub puts : List ℕ → ℕ → List Row → List ℕ
+puts t n [] = t
+puts t n (r ∷ rs) = puts (put t n (kindNumber (r .kind)) (r .first) (r .size)) (suc n) rs

@@ -1,0 +1,92 @@
+-- The code's way to what stands at the front of a line's rest: by what its first byte opens, each function looking at the byte after its
+-- own element. `proofs/Rules.antt` joins it to the rules of `Element`. Assumes nothing.
+use Prim.Native.Nat.{ℕ, _+_}
+use mathlib.Core.Bool.{Bool, cond, _&&_, _||_}
+use mathlib.Core.List.{List}
+use lib.Dec.{eqb, ltb}
+use lib.ListN.{length, getD, take, drop}
+use Rattle.classes.specs.Bytes.{separates, isLetter, isDigit}
+use Rattle.classes.specs.Bytes as byte
+use Rattle.classes.specs.Runs.{run}
+use Rattle.classes.specs.declared.Run.the-variants.{Word}
+use Rattle.words.specs.Words.{placeIn, reservedWords, delimiters}
+use Rattle.words.specs.declared.Place.{Place}
+use Rattle.words.specs.declared.Place.the-variants.{At, Nowhere}
+use Rattle.numbers.specs.Numbers.{number}
+use Rattle.numbers.specs.declared.Number.{Number}
+use Rattle.numbers.specs.declared.Number.the-variants.{Integer, Real, Neither}
+use Rattle.quoted.specs.Quoted.{closed}
+use Rattle.quoted.specs.declared.Closed.{Closed}
+use Rattle.quoted.specs.declared.Closed.the-variants.{After, Never}
+use Rattle.elements.specs.Element.{unreadable, string, apostrophe, delimiterBy, spoilsNumber}
+use Rattle.elements.specs.declared.Kind.{Kind}
+use Rattle.elements.specs.declared.Literal.{Literal}
+use Rattle.elements.specs.declared.Opens.{Opens}
+use Rattle.elements.specs.declared.Found.{Found}
+use Rattle.elements.specs.declared.Found.the-variants.{Skip, Element}
+
+-- an identifier or a reserved word, and the byte after it
+unfoldable pub nameAt : List ℕ → Found
+nameAt s = cond (eqb (getD s (run Word s) 0) byte.quote) (unreadable s) (Element Kind.Identifier (run Word s))
+
+abbrev pub wordBy : Place → List ℕ → Found
+wordBy (At n) s = Element (Kind.Reserved n) (run Word s)
+wordBy Nowhere s = nameAt s
+
+unfoldable pub wordAt : List ℕ → Found
+wordAt s = cond (eqb (getD s (run Word s) 0) byte.underscore) (unreadable s) (wordBy (placeIn (take (run Word s) s) reservedWords) s)
+
+-- an extended identifier, and the byte after it
+abbrev pub extendedFrom : Closed → List ℕ → Found
+extendedFrom (After n) s =
+    cond (eqb n 1 || eqb (getD s (n + 1) 0) byte.underscore || eqb (getD s (n + 1) 0) byte.quote) (unreadable s) (Element Kind.Extended (n + 1))
+extendedFrom Never s = unreadable s
+
+unfoldable pub extendedAt : List ℕ → Found
+extendedAt s = extendedFrom (closed byte.backslash (drop 1 s)) s
+
+-- a number, and the byte after it
+abbrev pub numeralFrom : Number → List ℕ → Found
+numeralFrom (Integer n) s = cond (spoilsNumber (getD s n 0)) (unreadable s) (Element (Kind.Literal Literal.Integer) n)
+numeralFrom (Real n) s = cond (spoilsNumber (getD s n 0)) (unreadable s) (Element (Kind.Literal Literal.Real) n)
+numeralFrom Neither s = unreadable s
+
+unfoldable pub numeralAt : List ℕ → Found
+numeralAt s = numeralFrom (number s) s
+
+-- a delimiter of one byte, or of two
+unfoldable pub singleAt : List ℕ → Found
+singleAt s = delimiterBy (placeIn (take 1 s) delimiters) 1 (unreadable s)
+
+unfoldable pub delimiterAt : List ℕ → Found
+delimiterAt s = cond (ltb (length s) 2) (singleAt s) (delimiterBy (placeIn (take 2 s) delimiters) 2 (singleAt s))
+
+-- a comment, a form left out, or a delimiter
+unfoldable pub otherAt : List ℕ → Found
+otherAt s =
+    cond (eqb (getD s 0 0) byte.hyphen && eqb (getD s 1 0) byte.hyphen) (Skip (length s))
+    (cond (eqb (getD s 0 0) byte.slash && eqb (getD s 1 0) byte.star) (unreadable s)
+    (delimiterAt s))
+
+-- what a first byte opens
+unfoldable pub opensOf : ℕ → Opens
+opensOf b =
+    cond (separates b) Opens.Separator
+    (cond (isLetter b) Opens.Letter
+    (cond (isDigit b) Opens.Digit
+    (cond (eqb b byte.quote) Opens.Quote
+    (cond (eqb b byte.backslash) Opens.Backslash
+    (cond (eqb b byte.apostrophe) Opens.Apostrophe
+    Opens.Other)))))
+
+abbrev pub openedBy : Opens → Bool → List ℕ → Found
+openedBy Opens.Separator ticks s = Skip 1
+openedBy Opens.Letter ticks s = wordAt s
+openedBy Opens.Digit ticks s = numeralAt s
+openedBy Opens.Quote ticks s = string s
+openedBy Opens.Backslash ticks s = extendedAt s
+openedBy Opens.Apostrophe ticks s = apostrophe ticks s
+openedBy Opens.Other ticks s = otherAt s
+
+unfoldable pub foundAt : Bool → List ℕ → Found
+foundAt ticks s = openedBy (opensOf (getD s 0 0)) ticks s

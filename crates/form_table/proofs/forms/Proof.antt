@@ -1,0 +1,12 @@
+-- `form_table::forms` meets its contract. The byte string is the table of the forms, by computing. Assumes nothing.
+use mathlib.Core.Path.{refl}
+use Rattle.form_table.specs.Bytes.{formBytes}
+use Rattle.form_table.proofs.forms.Statement.{statement}
+use Rattle.form_table.proofs.forms.Tie as tie
+
+returns : tie.Need-returns
+unfolding formBytes
+returns c = refl
+
+pub forms-spec : {M : Type 1} → statement M
+forms-spec = tie.close (tie.spec returns)

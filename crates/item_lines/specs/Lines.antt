@@ -1,0 +1,110 @@
+-- The listing of a survey, line by line, as bytes: 01, "Numbers at the edges", and what the programs print. Assumes nothing.
+use Prim.Native.Nat.{ℕ, zero, suc, _/_, min}
+use Prim.Native.String.{String}
+use mathlib.Core.Bool.{cond}
+use mathlib.Core.List.{List, [], _∷_, _++_}
+use lib.Dec.{eqb}
+use lib.ListN.{length, getD, take, drop}
+use Rattle.words.specs.Words.{bytesOf}
+use Rattle.places.specs.Places.{cellAt, within}
+use Rattle.pieces.specs.Records.{recordWords}
+use Rattle.records.specs.Records.{wordAt, isItem, state, kind, low, high}
+use Rattle.puts.specs.Decimals.{decimalOf, signedOf, lineFeed}
+use Rattle.puts.specs.Lines.{linesFrom}
+use Rattle.refused_line.specs.Refused.{count, lineBy, linesBy}
+
+-- where the first byte and the length stand in a row of the element table
+abbrev pub firstByte : ℕ
+firstByte = 1
+
+abbrev pub byteCount : ℕ
+byteCount = 2
+
+-- "Names print as spelled": the bytes of an element, none where the tables point outside
+unfoldable pub spelledOf : List ℕ → List ℕ → ℕ → List ℕ
+spelledOf text elements e =
+    cond (within text (cellAt elements e firstByte) (cellAt elements e byteCount)) (take (cellAt elements e byteCount) (drop (cellAt elements e firstByte) text)) []
+
+-- where a record's class and its name's element stand; the classes of items that claim a name; the kind of a truth
+abbrev pub class : ℕ
+class = 0
+
+abbrev pub name : ℕ
+name = 3
+
+abbrev pub constantClass : ℕ
+constantClass = 3
+
+abbrev pub subtypeClass : ℕ
+subtypeClass = 4
+
+abbrev pub truthKind : ℕ
+truthKind = 2
+
+-- "The word after the number is `constant` or `subtype`, or `piece` with `-` for the name of an item that claims none."
+unfoldable pub claimOf : List ℕ → List ℕ → ℕ → ℕ → List ℕ
+claimOf text elements class name =
+    cond (eqb class constantClass) (bytesOf " constant " ++ spelledOf text elements name)
+    (cond (eqb class subtypeClass) (bytesOf " subtype " ++ spelledOf text elements name) (bytesOf " piece -"))
+
+-- "states by their word": those of the states 0 to 9; any other is `range`, 10
+unfoldable pub stateWords : List String
+stateWords =
+    "" ∷ " broken" ∷ " doubled" ∷ " unfolded" ∷ " unknown" ∷ " leans" ∷ " kind" ∷ " divisor" ∷ " exponent" ∷ " size" ∷ []
+
+unfoldable pub stateWord : ℕ → List ℕ
+stateWord s = bytesOf (getD stateWords s " range")
+
+-- "truths print true or false": a number, or a truth
+unfoldable pub foldedOf : ℕ → ℕ → List ℕ
+foldedOf kind word = cond (eqb kind truthKind) (cond (eqb word 0) (bytesOf "false") (bytesOf "true")) (signedOf word)
+
+-- "a subtype `value LOW to HIGH`": its high end
+unfoldable pub upperOf : ℕ → ℕ → ℕ → List ℕ
+upperOf class kind high = cond (eqb class subtypeClass) (bytesOf " to " ++ foldedOf kind high) []
+
+-- "`value` and the number, `true` or `false`, or for a subtype `value LOW to HIGH`"
+unfoldable pub valueOf : ℕ → ℕ → ℕ → ℕ → List ℕ
+valueOf class kind low high = bytesOf " value " ++ (foldedOf kind low ++ upperOf class kind high)
+
+-- "After the name": the value, or the state's word
+unfoldable pub resultOf : List ℕ → ℕ → List ℕ
+resultOf items i =
+    cond (eqb (wordAt items i state) 0) (valueOf (wordAt items i class) (wordAt items i kind) (wordAt items i low) (wordAt items i high))
+    (stateWord (wordAt items i state))
+
+-- an item's line, "its number being its piece's"
+unfoldable pub itemOf : List ℕ → List ℕ → List ℕ → ℕ → List ℕ
+itemOf text elements items i =
+    decimalOf i ++ (claimOf text elements (wordAt items i class) (wordAt items i name) ++ (resultOf items i ++ (lineFeed ∷ [])))
+
+-- "A line for each item, in order": a heading or a closing has none
+unfoldable pub lineOf : List ℕ → List ℕ → List ℕ → ℕ → List ℕ
+lineOf text elements items i = cond (isItem (wordAt items i class)) (itemOf text elements items i) []
+
+-- where a survey's answer has whether it is whole
+abbrev pub whole : ℕ
+whole = 4
+
+-- "pieces 6 whole no": the first line
+unfoldable pub wholeOf : ℕ → List ℕ
+wholeOf w = cond (eqb w 1) (bytesOf " whole yes\n") (bytesOf " whole no\n")
+
+unfoldable pub headOf : ℕ → ℕ → List ℕ
+headOf pieces w = bytesOf "pieces " ++ (decimalOf pieces ++ wholeOf w)
+
+-- the lines by their numbers: the head, and then a record's, if it is an item's
+unfoldable pub listedLine : List ℕ → List ℕ → List ℕ → List ℕ → ℕ → List ℕ
+listedLine text elements items answer zero = headOf (getD answer count 0) (getD answer whole 0)
+listedLine text elements items answer (suc i) = lineOf text elements items i
+
+-- those of any answer, and how many there are: no more records are listed than the table has
+unfoldable pub surveyLine : List ℕ → List ℕ → List ℕ → List ℕ → ℕ → List ℕ
+surveyLine text elements items answer = lineBy answer (listedLine text elements items answer)
+
+unfoldable pub surveyLines : List ℕ → List ℕ → ℕ
+surveyLines items answer = linesBy answer (suc (min (getD answer count 0) (length items / recordWords)))
+
+-- the listing: all of them
+unfoldable pub surveyListing : List ℕ → List ℕ → List ℕ → List ℕ → List ℕ
+surveyListing text elements items answer = linesFrom (surveyLine text elements items answer) 0 (surveyLines items answer)

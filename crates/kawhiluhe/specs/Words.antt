@@ -1,0 +1,25 @@
+-- An answer as its words, one after the other: what the listings are made from. Assumes nothing.
+use Prim.Native.Nat.{ℕ}
+use mathlib.Core.List.{List, [], _∷_}
+use lib.ListN.{getD}
+use Rattle.kawhiluhe.specs.declared.Elements.{Elements}
+use Rattle.kawhiluhe.specs.declared.Judged.{Judged}
+use Rattle.kawhiluhe.specs.declared.Surveyed.{Surveyed}
+
+-- the element reader's
+unfoldable pub elementWords : Elements → List ℕ
+elementWords x = x .refusal ∷ x .place ∷ x .elements ∷ []
+
+-- the strict reading's
+unfoldable pub judgedWords : Judged → List ℕ
+judgedWords x = x .refusal ∷ x .place ∷ x .rows ∷ x .passes ∷ x .row ∷ []
+
+-- the eleven counts of a tally, by their states
+unfoldable pub countsOf : List ℕ → List ℕ
+countsOf t =
+    getD t 0 0 ∷ getD t 1 0 ∷ getD t 2 0 ∷ getD t 3 0 ∷ getD t 4 0 ∷ getD t 5 0 ∷ getD t 6 0 ∷ getD t 7 0 ∷ getD t 8 0 ∷ getD t 9 0 ∷ getD t 10 0 ∷ []
+
+-- the survey's
+unfoldable pub surveyedWords : Surveyed → List ℕ
+surveyedWords x =
+    x .refusal ∷ x .place ∷ x .pieces ∷ x .frame ∷ x .whole ∷ x .pair ∷ x .earlier ∷ x .later ∷ countsOf (x .tally)

@@ -1,0 +1,5 @@
+pub mod Parts
+pub mod Promises
+pub mod Sizes
+pub mod Samples
+pub mod Trees

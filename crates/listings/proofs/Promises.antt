@@ -1,0 +1,51 @@
+-- A text has one listing. Assumes nothing.
+use Prim.Native.Nat.{ℕ}
+use mathlib.Core.Path.{refl, ap, sym, _∙_}
+use mathlib.Core.List.{List}
+use Rattle.strict_reading.specs.declared.Strict.{Strict}
+use Rattle.survey_reading.specs.declared.Survey.{Survey}
+use Rattle.survey_reading.specs.Survey.{surveyOf, elementsAfter, itemsAfter}
+use Rattle.survey_reading.proofs.Permits as survey
+use Rattle.strict_reading.proofs.Promises as strict
+use Rattle.item_lines.specs.Lines.{surveyListing}
+use Rattle.record_lines.specs.Lines.{recordListing}
+use Rattle.tree_lines.specs.Lines.{treeListing}
+use Rattle.kawhiluhe.specs.Numbers.{strictNumbers, surveyNumbers}
+use Rattle.kawhiluhe.specs.Words.{judgedWords, surveyedWords}
+use Rattle.listings.specs.Listings.{OneListing, OneRecords, OneTree, SomeListing, SomeRecords, SomeTree}
+
+pub one-listing : OneListing
+one-listing text e i bytes bytes′ (x, (t, (u, (p, q)))) (x′, (t′, (u′, (p′, q′)))) =
+    let same = survey.no-choice text e i x x′ t t′ u u′ p p′ in
+    q ∙ ap (λ (y : Survey). surveyListing text t u (surveyedWords (surveyNumbers y))) (same .0)
+    ∙ ap (λ (l : List ℕ). surveyListing text l u (surveyedWords (surveyNumbers x′))) (same .1)
+    ∙ ap (λ (l : List ℕ). surveyListing text t′ l (surveyedWords (surveyNumbers x′))) (same .2) ∙ sym q′
+
+pub one-records : OneRecords
+one-records text e i bytes bytes′ (x, (t, (u, (p, q)))) (x′, (t′, (u′, (p′, q′)))) =
+    let same = survey.no-choice text e i x x′ t t′ u u′ p p′ in
+    q ∙ ap (λ (y : Survey). recordListing u (surveyedWords (surveyNumbers y))) (same .0)
+    ∙ ap (λ (l : List ℕ). recordListing l (surveyedWords (surveyNumbers x′))) (same .2) ∙ sym q′
+
+pub one-tree : OneTree
+one-tree text e i bytes bytes′ (x, (t, (u, (p, q)))) (x′, (t′, (u′, (p′, q′)))) =
+    let same = strict.no-choice text e i x x′ t t′ u u′ p p′ in
+    q ∙ ap (λ (y : Strict). treeListing u (judgedWords (strictNumbers y))) (same .0)
+    ∙ ap (λ (l : List ℕ). treeListing l (judgedWords (strictNumbers x′))) (same .2) ∙ sym q′
+
+pub some-listing : SomeListing
+some-listing text e i = (
+  surveyListing text (elementsAfter text e i) (itemsAfter text e i) (surveyedWords (surveyNumbers (surveyOf text e i))),
+  (surveyOf text e i, (elementsAfter text e i, (itemsAfter text e i, (survey.permits text e i, refl)))),
+)
+
+pub some-records : SomeRecords
+some-records text e i = (
+  recordListing (itemsAfter text e i) (surveyedWords (surveyNumbers (surveyOf text e i))),
+  (surveyOf text e i, (elementsAfter text e i, (itemsAfter text e i, (survey.permits text e i, refl)))),
+)
+
+pub some-tree : SomeTree
+some-tree text e i =
+    let a = strict.some-answer text e i in
+    (treeListing (a .1 .1 .0) (judgedWords (strictNumbers (a .0))), (a .0, (a .1 .0, (a .1 .1 .0, (a .1 .1 .1, refl)))))

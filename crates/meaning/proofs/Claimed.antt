@@ -1,0 +1,32 @@
+-- A piece claims one name or none: what follows of a claim. Assumes nothing.
+use mathlib.Core.Path.{_≡_, refl, sym, _∙_}
+use mathlib.Core.Bool.{Bool, true, false, cond, _&&_, _||_}
+use mathlib.Core.List.{[], _∷_}
+use Rattle.laws.proofs.Laws.{both-left, both-right}
+use Rattle.records.specs.Records.{isClaim}
+use Rattle.meaning.specs.Elements.{Element, Piece}
+use Rattle.meaning.specs.Sameness.{sameAs}
+use Rattle.meaning.specs.Names.{classOf, ownName, namesClaimed, isOneOf, claims}
+
+or-none : (a : Bool) → (a || false) ≡ a
+or-none true = refl
+or-none false = refl
+
+pub claims-one : (x : Element) (p : Piece) → claims x p ≡ (isClaim (classOf p) && sameAs (ownName p) x)
+unfolding claims namesClaimed
+claims-one x p = go (isClaim (classOf p))
+  where
+    go : (b : Bool) → isOneOf x (cond b (ownName p ∷ []) []) ≡ (b && sameAs (ownName p) x)
+    go true = or-none (sameAs (ownName p) x)
+    go false = refl
+
+-- a claim taken apart, and put together
+module _ (x : Element) (p : Piece) where
+  pub claims-class : claims x p ≡ true → isClaim (classOf p) ≡ true
+  claims-class h = both-left (isClaim (classOf p)) (sameAs (ownName p) x) (sym (claims-one x p) ∙ h)
+
+  pub claims-name : claims x p ≡ true → sameAs (ownName p) x ≡ true
+  claims-name h = both-right (isClaim (classOf p)) (sameAs (ownName p) x) (sym (claims-one x p) ∙ h)
+
+  pub claims-by : isClaim (classOf p) ≡ true → sameAs (ownName p) x ≡ true → claims x p ≡ true
+  claims-by h k = claims-one x p ∙ rw h k

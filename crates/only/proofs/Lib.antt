@@ -1,7 +1,0 @@
-mod Parts
-mod Free
-mod Covers
-mod Rows
-mod Laying
-mod Files
-pub mod Only

@@ -1,5 +1,0 @@
-pub mod Laws
-mod Told
-pub mod Joined
-pub mod Promises
-pub mod Permits

@@ -1,0 +1,17 @@
+-- "class 1 to 5: heading, closing, constant, subtype, unclaimed". Assumes nothing.
+use Prim.Native.Nat.{ℕ}
+
+abbrev pub heading : ℕ
+heading = 1
+
+abbrev pub closing : ℕ
+closing = 2
+
+abbrev pub constant : ℕ
+constant = 3
+
+abbrev pub subtype : ℕ
+subtype = 4
+
+abbrev pub unclaimed : ℕ
+unclaimed = 5

@@ -1,0 +1,5 @@
+pub mod Laws
+pub mod Numbers
+pub mod Fields
+pub mod Clearing
+pub mod Lines

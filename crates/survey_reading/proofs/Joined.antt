@@ -1,0 +1,201 @@
+-- The survey's steps over a text's own tables give what the survey of the text is. Assumes nothing.
+use mathlib.Core.Path.{_≡_, refl, sym, ap, ap₂, _∙_}
+use mathlib.Core.Bool.{Bool, true, false, cond}
+use mathlib.Core.List.{List, [], _∷_, _++_}
+use Prim.Native.Nat.{ℕ, suc, _+_, _-_, _*_, _/_, _≤_, min}
+use native.Mathlib.Omega.{arith}
+use borrow.Author.Tests.{ltb-false}
+use lib.Dec.{ltb}
+use lib.ListN.{length, replicate, length-append, length-replicate}
+use Rattle.laws.proofs.Laws.{clash}
+use Rattle.element_reading.specs.Rows.{rowsOf}
+use Rattle.element_reading.specs.Table.{cells}
+use Rattle.element_reading.specs.Reading.{readingOf}
+use Rattle.element_reading.specs.Reading as elements
+use Rattle.element_reading.specs.declared.Reading.{Reading}
+use Rattle.element_reading.specs.declared.Reading.the-variants as R
+use Rattle.refusals.specs.declared.Refusal.{Refusal}
+use Rattle.places.specs.declared.ElementNumber.{ElementNumber}
+use Rattle.element_reading.proofs.TableLaws.{length-cells}
+use Rattle.element_reading.proofs.Answers.{table-read, table-refused, table-length, read-count, read-few}
+use Rattle.pieces.specs.Kinds as by-kinds
+use Rattle.pieces.specs.Records.{piecesIn, marking, recordTable}
+use Rattle.pieces.specs.Records as marks
+use Rattle.pieces.specs.declared.Marking.{Marking}
+use Rattle.pieces.specs.declared.Marking.the-variants as M
+use Rattle.names.specs.Names.{sharedPair}
+use Rattle.names.specs.code.Links.{recordsIn, linksTable, ownsTable, twinsTable, anyTwin}
+use Rattle.names.proofs.Promises.{first-shared, none-shared}
+use Rattle.meaning.specs.Elements.{Piece, elementsOf, piecesOf}
+use Rattle.meaning.proofs.Tables.{kinds-of}
+use Rattle.meaning.proofs.Cutting.{kindsEach, cut-kinds}
+use Rattle.meaning.specs.Items.{recordsFrom}
+use Rattle.meaning.proofs.Records.{pendings, pieces-pending, pieces-length, records-length, marked-records}
+use Rattle.meaning.proofs.Places.{tableOf}
+use Rattle.meaning.proofs.Stages.{completed-all}
+use Rattle.pieces.specs.Columns.{recordWords}
+use Rattle.survey_reading.proofs.Told.{told-all, pairs-same}
+use Rattle.survey_reading.specs.code.Tables.{pairBy, itemsCompleted, itemsSurvey, piecesSurvey, piecesItems, kept}
+use Rattle.survey_reading.specs.code.Tables as tables
+use Rattle.survey_reading.specs.Survey.{itemTable, summary, left, surveyOf, elementsAfter, itemsAfter, refusedBy, summedOf}
+use Rattle.survey_reading.specs.Survey as survey
+use Rattle.survey_reading.specs.declared.Survey.{Survey}
+use Rattle.survey_reading.specs.declared.Outcome.{Outcome}
+use Rattle.survey_reading.specs.declared.Outcome.the-variants.{Done, Refused}
+use Rattle.refusals.specs.declared.SurveyRefusal.the-variants.{Elements}
+
+each-length : (ps : List Piece) → length (kindsEach ps) ≡ length ps
+unfolding kindsEach
+each-length [] = refl
+each-length (p ∷ ps) = ap suc (each-length ps)
+
+-- pieces that are marked are few enough, and the table has room for them
+pub marked-room : (n words k : ℕ) → marking n words ≡ M.Marked k → (k ≡ n) × (n ≤ 1024) × (recordWords * n ≤ words)
+unfolding marking
+marked-room n words k = go (ltb 1024 n) (ltb (words / recordWords) n) refl refl
+  where
+    go : (a b : Bool) → ltb 1024 n ≡ a → ltb (words / recordWords) n ≡ b → cond a M.TooMany (cond b (M.TableShort (words / recordWords)) (M.Marked n)) ≡ M.Marked k → (k ≡ n) × (n ≤ 1024) × (recordWords * n ≤ words)
+    go true b p q e = let z : _≡_ {A = ℕ} 0 1 = cc in clash z
+    go false true p q e = let z : _≡_ {A = ℕ} 0 1 = cc in clash z
+    go false false p q e = let z : n ≡ k = cc in (sym z, ltb-false 1024 n p, omega (arith, ltb-false (words / recordWords) n q))
+
+module _ (s : List ℕ) (z : ℕ) where
+  abbrev t : List ℕ
+  t = tableOf s z
+
+  abbrev n : ℕ
+  n = length (rowsOf s)
+
+  abbrev ps : List Piece
+  ps = piecesOf s
+
+  table-size : length t ≡ 3 * n + z
+  table-size = rw (length-append (cells (rowsOf s)) (replicate z 0), length-cells (rowsOf s), length-replicate {A = ℕ} z 0)
+
+  pieces-are : piecesIn t n ≡ kindsEach ps
+  unfolding piecesIn piecesOf
+  pieces-are =
+      let m : min n (length t / 3) ≡ n = omega (arith, table-size) in
+      rw (m, kinds-of s (rowsOf s) (replicate z 0)) (sym (cut-kinds (elementsOf s (rowsOf s))))
+
+  module _ (words : ℕ) where
+    marking-is : marking (length (piecesIn t n)) words ≡ marking (length ps) words
+    marking-is = rw (pieces-are, each-length ps)
+
+    abbrev rest : List ℕ
+    rest = replicate (words - recordWords * length ps) 0
+
+    -- what marking leaves
+    abbrev waiting : List ℕ
+    waiting = recordsFrom 0 (pendings ps) ++ rest
+
+    waiting-is : (k : ℕ) → marking (length ps) words ≡ M.Marked k → recordTable (piecesIn t n) words ≡ waiting
+    unfolding recordTable
+    waiting-is k e =
+        rw (marking-is, e, pieces-are, marked-records 0 ps)
+        (ap (λ (m : ℕ). recordsFrom 0 (pendings ps) ++ replicate (words - m) 0) long)
+      where
+        long : length (recordsFrom 0 (pendings ps)) ≡ recordWords * length ps
+        long = records-length 0 (pendings ps) ∙ ap (λ (m : ℕ). recordWords * m) (sym (pieces-length (pendings ps)) ∙ ap length (pieces-pending ps))
+
+    zeros-many : marking (length ps) words ≡ M.TooMany → recordTable (piecesIn t n) words ≡ replicate words 0
+    unfolding recordTable
+    zeros-many e = rw (marking-is, e)
+
+    zeros-short : (k : ℕ) → marking (length ps) words ≡ M.TableShort k → recordTable (piecesIn t n) words ≡ replicate words 0
+    unfolding recordTable
+    zeros-short k e = rw (marking-is, e)
+
+    waiting-size : length waiting ≡ recordWords * length ps + (words - recordWords * length ps)
+    waiting-size =
+        length-append (recordsFrom 0 (pendings ps)) rest
+        ∙ ap₂ (λ (a b : ℕ). a + b) (records-length 0 (pendings ps) ∙ ap (λ (m : ℕ). recordWords * m) (sym (pieces-length (pendings ps)) ∙ ap length (pieces-pending ps))) (length-replicate {A = ℕ} (words - recordWords * length ps) 0)
+
+    module _ (small : n ≤ 8192) where
+      pairs : sharedPair s t waiting (length ps) ≡ sharedPair s t (itemTable s words) (length ps)
+      pairs = pairs-same s z words (length ps)
+
+      completed-is : length ps ≤ 1024 → itemsCompleted s t n waiting (length ps) ≡ itemTable s words
+      unfolding itemsCompleted itemTable
+      completed-is few =
+          completed-all s z (linksTable s t n waiting 8192) (twinsTable s t waiting 1024) rest n refl small (told-all s z (words - recordWords * length ps) few small)
+
+      pair-is : length ps ≤ 1024 → recordWords * length ps ≤ words → pairBy (anyTwin s t waiting) (ownsTable s t waiting 1024) (length ps) ≡ sharedPair s t (itemTable s words) (length ps)
+      unfolding recordsIn
+      pair-is a b = go (anyTwin s t waiting) refl ∙ pairs
+        where
+          room : length ps ≤ min (length waiting / recordWords) 1024
+          room = omega (arith, waiting-size)
+
+          go : (x : Bool) → anyTwin s t waiting ≡ x → pairBy x (ownsTable s t waiting 1024) (length ps) ≡ sharedPair s t waiting (length ps)
+          go true e = first-shared s t waiting (length ps) 1024 room a
+          go false e = sym (none-shared s t waiting (length ps) 1024 room e)
+
+      survey-is : length ps ≤ 1024 → recordWords * length ps ≤ words → itemsSurvey s t n waiting (length ps) ≡ summary s t (itemTable s words) (length ps)
+      unfolding itemsSurvey summary
+      survey-is a b = rw (completed-is a, pair-is a b)
+
+      by-marking : (m : Marking) → marking (length ps) words ≡ m
+          → (tables.byMarking m s t n (recordTable (piecesIn t n) words) ≡ survey.byMarking m s t (itemTable s words))
+          × (tables.itemsByMarking m s t n (recordTable (piecesIn t n) words) ≡ left (survey.byMarking m s t (itemTable s words) .outcome) words (itemTable s words))
+      unfolding summary summedOf
+      by-marking (M.Marked k) e =
+          let r = marked-room (length ps) words k e in
+          let h : k ≡ length ps = r .0 in
+          (rw (waiting-is k e, h) (survey-is (r .1) (r .2)), rw (waiting-is k e, h) (completed-is (r .1)))
+      by-marking M.TooMany e = (refl, zeros-many e)
+      by-marking (M.TableShort k) e = (refl, zeros-short k e)
+
+      pub joined : (piecesSurvey s t n words ≡ survey.byMarking (marking (length ps) words) s t (itemTable s words))
+          × (piecesItems s t n words ≡ left (survey.byMarking (marking (length ps) words) s t (itemTable s words) .outcome) words (itemTable s words))
+      unfolding piecesSurvey piecesItems
+      joined = rw marking-is (by-marking (marking (length ps) words) refl)
+
+-- a text that the element reader took
+module _ (s : List ℕ) (w words : ℕ) (r : Reading) (c : ElementNumber) (table : List ℕ) (e : r ≡ readingOf s w) (f : table ≡ elements.tableOf s w) (g : r ≡ R.Read c) where
+  z : ℕ
+  z = w - 3 * length (rowsOf s)
+
+  read-is : readingOf s w ≡ R.Read c
+  read-is = sym e ∙ g
+
+  table-is : table ≡ tableOf s z
+  unfolding z
+  table-is = f ∙ table-read s w read-is
+
+  count-is : c .0 ≡ length (rowsOf s)
+  count-is = read-count s w c read-is
+
+  steps : (piecesSurvey s table (c .0) words ≡ survey.byMarking (marking (length (piecesOf s)) words) s (tableOf s z) (itemTable s words))
+      × (piecesItems s table (c .0) words ≡ left (survey.byMarking (marking (length (piecesOf s)) words) s (tableOf s z) (itemTable s words) .outcome) words (itemTable s words))
+  steps =
+      let j = joined s z words (read-few s w c read-is) in (
+        ap₂ (λ (u : List ℕ) (k : ℕ). piecesSurvey s u k words) table-is count-is ∙ j .0,
+        ap₂ (λ (u : List ℕ) (k : ℕ). piecesItems s u k words) table-is count-is ∙ j .1,
+      )
+
+  whole : surveyOf s w words ≡ piecesSurvey s table (c .0) words
+  unfolding surveyOf
+  whole = rw (read-is) (ap (λ (t : List ℕ). survey.byMarking (marking (length (piecesOf s)) words) s t (itemTable s words)) (sym f ∙ table-is) ∙ sym (steps .0))
+
+  pub way-read : (x : Survey) (table′ items′ : List ℕ) → x ≡ piecesSurvey s table (c .0) words → table′ ≡ kept (piecesSurvey s table (c .0) words) table → items′ ≡ piecesItems s table (c .0) words
+      → (x ≡ surveyOf s w words) × ((table′ ≡ elementsAfter s w words) × (items′ ≡ itemsAfter s w words))
+  unfolding elementsAfter itemsAfter
+  way-read x table′ items′ p q h = (
+    p ∙ sym whole,
+    (
+      q ∙ kept-left (piecesSurvey s table (c .0) words .outcome) ∙ ap (λ (v : Survey). left (v .outcome) w (elements.tableOf s w)) (sym whole),
+      h ∙ steps .1 ∙ ap (λ (v : Survey). left (v .outcome) words (itemTable s words)) (sym (steps .0) ∙ sym whole),
+    ),
+  )
+    where
+      kept-left : (o : Outcome) → tables.keptBy o table ≡ left o w (elements.tableOf s w)
+      kept-left (Done y) = f
+      kept-left (Refused y) = ap (λ (k : ℕ). replicate k 0) (ap length f ∙ table-length s w)
+
+pub way-refused : (s : List ℕ) (w words : ℕ) (r : Reading) (y : Refusal) (table items′ : List ℕ) (x : Survey) → r ≡ readingOf s w → table ≡ elements.tableOf s w → r ≡ R.Refused y
+    → items′ ≡ replicate words 0 → x ≡ refusedBy (Elements y) → (x ≡ surveyOf s w words) × ((table ≡ elementsAfter s w words) × (items′ ≡ itemsAfter s w words))
+unfolding surveyOf elementsAfter itemsAfter
+way-refused s w words r y table items′ x e f g h p =
+    let z : readingOf s w ≡ R.Refused y = sym e ∙ g in
+    (rw z p, (rw z (f ∙ table-refused s w z), rw z h))

@@ -1,0 +1,6 @@
+pub mod Survey
+pub mod Given
+pub mod Permitted
+pub mod Records
+pub mod Promises
+pub mod code
