@@ -216,7 +216,7 @@ class Form:
             self.named()
 
     def named(self):
-        """A name; what stands in one with a parenthesis or a tick behind is not looked up."""
+        """A name; what stands in one with a parenthesis or a tick after is not looked up."""
         before = len(self.used)
         self.used.append(self.place)
         self.next(b'N')

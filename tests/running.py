@@ -106,7 +106,7 @@ def answers(printed):
 
 
 class Tally:
-    """Counts the tests of a script and prints each failure."""
+    """Counts the tests of a script and prints each failure; with STOP set, the first one ends the script."""
 
     def __init__(self):
         self.passed = self.failed = 0
@@ -117,6 +117,8 @@ class Tally:
         else:
             self.failed += 1
             print(*lines, sep='\n', flush=True)
+            if os.environ.get('STOP'):
+                self.close()
 
     def close(self):
         print(f'{self.passed} passed, {self.failed} failed')

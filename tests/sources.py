@@ -1,5 +1,5 @@
-"""What tests/audit and tests/reasons read of the sources: the functions of every crate, the definitions of its specs with what they rest on,
-and what each must-fail edit replaces."""
+"""What tests/audit, tests/reasons, tests/mutants and tools/figures read of the sources: the functions of every crate, the definitions of its specs with
+what they rest on, what each must-fail edit replaces, and which changes of the code no test can tell from it."""
 import pathlib
 import re
 import typing
@@ -9,7 +9,7 @@ FUNCTION = re.compile(r'\b(pub(?:\([^)]*\))?\s+)?(?:(?:const|unsafe|async|extern
 SCOPE = re.compile(r'^[ \t]*(?:pub(?:\([^)]*\))?\s+)?(?:unsafe\s+)?(mod|impl|trait)\b([^{};]*)\{', re.M)
 CLAUSES = ('ensures', 'requires')
 USE = re.compile(r'^(?:ghost )?use Rattle·(\w+?)(?:·specs)?\.specs\.([\w.-]+?)(?:\.\{([^}]*)\}| as (\w+));?$', re.M)
-REPLACEMENT = re.compile(r'^file: (.*)$|^old: (.*)\nnew:', re.M)
+REPLACEMENT = re.compile(r'^file: (.*)$|^old: (.*)\nnew: ?(.*)$', re.M)
 
 
 def masked(text):
@@ -18,7 +18,7 @@ def masked(text):
 
 
 def closed(text, place):
-    """The place behind the brace that closes the one at a place."""
+    """The place after the brace that closes the one at a place."""
     depth = 0
     for match in re.finditer(r'[{}]', text[place:]):
         depth += 1 if match[0] == '{' else -1
@@ -135,13 +135,47 @@ class Definitions:
         return reach
 
 
+class Edit(typing.NamedTuple):
+    """A must-fail edit: its file; the texts of code and of definitions that it replaces, each with the file that it stands in; and those of proofs,
+    which it fits to the code, with what takes their place."""
+
+    path: pathlib.Path
+    replaced: list
+    fitted: list
+
+    def answers(self, known):
+        """The wrong answers that it gives: the functions of these in whose text it replaces something, and None for its definitions."""
+        found = []
+        for file, old in self.replaced:
+            function = next((function for function in known.values() if function.file == file and old in function.text), None)
+            if function not in found:
+                found.append(function)
+        return found
+
+
 def edits(root, crate='*'):
-    """The must-fail edits of a crate, or of all: each with its replacements, the file that one is made in and the text that it replaces."""
+    """The must-fail edits of a crate, or of all."""
     for path in sorted(root.glob(f'crates/{crate}/must-fail/*.edit')):
-        replacements, file = [], None
-        for named, old in REPLACEMENT.findall(path.read_text()):
+        edit, file = Edit(path, [], []), None
+        for named, old, new in REPLACEMENT.findall(path.read_text()):
             if named:
                 file = path.parents[1] / named
+            elif file.relative_to(path.parents[1]).parts[0] == 'proofs':
+                edit.fitted.append((file, old, new))
             else:
-                replacements.append((file, old))
-        yield path, replacements
+                edit.replaced.append((file, old))
+        yield edit
+
+
+def equivalents(root):
+    """The changes that tests/mutation/equivalent lists, each with the reason before it: the function, its line, the line as changed."""
+    found, reason, fresh = {}, '', True
+    lines = (root / 'tests/mutation/equivalent').read_text().split('\n')
+    for place, line in enumerate(lines):
+        if line.startswith('# '):
+            reason = line[2:] if fresh else f'{reason} {line[2:]}'
+            fresh = False
+        elif line.startswith('in: '):
+            found[line[4:], lines[place + 1][5:], lines[place + 2][5:]] = reason
+            fresh = True
+    return found

@@ -1,7 +1,7 @@
 /* fuzz SECONDS SEED: the static library on texts that nobody wrote. A text is one of a pool, changed by chance; it joins the pool where an
    answer comes that none before it gave. Every buffer stands between two pages that may not be touched, flush with the one or with the
    other, and what is left on the other side must stay as it was. Each answer must be one that 01 knows, with rows that hold together and
-   zeros behind them; the strict reading and the survey must leave the elements that the reader of elements leaves.
+   zeros after them; the strict reading and the survey must leave the elements that the reader of elements leaves.
    The kit's clang has no headers of the C library, so what is called is declared. */
 #include "../../include/kawhiluhe.h"
 
@@ -249,7 +249,7 @@ static void try_text(void)
     word *alone = place(&alone_room, 8 * room, side);
     struct kawhiluhe_elements e = kawhiluhe_elements(t, length, alone, room);
     must(is_one_of(e.refusal, "abd"), "a refusal of the elements that 01 does not know"); /* 0, 1, 3 */
-    must(zeros(alone, 3 * e.elements, room), "zeros behind the elements");
+    must(zeros(alone, 3 * e.elements, room), "zeros after the elements");
     must(in_order(alone, e.elements, length), "elements in order");
     fresh = 0;
     mix(e.refusal);

@@ -1,5 +1,5 @@
-/* The static library from C: each function with tables of every size around the edge, filled with garbage first. Rows, zeros behind
-   them, all zeros after every refusal, and the words behind a table untouched. Each expectation is written out here, from 01.
+/* The static library from C: each function with tables of every size around the edge, filled with garbage first. Rows, zeros after
+   them, all zeros after every refusal, and the words past a table untouched. Each expectation is written out here, from 01.
    The kit's clang has no headers of the C library, so what is called is declared. */
 #include "../../include/kawhiluhe.h"
 
@@ -39,7 +39,7 @@ static void fill(word *table)
     for (word i = 0; i < ROOM + GUARD; i++) table[i] = garbage(i);
 }
 
-/* The table of so many words holds these, then zeros, and nothing behind it was touched. */
+/* The table of so many words holds these, then zeros, and nothing past it was touched. */
 static int holds(const word *table, word size, const word *row, word count)
 {
     for (word i = 0; i < size; i++)
@@ -291,6 +291,121 @@ static void lookups(void)
     test(looked_up(0, 0, elements, ROOM, "ch4", 3, gas_items, 48) == 6, "lookup without a text", ROOM, 48);
 }
 
+/* The lines of a listing through a buffer of every size: whole lines as many as fit with a byte to spare, zeros after them, the bytes after
+   the buffer untouched; and what is written part after part is the listing, or the first line that has no room stops it. */
+enum { LINES = 400 };
+
+static kawhiluhe_byte lines[LINES + GUARD], written[LINES];
+
+typedef struct kawhiluhe_filled filler(word from, kawhiluhe_byte *out, word size);
+
+static const char *listed_text;
+static struct kawhiluhe_elements listed_elements;
+static struct kawhiluhe_judged listed_judged;
+static struct kawhiluhe_surveyed listed_surveyed;
+
+static struct kawhiluhe_filled fill_elements(word from, kawhiluhe_byte *out, word size)
+{
+    return kawhiluhe_element_lines(elements, ROOM, &listed_elements, KAWHILUHE_ELEMENTS_WORDS, from, out, size);
+}
+
+static struct kawhiluhe_filled fill_tree(word from, kawhiluhe_byte *out, word size)
+{
+    return kawhiluhe_tree_lines(second, ROOM, &listed_judged, KAWHILUHE_JUDGED_WORDS, from, out, size);
+}
+
+static struct kawhiluhe_filled fill_survey(word from, kawhiluhe_byte *out, word size)
+{
+    return kawhiluhe_survey_lines(bytes(listed_text), length(listed_text), elements, ROOM, second, ROOM, &listed_surveyed, KAWHILUHE_SURVEYED_WORDS,
+                                  from, out, size);
+}
+
+static struct kawhiluhe_filled fill_records(word from, kawhiluhe_byte *out, word size)
+{
+    return kawhiluhe_record_lines(second, ROOM, &listed_surveyed, KAWHILUHE_SURVEYED_WORDS, from, out, size);
+}
+
+/* One part: it ends after a line, or holds nothing; all after it is zeros, and the next line would not fit. */
+static int whole_part(const char *listing, word at, struct kawhiluhe_filled f, word size)
+{
+    word next = at + f.used, end = next;
+    if (size == 0 ? f.used != 0 : f.used >= size) return 0;
+    if (f.used && listing[next - 1] != '\n') return 0;
+    for (word i = 0; i < f.used; i++)
+        if (lines[i] != (kawhiluhe_byte)listing[at + i]) return 0;
+    for (word i = f.used; i < size; i++)
+        if (lines[i]) return 0;
+    for (word i = size; i < size + GUARD; i++)
+        if (lines[i] != 0xa5) return 0;
+    if (!f.left) return !listing[next];
+    while (listing[end] && listing[end] != '\n') end++;
+    return f.used + (end + 1 - next) >= size || listing[next] == 0;
+}
+
+static void try_lines(const char *label, filler *fills, const char *listing)
+{
+    for (word size = 0; size < LINES; size++) {
+        word from = 0, at = 0, turns = 0;
+        struct kawhiluhe_filled f;
+        do {
+            for (word i = 0; i < LINES + GUARD; i++) lines[i] = 0xa5;
+            f = fills(from, lines, size);
+            int whole = whole_part(listing, at, f, size);
+            test(whole, label, size, from);
+            if (!whole) return;
+            for (word i = 0; i < f.used; i++) written[at + i] = lines[i];
+            at += f.used;
+            if (f.left && f.next == from) break;
+            from = f.next;
+        } while (f.left && ++turns < LINES);
+        if (f.left) continue;
+        test(at == length(listing), label, size, at);
+        f = fills(from + 7, lines, size);
+        test(f.next == from + 7 && !f.used && !f.left, label, size, 7);
+    }
+}
+
+static void listings(void)
+{
+    static const char gas[] = "package g is constant ch4 : natural := 5; constant x : natural := ; subtype s is integer range -3 to 7; "
+                              "constant t : boolean := true; y; end g;";
+    listed_text = gas;
+    fill(elements), fill(second);
+    listed_surveyed = kawhiluhe_survey(bytes(gas), length(gas), elements, ROOM, second, ROOM);
+    try_lines("the lines of a survey", fill_survey,
+              "pieces 7 whole no\n1 constant ch4 value 5\n2 constant x broken\n3 subtype s value -3 to 7\n4 constant t value true\n5 piece - broken\n");
+    try_lines("the lines of its records", fill_records,
+              "pieces 7 frame good whole no\n0 1 0 3 1 0 0 0 0\n1 3 3 7 4 0 1 5 0\n2 3 10 6 11 1 0 0 0\n3 4 16 10 17 0 1 -3 7\n4 3 26 7 27 0 2 1 0\n"
+              "5 5 33 2 0 1 0 0 0\n6 2 35 3 36 0 0 0 0\ntally 3 2 0 0 0 0 0 0 0 0 0\npair none\n");
+    static const char loop[] = "entity e is end;";
+    listed_text = loop;
+    fill(elements), fill(second);
+    listed_judged = kawhiluhe_strict(bytes(loop), length(loop), elements, ROOM, second, ROOM);
+    try_lines("the lines of a tree", fill_tree, "rows 1 passes yes\n0 2 0 5 1 0\n");
+    listed_judged.passes = 0, listed_judged.row = 12;
+    try_lines("the lines of one that does not pass", fill_tree, "rows 1 passes no at 12\n0 2 0 5 1 0\n");
+    listed_elements = kawhiluhe_elements(bytes("\\x\\ 1.5 'a' \"s\" 5 b ; _"), 24, elements, ROOM);
+    try_lines("the lines of elements", fill_elements,
+              "elements 8\n0 extended 0 3\n1 real 4 3\n2 character 8 3\n3 string 12 3\n4 integer 16 1\n5 identifier 18 1\n6 delimiter 20 1\n7 unreadable 22 2\n");
+    listed_elements.refusal = KAWHILUHE_ELEMENT_TABLE_SHORT, listed_elements.place = 7;
+    try_lines("the line of a refusal", fill_elements, "refused 4 at 7\n");
+    listed_surveyed.refusal = KAWHILUHE_TOO_MANY_PIECES, listed_surveyed.place = 1024;
+    try_lines("a survey that is refused", fill_survey, "refused 9 at 1024\n");
+    try_lines("records of one", fill_records, "refused 9 at 1024\n");
+    /* any answer and any table: garbage has lines too, and ends */
+    fill(elements), fill(second);
+    for (word i = 0; i < KAWHILUHE_SURVEYED_WORDS; i++) ((word *)&listed_surveyed)[i] = garbage(i);
+    listed_surveyed.refusal = 0;
+    word from = 0, turns = 0;
+    struct kawhiluhe_filled f;
+    do f = fill_survey(from, lines, LINES), from = f.next; while (f.left && f.used && ++turns < ROOM);
+    test(f.used < LINES, "an answer that is garbage", LINES, turns);
+    f = kawhiluhe_survey_lines(0, 0, 0, 0, 0, 0, 0, 0, 0, lines, LINES);
+    test(f.used == 18 && f.next == 1 && !f.left, "an answer of no words", LINES, 0);
+    f = kawhiluhe_survey_lines(0, 0, 0, 0, 0, 0, 0, 0, 0, 0, 0);
+    test(!f.used && !f.next && f.left == 1, "no buffer", 0, 0);
+}
+
 static void nothing_lent(void)
 {
     struct kawhiluhe_elements e = kawhiluhe_elements(0, 0, 0, 0);
@@ -341,6 +456,7 @@ int main(void)
     lookups();
     lookups_of_names();
     nothing_lent();
+    listings();
     printf("%ld passed, %ld failed\n", passed, failed);
     return failed != 0;
 }
