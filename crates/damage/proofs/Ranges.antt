@@ -16,8 +16,8 @@ use Rattle.grammars.proofs.Check.{below, below-at, imp, imp-at}
 use Rattle.grammars.proofs.Room as room
 use Rattle.forms.specs.Kinds.{terminalOf}
 use Rattle.forms.specs.Kinds as words
-use Rattle.forms.specs.Names.{constant, subtype}
-use Rattle.forms.specs.Rules.{forms, body}
+use Rattle.forms.specs.Names.{constant, subtype, subtype-range, range as rangeName, mark as markName, nameNumber}
+use Rattle.forms.specs.Rules.{forms, body, ruleOf}
 use Rattle.forms.specs.Tree.{Row, Frame, State, Refusal, name-differs, too-deep, fresh, top, onTop, joined, marked, named, rowed, isNamed, does, start, rowsOf}
 use Rattle.forms.specs.Reading.{readingFrom}
 use Rattle.forms.specs.Items.{ItemReading, itemRow, markRow}
@@ -29,11 +29,15 @@ use Rattle.pieces.specs.Kinds.{isName, isHeading, endsAt, isClosing, claimMark,
 use Rattle.tree.specs.Answers.{terminalsIn}
 use Rattle.tree.specs.Items.{unlike, readingBy, readingOfPiece, rowsRead, rowsOfPiece}
 
+-- "[range 10]" has two rules, one after the other: with a range, and without
+abbrev rangeRule : ℕ
+rangeRule = ruleOf (nameNumber subtype-range)
+
 -- ---- a subtype's range
 
 -- what is left after a range's row: it is put among the item's, the semicolon is read, and the item's own row is made
 abbrev ending : List Sym
-ending = act 1 ∷ tok 63 ∷ act 12 ∷ act 1 ∷ []
+ending = act 1 ∷ words.semicolon ∷ act 12 ∷ act 1 ∷ []
 
 -- what is left of a subtype, i frames inside its range's: the last row of that one is of form 10
 abbrev Tail : ℕ → List Sym → Type 0
@@ -181,25 +185,25 @@ module _ (alike : ℕ → ℕ → Bool) where
 
   -- ---- a subtype up to its range
 
-  only : (n q : ℕ) → T (below 165 (λ p. imp (eqb (forms .lhs p) n) (eqb p q))) → (p : ℕ) → p < 165 → forms .lhs p ≡ n → p ≡ q
+  only : (n q : ℕ) → T (below (forms .count) (λ p. imp (eqb (forms .lhs p) n) (eqb p q))) → (p : ℕ) → p < forms .count → forms .lhs p ≡ n → p ≡ q
   only n q h p l e =
-      eqb→eq p q (imp-at (eqb (forms .lhs p) n) (eqb p q) (below-at 165 (λ p. imp (eqb (forms .lhs p) n) (eqb p q)) h p l) (subst T (sym (eq-eqb (forms .lhs p) n e)) tt))
+      eqb→eq p q (imp-at (eqb (forms .lhs p) n) (eqb p q) (below-at (forms .count) (λ p. imp (eqb (forms .lhs p) n) (eqb p q)) h p l) (subst T (sym (eq-eqb (forms .lhs p) n e)) tt))
 
   one-of-two : (a b : Bool) → T (a || b) → T a ⊎ T b
   one-of-two true b h = inl tt
   one-of-two false b h = inr h
 
-  either-rule : (p : ℕ) → p < 165 → forms .lhs p ≡ 16 → (p ≡ 31) ⊎ (p ≡ 32)
-  either-rule p l e = pick (one-of-two (eqb p 31) (eqb p 32) (imp-at (eqb (forms .lhs p) 16) (eqb p 31 || eqb p 32) (below-at 165 (λ p. imp (eqb (forms .lhs p) 16) (eqb p 31 || eqb p 32)) tt p l) (subst T (sym (eq-eqb (forms .lhs p) 16 e)) tt)))
+  either-rule : (p : ℕ) → p < forms .count → forms .lhs p ≡ nameNumber subtype-range → (p ≡ rangeRule) ⊎ (p ≡ suc rangeRule)
+  either-rule p l e = pick (one-of-two (eqb p rangeRule) (eqb p (suc rangeRule)) (imp-at (eqb (forms .lhs p) (nameNumber subtype-range)) (eqb p rangeRule || eqb p (suc rangeRule)) (below-at (forms .count) (λ p. imp (eqb (forms .lhs p) (nameNumber subtype-range)) (eqb p rangeRule || eqb p (suc rangeRule))) tt p l) (subst T (sym (eq-eqb (forms .lhs p) (nameNumber subtype-range) e)) tt)))
     where
-      pick : T (eqb p 31) ⊎ T (eqb p 32) → (p ≡ 31) ⊎ (p ≡ 32)
-      pick (inl h) = inl (eqb→eq p 31 h)
-      pick (inr h) = inr (eqb→eq p 32 h)
+      pick : T (eqb p rangeRule) ⊎ T (eqb p (suc rangeRule)) → (p ≡ rangeRule) ⊎ (p ≡ suc rangeRule)
+      pick (inl h) = inl (eqb→eq p rangeRule h)
+      pick (inr h) = inr (eqb→eq p (suc rangeRule) h)
 
   abbrev afterMark : ℕ → State → State
   afterMark k s = record { frames = joined (onTop (rowed 31 (suc k)) (fresh k ∷ s .frames)); depth = s .depth }
 
-  mark-body : (k : ℕ) (s : State) {α : List Sym} {w : List ℕ} {s′ : State} → Reads State Refusal forms (does alike) (body 160 ++ α) k s w s′
+  mark-body : (k : ℕ) (s : State) {α : List Sym} {w : List ℕ} {s′ : State} → Reads State Refusal forms (does alike) (body (ruleOf (nameNumber markName)) ++ α) k s w s′
       → (v : List ℕ) × Reads State Refusal forms (does alike) α (suc k) (afterMark k s) v s′
   unfolding does
   mark-body k s {α = α} {s′ = s′} (acts {t = t} d (eat {w = v} (acts {t = u} e (acts {t = x} g r)))) =
@@ -210,10 +214,10 @@ module _ (alike : ℕ → ℕ → Bool) where
       sym q ∙ ap (λ (o : State). record { frames = joined (o .frames); depth = o .depth }) (sym y) ∙ ap (λ (o : State). record { frames = joined (onTop (rowed 31 (suc k)) (o .frames)); depth = o .depth }) (sym z) in
       (v, subst (λ (o : State). Reads State Refusal forms (does alike) α (suc k) o v s′) n r)
 
-  mark-read : (k : ℕ) (s : State) {α : List Sym} {w : List ℕ} {s′ : State} → Reads State Refusal forms (does alike) (nt 77 ∷ α) k s w s′
+  mark-read : (k : ℕ) (s : State) {α : List Sym} {w : List ℕ} {s′ : State} → Reads State Refusal forms (does alike) (markName ∷ α) k s w s′
       → (v : List ℕ) × Reads State Refusal forms (does alike) α (suc k) (afterMark k s) v s′
   mark-read k s {α = α} {w = w} {s′ = s′} (grow p l e r) =
-      mark-body k s {α = α} (subst (λ (x : ℕ). Reads State Refusal forms (does alike) (body x ++ α) k s w s′) (only 77 160 tt p l e) r)
+      mark-body k s {α = α} (subst (λ (x : ℕ). Reads State Refusal forms (does alike) (body x ++ α) k s w s′) (only (nameNumber markName) (ruleOf (nameNumber markName)) tt p l e) r)
 
   -- its own frame and the reading's, the mark's row alone in the first
   abbrev Marked : List Frame → Type 0
@@ -227,14 +231,14 @@ module _ (alike : ℕ → ℕ → Bool) where
       short : {a b : Row} → a ∷ (b ∷ []) ≡ item ∷ mark ∷ range ∷ rs → range .form ≡ 10
       short e = let z : _≡_ {A = ℕ} 0 1 = cc in clash z
 
-  no-range : (k : ℕ) {w : List ℕ} (s : State) {s′ : State} → Reads State Refusal forms (does alike) (tok 63 ∷ act 12 ∷ act 1 ∷ []) k s w s′ → Marked (s .frames) → Ranged s′
+  no-range : (k : ℕ) {w : List ℕ} (s : State) {s′ : State} → Reads State Refusal forms (does alike) (words.semicolon ∷ act 12 ∷ act 1 ∷ []) k s w s′ → Marked (s .frames) → Ranged s′
   unfolding does
   no-range k s {s′ = s′} (eat (acts {k = j} {t = b} c (acts o done))) h item mark range rs q =
       let x : _≡_ {A = State} (record { frames = onTop (rowed 5 j) (s .frames); depth = s .depth }) b = cc in
       let v : _≡_ {A = State} (record { frames = joined (b .frames); depth = b .depth }) s′ = cc in
       no-third j (s .frames) h item mark range rs (ap (λ (u : State). top (joined (u .frames)) .rows) x ∙ ap rowsOf v ∙ q)
 
-  range-body : (k : ℕ) {w : List ℕ} (s : State) {s′ : State} → Reads State Refusal forms (does alike) (body 43 ++ (tok 63 ∷ act 12 ∷ act 1 ∷ [])) k s w s′ → Marked (s .frames) → Ranged s′
+  range-body : (k : ℕ) {w : List ℕ} (s : State) {s′ : State} → Reads State Refusal forms (does alike) (body (ruleOf (nameNumber rangeName)) ++ (words.semicolon ∷ act 12 ∷ act 1 ∷ [])) k s w s′ → Marked (s .frames) → Ranged s′
   unfolding does
   range-body k s {s′ = s′} (acts {t = t} d r) h =
       let z : _≡_ {A = State} (record { frames = fresh k ∷ s .frames; depth = s .depth }) t = cc in
@@ -244,33 +248,33 @@ module _ (alike : ℕ → ℕ → Bool) where
       opened [] h = absurd h
       opened (g ∷ fs) h = h
 
-  word-read : {k : ℕ} {w : List ℕ} {s s′ : State} → Reads State Refusal forms (does alike) (body 31 ++ (tok 63 ∷ act 12 ∷ act 1 ∷ [])) k s w s′ → Marked (s .frames) → Ranged s′
+  word-read : {k : ℕ} {w : List ℕ} {s s′ : State} → Reads State Refusal forms (does alike) (body rangeRule ++ (words.semicolon ∷ act 12 ∷ act 1 ∷ [])) k s w s′ → Marked (s .frames) → Ranged s′
   word-read (eat {k = k} {w = v} {s = s} {s′ = s′} (grow q l e r)) h =
-      range-body (suc k) s (subst (λ (x : ℕ). Reads State Refusal forms (does alike) (body x ++ (tok 63 ∷ act 12 ∷ act 1 ∷ [])) (suc k) s v s′) (only 23 43 tt q l e) r) h
+      range-body (suc k) s (subst (λ (x : ℕ). Reads State Refusal forms (does alike) (body x ++ (words.semicolon ∷ act 12 ∷ act 1 ∷ [])) (suc k) s v s′) (only (nameNumber rangeName) (ruleOf (nameNumber rangeName)) tt q l e) r) h
 
-  range-read : (k : ℕ) {w : List ℕ} (s : State) {s′ : State} → Reads State Refusal forms (does alike) (nt 16 ∷ tok 63 ∷ act 12 ∷ act 1 ∷ []) k s w s′ → Marked (s .frames) → Ranged s′
+  range-read : (k : ℕ) {w : List ℕ} (s : State) {s′ : State} → Reads State Refusal forms (does alike) (subtype-range ∷ words.semicolon ∷ act 12 ∷ act 1 ∷ []) k s w s′ → Marked (s .frames) → Ranged s′
   range-read k {w = w} s {s′ = s′} (grow p l e r) h = by (either-rule p l e)
     where
-      by : (p ≡ 31) ⊎ (p ≡ 32) → Ranged s′
-      by (inl z) = word-read (subst (λ (x : ℕ). Reads State Refusal forms (does alike) (body x ++ (tok 63 ∷ act 12 ∷ act 1 ∷ [])) k s w s′) z r) h
-      by (inr z) = no-range k s (subst (λ (x : ℕ). Reads State Refusal forms (does alike) (body x ++ (tok 63 ∷ act 12 ∷ act 1 ∷ [])) k s w s′) z r) h
+      by : (p ≡ rangeRule) ⊎ (p ≡ suc rangeRule) → Ranged s′
+      by (inl z) = word-read (subst (λ (x : ℕ). Reads State Refusal forms (does alike) (body x ++ (words.semicolon ∷ act 12 ∷ act 1 ∷ [])) k s w s′) z r) h
+      by (inr z) = no-range k s (subst (λ (x : ℕ). Reads State Refusal forms (does alike) (body x ++ (words.semicolon ∷ act 12 ∷ act 1 ∷ [])) k s w s′) z r) h
 
-  subtype-body : {w : List ℕ} {s : State} → Reads State Refusal forms (does alike) (body 30 ++ []) 0 start w s → Ranged s
+  subtype-body : {w : List ℕ} {s : State} → Reads State Refusal forms (does alike) (body (ruleOf (nameNumber subtype)) ++ []) 0 start w s → Ranged s
   unfolding does
   subtype-body {s = s} (acts {t = t} e (eat (eat (eat {w = w} r)))) =
       let z : _≡_ {A = State} (record { frames = fresh 0 ∷ fresh 0 ∷ []; depth = 0 }) t = cc in
-      let m = mark-read 3 (record { frames = fresh 0 ∷ fresh 0 ∷ []; depth = 0 }) (subst (λ (o : State). Reads State Refusal forms (does alike) (nt 77 ∷ nt 16 ∷ tok 63 ∷ act 12 ∷ act 1 ∷ []) 3 o w s) (sym z) r) in
+      let m = mark-read 3 (record { frames = fresh 0 ∷ fresh 0 ∷ []; depth = 0 }) (subst (λ (o : State). Reads State Refusal forms (does alike) (markName ∷ subtype-range ∷ words.semicolon ∷ act 12 ∷ act 1 ∷ []) 3 o w s) (sym z) r) in
       range-read 4 (afterMark 3 (record { frames = fresh 0 ∷ fresh 0 ∷ []; depth = 0 })) (m .1) (_, refl, refl)
 
-  pub subtype-ranged : (w : List ℕ) (s : State) → ItemReading (nt 15) alike w s → Ranged s
-  subtype-ranged w s (grow p l e r) = subtype-body (subst (λ (x : ℕ). Reads State Refusal forms (does alike) (body x ++ []) 0 start w s) (only 15 30 tt p l e) r)
+  pub subtype-ranged : (w : List ℕ) (s : State) → ItemReading subtype alike w s → Ranged s
+  subtype-ranged w s (grow p l e r) = subtype-body (subst (λ (x : ℕ). Reads State Refusal forms (does alike) (body x ++ []) 0 start w s) (only (nameNumber subtype) (ruleOf (nameNumber subtype)) tt p l e) r)
 
   -- ---- a constant has a name
 
-  pub constant-named : (w : List ℕ) (s : State) → ItemReading (nt 14) alike w s → (v : List ℕ) × (w ≡ 12 ∷ 1 ∷ v)
-  constant-named w s (grow p l e r) = named-body (subst (λ (x : ℕ). Reads State Refusal forms (does alike) (body x ++ []) 0 start w s) (only 14 29 tt p l e) r)
+  pub constant-named : (w : List ℕ) (s : State) → ItemReading constant alike w s → (v : List ℕ) × (w ≡ words.numberOf words.word-constant ∷ words.numberOf words.identifier ∷ v)
+  constant-named w s (grow p l e r) = named-body (subst (λ (x : ℕ). Reads State Refusal forms (does alike) (body x ++ []) 0 start w s) (only (nameNumber constant) (ruleOf (nameNumber constant)) tt p l e) r)
     where
-      named-body : {w : List ℕ} → Reads State Refusal forms (does alike) (body 29 ++ []) 0 start w s → (v : List ℕ) × (w ≡ 12 ∷ 1 ∷ v)
+      named-body : {w : List ℕ} → Reads State Refusal forms (does alike) (body (ruleOf (nameNumber constant)) ++ []) 0 start w s → (v : List ℕ) × (w ≡ words.numberOf words.word-constant ∷ words.numberOf words.identifier ∷ v)
       named-body (acts e (eat (eat {w = v} r))) = (v, refl)
 
 -- ---- the rows of a piece
@@ -302,7 +306,7 @@ constant-class ks e n = rw (e, n, never (eqb (length ks) 3))
     never true = refl
     never false = refl
 
-second-name : (ks v : List ℕ) → terminalsIn ks ≡ 12 ∷ 1 ∷ v → isName (getD ks 1 0) ≡ true
+second-name : (ks v : List ℕ) → terminalsIn ks ≡ words.numberOf words.word-constant ∷ words.numberOf words.identifier ∷ v → isName (getD ks 1 0) ≡ true
 second-name [] v e = let z : _≡_ {A = ℕ} 0 1 = cc in clash z
 second-name (k ∷ []) v e = let z : _≡_ {A = ℕ} 0 1 = cc in clash z
 second-name (k ∷ j ∷ ks) v e = let z : terminalOf j ≡ 1 = cc in name-kind j z
