@@ -143,15 +143,6 @@ class Edit(typing.NamedTuple):
     replaced: list
     fitted: list
 
-    def answers(self, known):
-        """The wrong answers that it gives: the functions of these in whose text it replaces something, and None for its definitions."""
-        found = []
-        for file, old in self.replaced:
-            function = next((function for function in known.values() if function.file == file and old in function.text), None)
-            if function not in found:
-                found.append(function)
-        return found
-
 
 def edits(root, crate='*'):
     """The must-fail edits of a crate, or of all."""

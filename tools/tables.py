@@ -1,7 +1,7 @@
 #!/usr/bin/env python3
 """Writes the tables that follow from the rules: crates/forms/specs/code/Picks.antt (which rule at which next kind), crates/forms/proofs/Hints.antt
 (the hint tables of the computed tests), crates/form_table/src/lib.rt's byte string and counts, and the numbers in crates/tree/src/lib.rt of what the
-code starts at. Reads crates/forms/specs/{Kinds,Names,Rules}.antt.
+code starts at. Reads crates/forms/specs/code/{Kinds,Names,Rules}.antt.
 No table is trusted: the checker computes the tests. Run it from the repository's root after an edit of the rules. Python 3, standard library."""
 import os
 import re
@@ -19,17 +19,17 @@ def load():
     number = {}
     kinds, names, acts = {}, {}, {}
     for path, into in (('Kinds', kinds), ('Names', names)):
-        for n, sort, x in re.findall(r'^(\S+) = (tok|nt|act) (\d+)$', text('crates/forms/specs/%s.antt' % path), re.M):
+        for n, sort, x in re.findall(r'^(\S+) = (tok|nt|act) (\d+)$', text('crates/forms/specs/code/%s.antt' % path), re.M):
             (acts if sort == 'act' else into)[n] = int(x)
             number[n] = ({'tok': TOK, 'nt': NT, 'act': ACT}[sort], int(x))
     rules = []
-    for m in re.finditer(r'^    (?:∷ )?rule (\S+) (?:\((.*)\)|\[\])$', text('crates/forms/specs/Rules.antt'), re.M):
+    for m in re.finditer(r'^    (?:∷ )?rule (\S+) (?:\((.*)\)|\[\])$', text('crates/forms/specs/code/Rules.antt'), re.M):
         body = []
         for s in (m.group(2) or '[]').split(' ∷ ')[:-1]:
             body.append((ACT, 7 + int(s[4:])) if s.startswith('row ') else number[s])
         rules.append((names[m.group(1)], tuple(body)))
     last = max(kinds.values())
-    listing = re.search(r'^kinds =\n(.*?)\n    \[\]', text('crates/forms/specs/Kinds.antt'), re.M | re.S).group(1)
+    listing = re.search(r'^kinds =\n(.*?)\n    \[\]', text('crates/forms/specs/code/Kinds.antt'), re.M | re.S).group(1)
     return rules, names, last + 1, [kinds[k] for k in re.findall(r'[a-z][a-z-]*', listing)]
 
 
@@ -276,7 +276,7 @@ def main():
 -- for the end of the text. In it stands the rule's number and one more, or 0. Assumes nothing: the LL(1) test is computed.
 use Prim.Native.Nat.{ℕ}
 use mathlib.Core.List.{List, [], _∷_}
-use Rattle.grammars.specs.Grammar.{predictBy}
+use Rattle.grammars.specs.code.Grammar.{predictBy}
 
 ''' + nest('picks', 'the table', g.picks) + '''abbrev pub predict : ℕ → ℕ → ℕ
 predict = predictBy picks

@@ -365,6 +365,18 @@ static void try_lines(const char *label, filler *fills, const char *listing)
     }
 }
 
+/* The tally's line of an answer of which fewer words are lent: the counts that are among them. */
+static void try_tally(word tally_line, word before)
+{
+    static const char tally[] = "tally 3 2 0 0 0 0 0 0 0 0 0";
+    for (word counts = 0; counts <= KAWHILUHE_STATES; counts++) {
+        word size = 5 + 2 * counts, good = 1;
+        kawhiluhe_record_lines(second, ROOM, &listed_surveyed, before + counts, tally_line, lines, LINES);
+        for (word i = 0; i < size; i++) good &= lines[i] == (kawhiluhe_byte)tally[i];
+        test(good && lines[size] == '\n', "the tally of an answer's first words", before + counts, counts);
+    }
+}
+
 static void listings(void)
 {
     static const char gas[] = "package g is constant ch4 : natural := 5; constant x : natural := ; subtype s is integer range -3 to 7; "
@@ -377,6 +389,7 @@ static void listings(void)
     try_lines("the lines of its records", fill_records,
               "pieces 7 frame good whole no\n0 1 0 3 1 0 0 0 0\n1 3 3 7 4 0 1 5 0\n2 3 10 6 11 1 0 0 0\n3 4 16 10 17 0 1 -3 7\n4 3 26 7 27 0 2 1 0\n"
               "5 5 33 2 0 1 0 0 0\n6 2 35 3 36 0 0 0 0\ntally 3 2 0 0 0 0 0 0 0 0 0\npair none\n");
+    try_tally(8, KAWHILUHE_SURVEYED_WORDS - KAWHILUHE_STATES);
     static const char loop[] = "entity e is end;";
     listed_text = loop;
     fill(elements), fill(second);

@@ -10,19 +10,19 @@ use lib.Dec.{eqb}
 use lib.ListN.{length, drop, getD, drop-of-length-le}
 use lib.Seq.{drop-cons}
 use Rattle.classes.specs.Bytes.{isDigit, digitValue}
-use Rattle.arguments.specs.Arguments.{valueFrom, valueOf, same}
-use Rattle.arguments.specs.declared.Value.{Value}
-use Rattle.arguments.specs.declared.Value.the-variants.{Is, Nothing}
+use Rattle.arguments.specs.Arguments.{valueFrom, amountOf, same}
+use Rattle.arguments.specs.declared.Amount.{Amount}
+use Rattle.arguments.specs.declared.Amount.the-variants.{Is, Nothing}
 
-pub value-empty : (most : ℕ) (s : List ℕ) → length s ≡ 0 → Nothing ≡ valueOf most s
-unfolding valueOf
+pub value-empty : (most : ℕ) (s : List ℕ) → length s ≡ 0 → Nothing ≡ amountOf most s
+unfolding amountOf
 value-empty most s e = rw (eq-eqb (length s) 0 e)
 
-pub value-some : (most : ℕ) (s : List ℕ) → (length s ≡ 0 → ⊥) → valueFrom most 0 s ≡ valueOf most s
-unfolding valueOf
+pub value-some : (most : ℕ) (s : List ℕ) → (length s ≡ 0 → ⊥) → valueFrom most 0 s ≡ amountOf most s
+unfolding amountOf
 value-some most s e = rw (ne-eqb (length s) 0 e)
 
-module _ (most : ℕ) (s : List ℕ) (i v : ℕ) (x : Bool) (whole : Value) (k : valueFrom most v (drop i s) ≡ whole) (h : i < length s) (e : x ≡ isDigit (getD s i 0)) where
+module _ (most : ℕ) (s : List ℕ) (i v : ℕ) (x : Bool) (whole : Amount) (k : valueFrom most v (drop i s) ≡ whole) (h : i < length s) (e : x ≡ isDigit (getD s i 0)) where
   pub value-broken : not x ≡ true → Nothing ≡ whole
   unfolding valueFrom
   value-broken t = rw (drop-cons s i 0 h, ← e, not-true x t, valueFrom) at k
@@ -31,7 +31,7 @@ module _ (most : ℕ) (s : List ℕ) (i v : ℕ) (x : Bool) (whole : Value) (k :
   unfolding valueFrom
   value-more w t p = rw (p, add-one) (rw (drop-cons s i 0 h, ← e, not-false x t, valueFrom) at k)
 
-pub value-end : (most : ℕ) (s : List ℕ) (i v : ℕ) (whole : Value) → valueFrom most v (drop i s) ≡ whole → length s ≤ i → Is v ≡ whole
+pub value-end : (most : ℕ) (s : List ℕ) (i v : ℕ) (whole : Amount) → valueFrom most v (drop i s) ≡ whole → length s ≤ i → Is v ≡ whole
 unfolding valueFrom
 value-end most s i v whole k h = rw (drop-of-length-le s h) at k
 

@@ -6,6 +6,26 @@ use console::Shown;
 use libc::STDIN_FILENO;
 ghost use Prim.Native.Nat.{_≤_};
 
+// Where the three numbers of a case's head stand, the last byte of a number, and how many bytes the head has.
+const ROWS_AT: usize = 1;
+
+const OTHER_ROWS_AT: usize = 4;
+
+const LENGTH_AT: usize = 7;
+
+const LAST: usize = 2;
+
+const HEAD: usize = 10;
+
+// How many numbers a byte has.
+const BYTES: usize = 256;
+
+// Room for a text twice as long as a text may be.
+const TEXT_ROOM: usize = 2 * places::MOST_BYTES;
+
+// A run has fewer cases.
+const MOST_CASES: u64 = 1000000000;
+
 fn wide(b: u8) -> usize
     ensures { λ r. ⌜ r ≤ 255 ⌝ }
 {
@@ -14,13 +34,13 @@ fn wide(b: u8) -> usize
 
 // A number of three bytes.
 fn number_at(head: &[u8], at: usize) -> usize {
-    if head.len() < 10 {
+    if head.len() < HEAD {
         return 0;
     }
-    if 7 < at {
+    if LENGTH_AT < at {
         return 0;
     }
-    wide(head[at]) * 65536 + wide(head[at + 1]) * 256 + wide(head[at + 2])
+    wide(head[at]) * BYTES * BYTES + wide(head[at + 1]) * BYTES + wide(head[at + LAST])
 }
 
 fn listed(
@@ -38,17 +58,17 @@ fn listed(
 // What a case asks for: the mode `e` lists elements, `s` the tree, `l` a survey's items, `r` its records, `q` the first line of its listing
 // alone, so that its cost is that of the reading. One table serves for trees and items.
 fn show(head: &[u8], text: &[u8], table: &mut [u64], others: &mut [u64], out: &mut [u8]) {
-    if head.len() < 10 {
+    if head.len() < HEAD {
         return;
     }
-    let rows = number_at(head, 1);
-    let other_rows = number_at(head, 4);
+    let rows = number_at(head, ROWS_AT);
+    let other_rows = number_at(head, OTHER_ROWS_AT);
     let mode = head[0];
     match mode {
-        101 => console::elements(b"batch", text, table, rows, out),
-        115 => console::tree(b"batch", text, table, rows, others, other_rows, out),
-        113 => listed(text, table, rows, others, other_rows, Shown::Head, out),
-        114 => listed(text, table, rows, others, other_rows, Shown::Records, out),
+        b'e' => console::elements(b"batch", text, table, rows, out),
+        b's' => console::tree(b"batch", text, table, rows, others, other_rows, out),
+        b'q' => listed(text, table, rows, others, other_rows, Shown::Head, out),
+        b'r' => listed(text, table, rows, others, other_rows, Shown::Records, out),
         _ => listed(text, table, rows, others, other_rows, Shown::Items, out),
     }
 }
@@ -64,10 +84,10 @@ fn one(
     let Got::Bytes(n) = console::read_text(STDIN_FILENO, head) else {
         return false;
     };
-    if n < 10 {
+    if n < HEAD {
         return false;
     }
-    let size = lent_tables::least(number_at(head, 7), text.len());
+    let size = lent_tables::least(number_at(head, LENGTH_AT), text.len());
     let Got::Bytes(k) = console::read_text(STDIN_FILENO, &mut text[..size]) else {
         return false;
     };
@@ -77,7 +97,7 @@ fn one(
 
 // At most so many cases.
 fn cases(head: &mut [u8], text: &mut [u8], table: &mut [u64], others: &mut [u64], out: &mut [u8]) {
-    let mut left: u64 = 1000000000;
+    let mut left: u64 = MOST_CASES;
     while 0 < left {
         if !one(head, text, table, others, out) {
             return;
@@ -87,10 +107,10 @@ fn cases(head: &mut [u8], text: &mut [u8], table: &mut [u64], others: &mut [u64]
 }
 
 fn main() {
-    let mut head = [0u8; 10];
-    let mut text = [0u8; 131072];
+    let mut head = [0u8; HEAD];
+    let mut text = [0u8; TEXT_ROOM];
     let mut table = [0u64; places::ROW_WORDS * places::MOST_ELEMENTS];
-    let mut others = [0u64; 5 * places::MOST_ELEMENTS];
+    let mut others = [0u64; form_numbers::ROW_NUMBERS * places::MOST_ELEMENTS];
     let mut out = [0u8; OUT_ROOM];
     cases(&mut head, &mut text, &mut table, &mut others, &mut out);
 }

@@ -8,8 +8,8 @@ use borrow.Author.Tests.{eq-eqb, eqb-true}
 use lib.Dec.{eqb}
 use lib.ListN.{length, getD}
 use Rattle.laws.proofs.Laws.{both-left, both-right}
-use Rattle.pieces.specs.Kinds.{mark, isName, isHeading, behindWord, hasName, endsAt, isClosing, claimMark, markOf}
-use Rattle.pieces.specs.declared.Mark.{Mark}
+use Rattle.pieces.specs.Kinds.{classAt, isName, isHeading, behindWord, hasName, endsAt, isClosing, claimClass, pieceClass}
+use Rattle.pieces.specs.declared.PieceClass.{PieceClass}
 use Rattle.records.specs.Records.{isClaim}
 use Rattle.meaning.specs.Elements.{Element, Piece, at, kinds}
 use Rattle.meaning.specs.Sameness.{sameAs}
@@ -24,9 +24,9 @@ kinds-at [] i = refl
 kinds-at (x ∷ p) zero = refl
 kinds-at (x ∷ p) (suc i) = kinds-at p i
 
-abbrev marked : Bool → Bool → Bool → Bool → Bool → ℕ → Mark
+abbrev marked : Bool → Bool → Bool → Bool → Bool → ℕ → PieceClass
 marked heading closing named constant subtype place =
-    cond heading (mark 1 1) (cond closing (mark 2 place) (cond named (cond constant (mark 3 1) (cond subtype (mark 4 1) (mark 5 0))) (mark 5 0)))
+    cond heading (classAt 1 1) (cond closing (classAt 2 place) (cond named (cond constant (classAt 3 1) (cond subtype (classAt 4 1) (classAt 5 0))) (classAt 5 0)))
 
 begins-so : (heading closing named constant subtype : Bool) (place : ℕ) → isClaim (marked heading closing named constant subtype place .class) ≡ true
     → (constant ≡ true) ⊎ (subtype ≡ true)
@@ -40,8 +40,8 @@ begins-so false false false d e n h = absurd (false≢true h)
 abbrev Begins : ℕ → Type 0
 Begins k = (k ≡ 53) ⊎ (k ≡ 129)
 
-class-begins : (ks : List ℕ) → isClaim (markOf ks .class) ≡ true → Begins (getD ks 0 0)
-unfolding markOf claimMark
+class-begins : (ks : List ℕ) → isClaim (pieceClass ks .class) ≡ true → Begins (getD ks 0 0)
+unfolding pieceClass claimClass
 class-begins ks h =
     go (begins-so (isHeading ks) (isClosing ks) (isName (getD ks 1 0)) (eqb (getD ks 0 0) 53) (eqb (getD ks 0 0) 129) (cond (hasName ks) (behindWord ks) 0) h)
   where
@@ -61,8 +61,8 @@ no-closing : (ks : List ℕ) → eqb (getD ks 0 0) 61 ≡ false → isClosing ks
 unfolding isClosing endsAt
 no-closing ks e = rw e
 
-begins-class : (ks : List ℕ) → Begins (getD ks 0 0) → isName (getD ks 1 0) ≡ true → isClaim (markOf ks .class) ≡ true
-unfolding markOf claimMark
+begins-class : (ks : List ℕ) → Begins (getD ks 0 0) → isName (getD ks 1 0) ≡ true → isClaim (pieceClass ks .class) ≡ true
+unfolding pieceClass claimClass
 begins-class ks (inl e) n = rw (no-heading ks (ap (λ (k : ℕ). eqb k 98) e), no-closing ks (ap (λ (k : ℕ). eqb k 61) e), n, e)
 begins-class ks (inr e) n = rw (no-heading ks (ap (λ (k : ℕ). eqb k 98) e), no-closing ks (ap (λ (k : ℕ). eqb k 61) e), n, e)
 

@@ -6,7 +6,7 @@ use mathlib.Core.List.{List}
 use native.Mathlib.Omega.{arith}
 use lib.ListN.{length}
 use Rattle.classes.specs.Bytes.{endsLine, separates, isLetter, lower, isDigit, isGraphic, digitValue}
-use Rattle.classes.specs.Runs.{inRun, count, goesOn, run}
+use Rattle.classes.specs.Runs.{inRun, countWhile, goesOn, run}
 use Rattle.words.specs.Words.{reservedWords, delimiters, bytesOf, begins, spells, placeFrom}
 use Rattle.numbers.specs.Numbers.{digits, digitIn, spelled, leading, exponentHead, exponent, belowBase, based, pointed, number}
 use Rattle.quoted.specs.Quoted.{closedFrom}
@@ -14,14 +14,14 @@ use Rattle.elements.specs.Element.{unreadable, identifier, extended, delimiter,
 use Rattle.element_reading.specs.Rows.{linesOf, lineRows, linesRows, rowsOf}
 use Rattle.same_names.specs.Spelling.{spelt}
 use Rattle.pieces.specs.Cutting.{cut}
-use Rattle.pieces.specs.Kinds.{isHeading, behindWord, hasName, endsAt, isClosing, claimMark, markOf}
+use Rattle.pieces.specs.Kinds.{isHeading, behindWord, hasName, endsAt, isClosing, claimClass, pieceClass}
 use Rattle.lookup.specs.Lookup.{foundOf}
 use Rattle.lookup.specs.declared.Found.{Found}
 use Rattle.lookup.specs.declared.Found.the-variants.{At, Nothing}
 use Rattle.meaning.specs.Elements.{at, kinds, elementsOf, piecesOf}
-use Rattle.survey_reading.specs.Survey.{surveyOf, elementsAfter, itemsAfter}
+use Rattle.survey_reading.specs.code.Survey.{surveyOf, elementsAfter, itemsAfter}
 use Rattle.survey_reading.specs.declared.Summary.{Summary}
-use Rattle.survey_reading.specs.declared.Outcome.the-variants.{Done}
+use Rattle.survey_reading.specs.declared.Ended.the-variants.{Done}
 use Rattle.survey_reading.proofs.Promises.{surveyed}
 use Rattle.claims.proofs.Finding.{firstOf}
 use Rattle.claims.proofs.Promises.{found-after}
@@ -31,7 +31,7 @@ text = bytesOf "package gas is\n  constant CH4 : natural := 1;\n  constant \\ch4
 
 -- the search over the pieces of a text, computed
 unfoldable searched : List ℕ → Found
-unfolding endsLine separates isLetter lower isDigit isGraphic digitValue inRun count goesOn run reservedWords delimiters bytesOf begins spells placeFrom digits digitIn spelled leading exponentHead exponent belowBase based pointed number closedFrom unreadable identifier extended delimiter ruled spoilsNumber elementAt linesOf lineRows linesRows rowsOf cut spelt isHeading behindWord hasName endsAt isClosing claimMark markOf at kinds elementsOf piecesOf
+unfolding endsLine separates isLetter lower isDigit isGraphic digitValue inRun countWhile goesOn run reservedWords delimiters bytesOf begins spells placeFrom digits digitIn spelled leading exponentHead exponent belowBase based pointed number closedFrom unreadable identifier extended delimiter ruled spoilsNumber elementAt linesOf lineRows linesRows rowsOf cut spelt isHeading behindWord hasName endsAt isClosing claimClass pieceClass at kinds elementsOf piecesOf
 searched name = firstOf name (piecesOf text) 0
 
 bytes : length text ≡ 127

@@ -16,7 +16,7 @@ use Rattle.records.specs.Records.{wordAt, isClaim}
 use Rattle.lookup.specs.Lookup.{isNamed, claimsName, foundFrom}
 use Rattle.lookup.specs.declared.Found.{Found}
 use Rattle.lookup.specs.declared.Found.the-variants.{At, Nothing}
-use Rattle.operands.specs.Operands.{bytesAt}
+use Rattle.operands.specs.code.Operands.{bytesAt}
 use Rattle.meaning.specs.Elements.{Piece, at, piecesOf}
 use Rattle.meaning.proofs.Tables.{elementAt, cell-word, element-at, row-within}
 use Rattle.meaning.specs.Names.{classOf, ownName, Done}

@@ -27,8 +27,8 @@ use Rattle.elements.specs.Kinds.{kindNumber, ticksAfter}
 use Rattle.elements.specs.Element.{firstIs, firstAre, unreadable, identifierBy, identifier, extendedBy, extended, numeralBy, stringBy, string, apostrophe, delimiterBy, delimiter, ruled, spoils, unlessSpoilt, elementAt}
 use Rattle.elements.specs.declared.Kind.{Kind}
 use Rattle.elements.specs.declared.Literal.{Literal}
-use Rattle.elements.specs.declared.Found.{Found}
-use Rattle.elements.specs.declared.Found.the-variants.{Skip, Element}
+use Rattle.elements.specs.declared.Front.{Front}
+use Rattle.elements.specs.declared.Front.the-variants.{Skip, Element}
 use Rattle.element_reading.specs.Rows.{Row, onto, linesOf, lineRows, linesRows, rowsOf}
 use Rattle.element_reading.specs.Promises.{InOrder}
 use Rattle.element_reading.proofs.TextLaws.{lines-ended, lines-byte}
@@ -49,11 +49,11 @@ Begins Kind.Unreadable b = Unit {0}
 Begins (Kind.Delimiter n) b = Unit {0}
 Begins (Kind.Reserved n) b = Unit {0}
 
-abbrev Fits : ℕ → Found → Type 0
+abbrev Fits : ℕ → Front → Type 0
 Fits b (Skip n) = Unit {0}
 Fits b (Element k n) = Begins k b
 
-fits-cond : (b : ℕ) (c : Bool) (x y : Found) → Fits b x → Fits b y → Fits b (cond c x y)
+fits-cond : (b : ℕ) (c : Bool) (x y : Front) → Fits b x → Fits b y → Fits b (cond c x y)
 fits-cond b true x y f g = f
 fits-cond b false x y f g = g
 
@@ -61,7 +61,7 @@ fits-unreadable : (b : ℕ) (s : List ℕ) → Fits b (unreadable s)
 unfolding unreadable
 fits-unreadable b s = tt
 
-fits-when : (b : ℕ) (c : Bool) (x y : Found) → (c ≡ true → Fits b x) → Fits b y → Fits b (cond c x y)
+fits-when : (b : ℕ) (c : Bool) (x y : Front) → (c ≡ true → Fits b x) → Fits b y → Fits b (cond c x y)
 fits-when b true x y f g = f refl
 fits-when b false x y f g = g
 
@@ -99,7 +99,7 @@ unfolding apostrophe
 fits-apostrophe b ticks s =
     fits-cond b (not ticks && eqb (getD s 2 0) bytes.apostrophe) _ _ (fits-cond b (isGraphic (getD s 1 0)) _ (unreadable s) tt (fits-unreadable b s)) tt
 
-fits-delimiter : (b : ℕ) (p : Place) (n : ℕ) (x : Found) → Fits b x → Fits b (delimiterBy p n x)
+fits-delimiter : (b : ℕ) (p : Place) (n : ℕ) (x : Front) → Fits b x → Fits b (delimiterBy p n x)
 fits-delimiter b (W.At k) n x h = tt
 fits-delimiter b W.Nowhere n x h = h
 
@@ -124,7 +124,7 @@ fits-ruled ticks s =
     (fits-cond b (firstAre bytes.slash bytes.star s) (unreadable s) (delimiter s) (fits-unreadable b s)
     (fits-delimiters b s))))))))
 
-fits-unless : (b : ℕ) (s : List ℕ) (f : Found) → Fits b f → Fits b (unlessSpoilt s f)
+fits-unless : (b : ℕ) (s : List ℕ) (f : Front) → Fits b f → Fits b (unlessSpoilt s f)
 fits-unless b s (Skip n) h = tt
 fits-unless b s (Element k n) h = fits-cond b (spoils k (getD s n 0)) (unreadable s) (Element k n) (fits-unreadable b s) h
 
@@ -163,7 +163,7 @@ byte b s l ls zero from ticks h = go (elementAt ticks (b ∷ l)) (fits ticks (b 
     rest : (k : ℕ) (ticks : Bool) → Begun (suc from) s (lineRows k (suc from) ticks l ++ linesRows (suc (from + suc (length l))) ls)
     rest k ticks = let z : suc (suc from + length l) ≡ suc (from + suc (length l)) = omega arith in subst (λ (i : ℕ). Begun (suc from) s (lineRows k (suc from) ticks l ++ linesRows i ls)) z (h k ticks)
 
-    go : (f : Found) → Fits b f
+    go : (f : Front) → Fits b f
         → Begun from (b ∷ s) (elim f [ Skip n ↦ lineRows (pred n) (suc from) ticks l | Element k n ↦ record { kind = k; first = from; size = n } ∷ lineRows (pred n) (suc from) (ticksAfter k) l ] ++ linesRows (suc (from + suc (length l))) ls)
     go (Skip n) f = begun-next from b s (lineRows (pred n) (suc from) ticks l ++ linesRows (suc (from + suc (length l))) ls) (rest (pred n) ticks)
     go (Element k n) f =

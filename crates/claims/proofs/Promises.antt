@@ -22,15 +22,15 @@ use Rattle.lookup.specs.declared.Found.{Found}
 use Rattle.lookup.specs.declared.Found.the-variants.{At, Nothing}
 use Rattle.meaning.specs.Elements.{Piece, at, piecesOf}
 use Rattle.meaning.specs.Names.{Done}
-use Rattle.meaning.specs.Items.{doneOf, donesFrom, donesOf, recordsOf}
+use Rattle.meaning.specs.code.PieceValues.{doneOf, donesFrom, donesOf, recordsOf}
 use Rattle.meaning.proofs.Records.{piecesDone}
 use Rattle.meaning.proofs.Places.{tableOf}
 use Rattle.meaning.proofs.Words.{items-length}
 use Rattle.meaning.proofs.Words as held
 use Rattle.meaning.proofs.Claims.{dones-length}
-use Rattle.survey_reading.specs.Survey.{surveyOf, elementsAfter, itemsAfter, itemTable}
+use Rattle.survey_reading.specs.code.Survey.{surveyOf, elementsAfter, itemsAfter, itemTable}
 use Rattle.survey_reading.specs.declared.Summary.{Summary}
-use Rattle.survey_reading.specs.declared.Outcome.the-variants as O
+use Rattle.survey_reading.specs.declared.Ended.the-variants as O
 use Rattle.survey_reading.proofs.Promises.{surveyed, says-of-records}
 use Rattle.survey_reading.proofs.Permits.{left-so}
 use Rattle.kawhiluhe.specs.Numbers.{foundNumber}

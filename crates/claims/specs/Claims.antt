@@ -14,7 +14,7 @@ use Rattle.pieces.specs.Records.{recordWords}
 use Rattle.meaning.specs.Elements.{Element, Piece, at, piecesOf}
 use Rattle.meaning.specs.Names.{claims}
 use Rattle.lookup.specs.Finds.{Finds}
-use Rattle.lookup.specs.Structs.{wordsOf}
+use Rattle.lookup.specs.Structs.{structWords}
 use Rattle.lookup.specs.declared.Item.{Item}
 use Rattle.lookup.specs.declared.Found.{Found}
 use Rattle.lookup.specs.declared.Found.the-variants.{At, Nothing}
@@ -77,8 +77,8 @@ ByBackslash = (text name : List ℕ) (k : ℕ) (f : FirstClaims name (piecesOf t
 -- The same of `lookup_items`: item structs that hold the words of that table.
 abbrev pub FindsInStructs : Type 0
 FindsInStructs =
-    (text elements items name : List ℕ) (structs : List Item) (f : Found) → Leaves text elements items → wordsOf structs ≡ items
-    → Finds text elements name (wordsOf structs) f → SaysFirst name (piecesOf text) f
+    (text elements items name : List ℕ) (structs : List Item) (f : Found) → Leaves text elements items → structWords structs ≡ items
+    → Finds text elements name (structWords structs) f → SaysFirst name (piecesOf text) f
 
 -- The same of the library, which answers the number of a record, or how many records the table has: the first piece that claims the name, or past
 -- them all.

@@ -1,4 +1,4 @@
--- Laws of `count`, of which a run is one: one byte more, none, and how many there can be. Assumes nothing.
+-- Laws of `countWhile`, of which a run is one: one byte more, none, and how many there can be. Assumes nothing.
 use mathlib.Core.Path.{_≡_, refl, sym, _∙_}
 use mathlib.Core.Bool.{Bool, true, false, cond, not, _||_, false≢true}
 use mathlib.Core.List.{List, [], _∷_}
@@ -11,42 +11,42 @@ use lib.Dec.{leb}
 use lib.ListN.{length, take, drop, getD, length-drop, drop-of-length-le, List·getD-eq-default}
 use lib.Seq.{take-all}
 use Rattle.laws.proofs.Laws.{both-left, both-right}
-use Rattle.classes.specs.Bytes.{within, isLetter, isDigit, digitValue}
-use Rattle.classes.specs.Runs.{count, run, inRun, goesOn}
+use Rattle.classes.specs.Bytes.{between, isLetter, isDigit, digitValue}
+use Rattle.classes.specs.Runs.{countWhile, run, inRun, goesOn}
 use Rattle.classes.specs.declared.Run.{Run}
 use Rattle.classes.specs.declared.Run.the-variants.{Word, Below}
 
 module _ (q : List ℕ → Bool) where
-  pub count-more : (b : ℕ) (s : List ℕ) → q (b ∷ s) ≡ true → count q (b ∷ s) ≡ suc (count q s)
-  unfolding count
-  count-more b s e = rw (e, count)
+  pub count-more : (b : ℕ) (s : List ℕ) → q (b ∷ s) ≡ true → countWhile q (b ∷ s) ≡ suc (countWhile q s)
+  unfolding countWhile
+  count-more b s e = rw (e, countWhile)
 
-  pub count-none : (b : ℕ) (s : List ℕ) → q (b ∷ s) ≡ false → count q (b ∷ s) ≡ 0
-  unfolding count
-  count-none b s e = rw (e, count)
+  pub count-none : (b : ℕ) (s : List ℕ) → q (b ∷ s) ≡ false → countWhile q (b ∷ s) ≡ 0
+  unfolding countWhile
+  count-none b s e = rw (e, countWhile)
 
-  pub count-le : (s : List ℕ) → count q s ≤ length s
-  unfolding count
+  pub count-le : (s : List ℕ) → countWhile q s ≤ length s
+  unfolding countWhile
   count-le [] = zero-le
   count-le (b ∷ s) = go (q (b ∷ s)) refl (count-le s)
     where
-      go : (t : Bool) → q (b ∷ s) ≡ t → count q s ≤ length s → count q (b ∷ s) ≤ suc (length s)
+      go : (t : Bool) → q (b ∷ s) ≡ t → countWhile q s ≤ length s → countWhile q (b ∷ s) ≤ suc (length s)
       go true e h = rw (count-more b s e) (suc-le-suc h)
       go false e h = rw (count-none b s e) zero-le
 
   -- at a place of a text
-  pub count-on : (s : List ℕ) (i : ℕ) → i < length s → q (drop i s) ≡ true → count q (drop i s) ≡ suc (count q (drop (i + 1) s))
+  pub count-on : (s : List ℕ) (i : ℕ) → i < length s → q (drop i s) ≡ true → countWhile q (drop i s) ≡ suc (countWhile q (drop (i + 1) s))
   count-on [] i l e = absurd (not-suc-le-zero l)
   count-on (b ∷ s) zero l e = count-more b s e
   count-on (b ∷ s) (suc i) l e = count-on s i (le-of-suc-le-suc l) e ∙ rw (add-one, add-one)
 
-  pub count-stop : (s : List ℕ) (i : ℕ) → i < length s → q (drop i s) ≡ false → count q (drop i s) ≡ 0
+  pub count-stop : (s : List ℕ) (i : ℕ) → i < length s → q (drop i s) ≡ false → countWhile q (drop i s) ≡ 0
   count-stop [] i l e = absurd (not-suc-le-zero l)
   count-stop (b ∷ s) zero l e = count-none b s e
   count-stop (b ∷ s) (suc i) l e = count-stop s i (le-of-suc-le-suc l) e
 
-  pub count-end : (s : List ℕ) (i : ℕ) → length s ≤ i → count q (drop i s) ≡ 0
-  unfolding count
+  pub count-end : (s : List ℕ) (i : ℕ) → length s ≤ i → countWhile q (drop i s) ≡ 0
+  unfolding countWhile
   count-end s i l = rw (drop-of-length-le s l)
 
 -- a part that runs to the end is the rest
@@ -54,8 +54,8 @@ pub part-rest : (s : List ℕ) (i : ℕ) → take (length s - i) (drop i s) ≡ 
 part-rest s i = take-all (length s - i) (drop i s) (rw length-drop (le-refl _))
 
 -- both of two tests
--- a byte that is within two bounds
-pub within-low : (low high b : ℕ) → within low high b ≡ true → low ≤ b
+-- a byte that is between two bounds
+pub within-low : (low high b : ℕ) → between low high b ≡ true → low ≤ b
 within-low low high b e = leb-true low b (both-left (leb low b) (leb b high) e)
 
 -- a property of a choice holds if it holds of each side where that side is chosen
@@ -63,17 +63,17 @@ pub by-test : {A : Type 0} (P : A → Type 0) (t : Bool) {x y : A} → (t ≡ tr
 by-test P true f g = f refl
 by-test P false f g = g refl
 
-pub within-high : (low high b : ℕ) → within low high b ≡ true → b ≤ high
+pub within-high : (low high b : ℕ) → between low high b ≡ true → b ≤ high
 within-high low high b e = leb-true b high (both-right (leb low b) (leb b high) e)
 
 pub digit-value-le : (b : ℕ) → digitValue b ≤ 16
 unfolding digitValue isDigit
 digit-value-le b =
-    by-test (λ (n : ℕ). n ≤ 16) (within 48 57 b) (λ e. omega (arith, within-high 48 57 b e))
-    (λ _. by-test (λ (n : ℕ). n ≤ 16) (within 65 70 b) (λ e. omega (arith, within-high 65 70 b e))
-    (λ _. by-test (λ (n : ℕ). n ≤ 16) (within 97 102 b) (λ e. omega (arith, within-high 97 102 b e)) (λ _. omega arith)))
+    by-test (λ (n : ℕ). n ≤ 16) (between 48 57 b) (λ e. omega (arith, within-high 48 57 b e))
+    (λ _. by-test (λ (n : ℕ). n ≤ 16) (between 65 70 b) (λ e. omega (arith, within-high 65 70 b e))
+    (λ _. by-test (λ (n : ℕ). n ≤ 16) (between 97 102 b) (λ e. omega (arith, within-high 97 102 b e)) (λ _. omega arith)))
 
--- a byte that is not 0 stands within the list
+-- a byte that is not 0 stands between the list
 pub byte-inside : (s : List ℕ) (i : ℕ) → (getD s i 0 ≡ 0 → ⊥) → i < length s
 byte-inside s i n = go (leb (length s) i) refl
   where
@@ -95,15 +95,15 @@ module _ (b : ℕ) (x : Bool) where
   unfolding digitValue
   digit-first e t = simp (← e, t)
 
-  pub digit-upper : x ≡ isDigit b → x ≡ false → within 65 70 b ≡ true → b - 55 ≡ digitValue b
+  pub digit-upper : x ≡ isDigit b → x ≡ false → between 65 70 b ≡ true → b - 55 ≡ digitValue b
   unfolding digitValue
   digit-upper e t u = simp (← e, t, u)
 
-  pub digit-lower : x ≡ isDigit b → x ≡ false → within 65 70 b ≡ false → within 97 102 b ≡ true → b - 87 ≡ digitValue b
+  pub digit-lower : x ≡ isDigit b → x ≡ false → between 65 70 b ≡ false → between 97 102 b ≡ true → b - 87 ≡ digitValue b
   unfolding digitValue
   digit-lower e t u v = simp (← e, t, u, v)
 
-  pub digit-none : x ≡ isDigit b → x ≡ false → within 65 70 b ≡ false → within 97 102 b ≡ false → 16 ≡ digitValue b
+  pub digit-none : x ≡ isDigit b → x ≡ false → between 65 70 b ≡ false → between 97 102 b ≡ false → 16 ≡ digitValue b
   unfolding digitValue
   digit-none e t u v = simp (← e, t, u, v)
 
@@ -149,7 +149,7 @@ not-upper x e l h = false≢true (sym e ∙ rw (le-leb 65 x l, le-leb x 90 h))
 
 pub not-lower : (x : ℕ) → isLetter x ≡ false → 97 ≤ x → x ≤ 122 → ⊥
 unfolding isLetter
-not-lower x e l h = false≢true (sym e ∙ rw (le-leb 97 x l, le-leb x 122 h, or-true (within 65 90 x)))
+not-lower x e l h = false≢true (sym e ∙ rw (le-leb 97 x l, le-leb x 122 h, or-true (between 65 90 x)))
   where
     or-true : (y : Bool) → (y || true) ≡ true
     or-true true = refl
@@ -157,11 +157,11 @@ not-lower x e l h = false≢true (sym e ∙ rw (le-leb 97 x l, le-leb x 122 h, o
 
 -- one turn of the loop over a run, in the code's terms
 module _ (q : List ℕ → Bool) (s : List ℕ) (i total : ℕ) (x : Bool) where
-  pub turn-on : i + count q (drop i s) ≡ total → i < length s → x ≡ q (take (length s - i) (drop i s)) → not x ≡ false → i + 1 + count q (drop (i + 1) s) ≡ total
+  pub turn-on : i + countWhile q (drop i s) ≡ total → i < length s → x ≡ q (take (length s - i) (drop i s)) → not x ≡ false → i + 1 + countWhile q (drop (i + 1) s) ≡ total
   turn-on v l e t = omega (arith, count-on q s i l (rw (part-rest s i) at (sym e ∙ not-false x t)), v)
 
-  pub turn-stop : i + count q (drop i s) ≡ total → i < length s → x ≡ q (take (length s - i) (drop i s)) → not x ≡ true → i ≡ total
+  pub turn-stop : i + countWhile q (drop i s) ≡ total → i < length s → x ≡ q (take (length s - i) (drop i s)) → not x ≡ true → i ≡ total
   turn-stop v l e t = omega (arith, count-stop q s i l (rw (part-rest s i) at (sym e ∙ not-true x t)), v)
 
-pub turn-end : (q : List ℕ → Bool) (s : List ℕ) (i total : ℕ) → i + count q (drop i s) ≡ total → length s ≤ i → i ≡ total
+pub turn-end : (q : List ℕ → Bool) (s : List ℕ) (i total : ℕ) → i + countWhile q (drop i s) ≡ total → length s ≤ i → i ≡ total
 turn-end q s i total v l = omega (arith, count-end q s i l, v)

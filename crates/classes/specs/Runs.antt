@@ -15,9 +15,9 @@ inRun Word b = isLetter b || isDigit b
 inRun (Below base) b = ltb (digitValue b) base
 
 -- how many bytes at the front, while the rest from each of them passes the test
-unfoldable pub count : (List ℕ → Bool) → List ℕ → ℕ
-count q [] = 0
-count q (b ∷ s) = elim (q (b ∷ s)) [ true ↦ suc (count q s) | false ↦ 0 ]
+unfoldable pub countWhile : (List ℕ → Bool) → List ℕ → ℕ
+countWhile q [] = 0
+countWhile q (b ∷ s) = elim (q (b ∷ s)) [ true ↦ suc (countWhile q s) | false ↦ 0 ]
 
 -- at the front stands a byte of the run, or an underscore with one after it
 unfoldable pub goesOn : Run → List ℕ → Bool
@@ -25,4 +25,4 @@ goesOn c s = inRun c (getD s 0 0) || eqb (getD s 0 0) underscore && inRun c (get
 
 -- the length of the run at the front
 unfoldable pub run : Run → List ℕ → ℕ
-run c s = count (goesOn c) s
+run c s = countWhile (goesOn c) s

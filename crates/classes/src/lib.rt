@@ -13,14 +13,19 @@ const NO_BREAK_SPACE: u8 = 160;
 
 const LAST_BYTE: u8 = 255;
 
+// Digits are decimal, and those of a base at most the greatest go on with letters.
+pub const TEN: u8 = 10;
+
+pub const GREATEST_BASE: u8 = 16;
+
 // How far a letter's lower case is from it; where the letters that are digits begin, less the ten digits before them; what no digit is below.
-const LOWER_BY: u8 = 32;
+const LOWER_BY: u8 = b'a' - b'A';
 
-const LARGE_TEN: u8 = 55;
+const LARGE_TEN: u8 = b'A' - TEN;
 
-const SMALL_TEN: u8 = 87;
+const SMALL_TEN: u8 = b'a' - TEN;
 
-const NO_DIGIT: u8 = 16;
+const NO_DIGIT: u8 = GREATEST_BASE;
 
 // Which bytes a run holds: letters and digits, or digits below a base.
 pub enum Run {

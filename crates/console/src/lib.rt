@@ -1,5 +1,6 @@
 // What the programs read and write. Each line is put into a buffer by the library, whose bytes are proved, and the buffer goes out in one
 // write: what is left here, reading and writing, is tested, not proved, since no contract can speak of a file.
+use form_numbers::ROW_NUMBERS;
 use kawhiluhe::Surveyed;
 use libc::STDERR_FILENO;
 use libc::STDOUT_FILENO;
@@ -7,9 +8,6 @@ use puts::Filled;
 
 // Room for every line of any text, which is never longer than the text by more than 100 bytes, and for many short ones.
 pub const OUT_ROOM: usize = 81920;
-
-// How many numbers a row of the tree has.
-const ROW_NUMBERS: usize = 5;
 
 // A listing has fewer lines than this.
 const MOST_TURNS: u64 = 100000;

@@ -11,7 +11,7 @@ use Rattle.records.specs.Tallies.{oneIf}
 use Rattle.values.specs.Values.{languageValue}
 use Rattle.meaning.specs.Elements.{Element, Piece}
 use Rattle.meaning.specs.Names.{claims, language, claimsIn, Done, claimedAbove, firstAbove, useOf}
-use Rattle.meaning.specs.Items.{valueOf, doneOf, donesFrom}
+use Rattle.meaning.specs.code.PieceValues.{valueOf, doneOf, donesFrom}
 use Rattle.damage.specs.Places.{Part, bare, bareEach}
 use Rattle.damage.specs.Damage.{NoClaim}
 use Rattle.damage.proofs.Lines.{Before, before-never, before-both}

@@ -10,23 +10,40 @@ use borrow.Author.Tests.{eqb-true}
 use lib.Dec.{eqb}
 use lib.ListN.{length}
 use Rattle.forms.specs.Tree.{Row}
-use Rattle.tree.specs.Items.{rowsOfPiece}
+use Rattle.tree.specs.code.PieceRows.{rowsOfPiece}
 use Rattle.tree.proofs.Items.{piece-forest}
 use Rattle.folding.specs.declared.Outcome.{Outcome}
-use Rattle.operands.specs.Operands.{literalBy}
-use Rattle.expressions.specs.Expressions.{behind, rowOutcome, outcomeIn, outcomeOf}
+use Rattle.operands.specs.code.Operands.{literalBy}
+use Rattle.forms.specs.Tree.{behind}
+use Rattle.expressions.specs.code.Expressions.{rowOutcome, outcomeIn, outcomeOf}
 use Rattle.pieces.specs.Kinds.{anyDown}
-use Rattle.marks.specs.Marks.{operandOf, constantOf, rangedOf}
+use Rattle.marks.specs.code.Marks.{operandOf, constantOf, rangedOf}
 use Rattle.values.specs.declared.Value.{Value}
 use Rattle.meaning.specs.Elements.{Element, Piece, at, kinds}
-use Rattle.meaning.specs.Names.{classOf, ownName, claims, ownDoubled, Done, useOf}
-use Rattle.meaning.specs.Items.{valued, bounded, marked, formed, unlessDoubled, valueOf}
+use Rattle.meaning.specs.Names.{classOf, ownName, namesClaimed, claims, ownDoubled, Done, useOf}
+use Rattle.meaning.specs.code.PieceValues.{valued, bounded, marked, formed, unlessDoubled, valueOf}
 use Rattle.meaning.proofs.Sameness.{same-on}
 use Rattle.meaning.proofs.Trees.{tree-is}
 use Rattle.meaning.proofs.Claimed.{claims-class, claims-name, claims-by}
-use Rattle.damage.specs.Damage.{NotWithin, UsesName}
+use Rattle.records.specs.Records.{isClaim}
+use Rattle.damage.specs.Places.{In}
+use Rattle.damage.specs.Damage.{NotWithin, UsesName, OwnName}
 use Rattle.damage.proofs.Nesting.{not-append, Nests, nests-rest, nests-behind}
 use Rattle.damage.proofs.Ranges.{item-forms, third-form}
+
+-- a piece's own name is the one that it claims
+pub own-among : (p : Piece) → isClaim (classOf p) ≡ true → OwnName p (ownName p)
+unfolding namesClaimed
+own-among p h = rw h (inl refl)
+
+pub own-is : (p : Piece) (x : Element) → OwnName p x → x ≡ ownName p
+unfolding namesClaimed
+own-is p x = go (isClaim (classOf p))
+  where
+    go : (b : Bool) → In x (cond b (ownName p ∷ []) []) → x ≡ ownName p
+    go true (inl h) = sym h
+    go true (inr h) = absurd h
+    go false h = absurd h
 
 -- who claims the name of a piece that claims x claims x
 pub claims-on : (x : Element) (q r : Piece) → claims x q ≡ true → claims (ownName q) r ≡ true → claims x r ≡ true
@@ -120,13 +137,13 @@ module _ (p : Piece) (used used′ : Element → Value) where
       ap (λ (v : Value). marked p used v rs)
       (h (at p (mark .first)) (record { above = item ∷ []; row = mark; below = rs; tree = tree-is p item (mark ∷ rs) e; looked-up = inr (firsts .1); named = refl }))
       ∙ marked-on (used′ (at p (mark .first))) rs
-      (λ n range more q. third-form (kinds p) n item mark range more (e ∙ ap (λ (l : List Row). item ∷ mark ∷ l) q))
+      (λ n range more q. third-form p n item mark range more (e ∙ ap (λ (l : List Row). item ∷ mark ∷ l) q))
       (nests-rest mark rs (nests-rest item (mark ∷ rs) (subst Nests e (0, length (kinds p), piece-forest (kinds p)))))
       (λ c r d q w f. h (at p (r .first))
       (record { above = item ∷ mark ∷ c; row = r; below = d; tree = tree-is p item (mark ∷ (c ++ r ∷ d)) (e ∙ ap (λ (l : List Row). item ∷ mark ∷ l) q); looked-up = inl (f, ((λ k. absurd (no-item (firsts .0) k)), ((λ k. absurd (no-mark k)), w))); named = refl }))
     where
       firsts : ((item .form ≡ 4) ⊎ (item .form ≡ 5)) × (mark .form ≡ 31)
-      firsts = item-forms (kinds p) item mark rs e
+      firsts = item-forms p item mark rs e
 
       no-item : (item .form ≡ 4) ⊎ (item .form ≡ 5) → (item .form ≡ 25) ⊎ (item .form ≡ 26) → ⊥
       no-item (inl a) (inl k) = omega arith

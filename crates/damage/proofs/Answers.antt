@@ -5,10 +5,10 @@ use Prim.Native.Nat.{ℕ, _-_, _*_}
 use lib.ListN.{length, replicate}
 use Rattle.records.specs.Records.{wordAt}
 use Rattle.meaning.specs.Elements.{piecesOf}
-use Rattle.meaning.specs.Items.{recordsOf}
-use Rattle.survey_reading.specs.Survey.{surveyOf, itemsAfter, itemTable}
+use Rattle.meaning.specs.code.PieceValues.{recordsOf}
+use Rattle.survey_reading.specs.code.Survey.{surveyOf, itemsAfter, itemTable}
 use Rattle.survey_reading.specs.declared.Summary.{Summary}
-use Rattle.survey_reading.specs.declared.Outcome.the-variants.{Done}
+use Rattle.survey_reading.specs.declared.Ended.the-variants.{Done}
 use Rattle.survey_reading.proofs.Promises.{says-of-records}
 use Rattle.pieces.specs.Columns.{recordWords}
 use Rattle.survey_reading.proofs.Permits.{left-so}

@@ -10,7 +10,8 @@ use lib.Dec.{T}
 use Rattle.pieces.specs.Cutting.{cut}
 use Rattle.pieces.proofs.Cutting.{Edge}
 use Rattle.damage.specs.Places.{In, Line, Above, Changed, Below, Placed, placed, Part, closesPart, opensPart, partsOf, SameEach, PieceOf}
-use Rattle.damage.specs.Damage.{olds, news, NoneOf, Has, ClosedAbove, OpenedBelow, AlwaysCommon}
+use Rattle.damage.specs.Damage.{olds, news, NoneOf, Has, ClosedAbove, OpenedBelow}
+use Rattle.damage.specs.code.Texts.{AlwaysCommon}
 use Rattle.damage.proofs.Order.{in-left, in-right, in-either, in-split, in-middle, Rising, ordered}
 use Rattle.damage.proofs.Lines.{region, Before, before-apart, before-never, before-both, Lying, lying-left, lying-right, lying-in, uppers, middles, lowers, uppers-lie, middles-lie, lowers-lie}
 use Rattle.damage.proofs.Cuts.{joinAll, Lone, lone-piece, Stands, piece-stands}

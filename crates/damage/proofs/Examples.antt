@@ -8,37 +8,40 @@ use mathlib.Core.List.{List, [], _∷_, _++_}
 use native.Mathlib.Omega.{arith}
 use lib.ListN.{length, getD, take}
 use Rattle.classes.specs.Bytes.{endsLine, separates, isLetter, lower, isDigit, isGraphic, digitValue}
-use Rattle.classes.specs.Runs.{inRun, count, goesOn, run}
+use Rattle.classes.specs.Runs.{inRun, countWhile, goesOn, run}
 use Rattle.words.specs.Words.{reservedWords, delimiters, bytesOf, begins, spells, placeFrom}
 use Rattle.numbers.specs.Numbers.{digits, digitIn, spelled, leading, exponentHead, exponent, belowBase, based, pointed, number}
 use Rattle.elements.specs.Element.{unreadable, identifier, delimiter, ruled, spoilsNumber, elementAt}
 use Rattle.element_reading.specs.Rows.{linesOf, lineRows, linesRows, rowsOf}
 use Rattle.element_reading.specs.Promises.{Ended, Starts}
 use Rattle.same_names.specs.Spelling.{spelt}
-use Rattle.grammars.specs.Actions.{runs}
-use Rattle.forms.specs.Kinds.{terminalOf}
-use Rattle.forms.specs.Tree.{Row, does}
-use Rattle.forms.specs.Reading.{readingFrom}
+use Rattle.grammars.specs.code.Actions.{runs}
+use Rattle.forms.specs.code.Kinds.{terminalOf}
+use Rattle.forms.specs.Tree.{Row}
+use Rattle.forms.specs.code.Frames.{does}
+use Rattle.forms.specs.code.Reading.{readingFrom}
 use Rattle.pieces.specs.Cutting.{cut}
-use Rattle.pieces.specs.Kinds.{isHeading, behindWord, hasName, endsAt, isClosing, claimMark, markOf}
+use Rattle.pieces.specs.Kinds.{isHeading, behindWord, hasName, endsAt, isClosing, claimClass, pieceClass}
 use Rattle.pieces.specs.Records.{nameOf}
 use Rattle.records.specs.Records.{wordAt, state, low, high}
-use Rattle.tree.specs.Items.{readingOfPiece, rowsOfPiece}
+use Rattle.tree.specs.code.PieceRows.{readingOfPiece, rowsOfPiece}
 use Rattle.integers.specs.Integers.{sizedOf, dividedOf, toSign, powerOf}
 use Rattle.literals.specs.Literals as literals
 use Rattle.spelled.specs.Spelled.{kindOf}
-use Rattle.operands.specs.Operands.{operatorOf, signOf, literalBy}
+use Rattle.operands.specs.Operands.{operatorOf, signOf}
+use Rattle.operands.specs.code.Operands.{literalBy}
 use Rattle.values.specs.Values.{languageValue}
-use Rattle.marks.specs.Marks.{constantOf, rangedOf}
-use Rattle.expressions.specs.Expressions.{rowOutcome, outcomeIn}
+use Rattle.marks.specs.code.Marks.{constantOf, rangedOf}
+use Rattle.expressions.specs.code.Expressions.{rowOutcome, outcomeIn}
 use Rattle.meaning.specs.Elements.{Element, at, kinds, elementsOf, piecesOf}
 use Rattle.meaning.specs.Sameness.{sameAs}
 use Rattle.meaning.specs.Names.{namesClaimed, claims, claimsIn, claimedAbove, firstAbove, useOf}
-use Rattle.meaning.specs.Items.{valued, valueOf, donesFrom, donesOf, recordOf, recordsFrom, recordsOf}
+use Rattle.meaning.specs.code.PieceValues.{valued, valueOf, donesFrom, donesOf, recordsOf}
+use Rattle.meaning.specs.Records.{recordOf, recordsFrom}
 use Rattle.meaning.proofs.Trees.{tree-is}
-use Rattle.survey_reading.specs.Survey.{surveyOf, elementsAfter, itemsAfter}
+use Rattle.survey_reading.specs.code.Survey.{surveyOf, elementsAfter, itemsAfter}
 use Rattle.survey_reading.specs.declared.Summary.{Summary}
-use Rattle.survey_reading.specs.declared.Outcome.the-variants.{Done}
+use Rattle.survey_reading.specs.declared.Ended.the-variants.{Done}
 use Rattle.survey_reading.proofs.Promises.{surveyed}
 use Rattle.survey_reading.proofs.Permits.{leaves-so}
 use Rattle.damage.specs.Places.{Part, placedRows, placedLines, placed, partsOf, bare}
@@ -82,12 +85,12 @@ bad = above ++ (bad-line ++ below)
 
 -- the pieces of a text, computed
 unfoldable pieces : List ℕ → List ℕ → List ℕ → List Part
-unfolding endsLine separates isLetter lower isDigit isGraphic digitValue inRun count goesOn run reservedWords delimiters bytesOf begins spells placeFrom digits digitIn spelled leading exponentHead exponent belowBase based pointed number unreadable identifier delimiter ruled spoilsNumber elementAt linesOf lineRows linesRows rowsOf cut placedRows placedLines placed partsOf
+unfolding endsLine separates isLetter lower isDigit isGraphic digitValue inRun countWhile goesOn run reservedWords delimiters bytesOf begins spells placeFrom digits digitIn spelled leading exponentHead exponent belowBase based pointed number unreadable identifier delimiter ruled spoilsNumber elementAt linesOf lineRows linesRows rowsOf cut placedRows placedLines placed partsOf
 pieces before middle after = partsOf (placed before middle after)
 
 -- what pieces claim and use, computed
 unfoldable rowsIn : Part → List Row
-unfolding pieces spelt runs terminalOf does readingFrom isHeading behindWord hasName endsAt isClosing claimMark markOf readingOfPiece rowsOfPiece at kinds sameAs claims namesClaimed bare
+unfolding pieces spelt runs terminalOf does readingFrom isHeading behindWord hasName endsAt isClosing claimClass pieceClass readingOfPiece rowsOfPiece at kinds sameAs claims namesClaimed bare
 rowsIn p = rowsOfPiece (kinds (bare p))
 
 abbrev pub damaged : OneLine good bad

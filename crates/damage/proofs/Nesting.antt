@@ -9,7 +9,7 @@ use lib.Seq.{drop-at}
 use Rattle.forms.specs.Tree.{Row}
 use Rattle.forms.specs.Forest.{Forest, bare, tree}
 use Rattle.forms.proofs.Growing.{forest-append}
-use Rattle.expressions.specs.Expressions.{behind}
+use Rattle.forms.specs.Tree.{behind}
 use Rattle.damage.specs.Damage.{NotWithin}
 
 pub not-append : (a b : List Row) → NotWithin a → NotWithin b → NotWithin (a ++ b)

@@ -10,21 +10,24 @@ use native.Mathlib.Omega.{arith}
 use lib.Dec.{eqb, leb}
 use lib.ListN.{length, getD, length-append}
 use Rattle.records.specs.Records.{isClaim, wordAt, state, high}
+use Rattle.meaning.proofs.Claimed.{doubled-one}
 use Rattle.records.specs.Tallies.{oneIf}
 use Rattle.values.specs.declared.Value.{Value}
 use Rattle.meaning.specs.Elements.{Element, Piece, piecesOf}
 use Rattle.meaning.proofs.Cutting.{total}
 use Rattle.meaning.specs.Names.{classOf, ownName, claims, language, claimsIn, ownDoubled, Done, claimedAbove, firstAbove, useOf}
-use Rattle.meaning.specs.Items.{valueOf, doneOf, donesFrom, donesOf, recordOf, recordsFrom, recordsOf}
+use Rattle.meaning.specs.code.PieceValues.{valueOf, doneOf, donesFrom, donesOf, recordsOf}
+use Rattle.meaning.specs.Records.{recordOf, recordsFrom}
 use Rattle.meaning.proofs.Records.{piecesDone, word-at-record}
 use Rattle.damage.specs.Places.{In, placed, Part, closesPart, opensPart, partsOf, bare, bareEach, SameEach, PieceOf}
-use Rattle.damage.specs.Damage.{olds, news, NoneOf, UsesName, NoClaim, FirstAbove, LeadsTo, itself, through, Concerns, Undisturbed, SameAnswer}
+use Rattle.damage.specs.Damage.{olds, news, NoneOf, UsesName, NoClaim, FirstAbove, LeadsTo, itself, through, Concerns, Undisturbed}
+use Rattle.damage.specs.code.Texts.{SameAnswer}
 use Rattle.damage.proofs.Order.{in-left, in-middle, Rising, rising-left, rising-between, ordered, earlier, passing-in, in-passing, rising-passing, one-list}
 use Rattle.damage.proofs.Lines.{Before, before-never, before-both, placed-rising}
 use Rattle.damage.proofs.Texts.{places-added}
 use Rattle.damage.proofs.Cuts.{Ahead, ahead-never, ahead-both, cut-rising}
 use Rattle.damage.proofs.Common.{parted, one-piece, piece-of}
-use Rattle.damage.proofs.Agreeing.{claims-on, value-on}
+use Rattle.damage.proofs.Agreeing.{own-among, own-is, claims-on, value-on}
 use Rattle.damage.proofs.Above.{each-append, dones-append, dones-length, claimants, claims-count, FirstClaim, first-claim, none-claimed, none-first, some-claimed, some-first, use-on}
 
 parts-rising : (before middle after : List ℕ) → Rising (Ahead Before) (partsOf (placed before middle after))
@@ -43,7 +46,7 @@ Clear P Q p = (x : Element) → Concerns P p x → (q : Part) → In q P ⊎ In 
 -- so is one that it leads to
 clear-on : (P Q : List Part) (p q : Part) (x : Element) → Clear P Q p → UsesName (bare p) x → claims x (bare q) ≡ true → FirstAbove x P q p → Clear P Q q
 clear-on P Q p q x f u c a y (inl own) r i h =
-    f x (inr (p, itself, u)) r i (claims-on x (bare q) (bare r) c (subst (λ z. claims z (bare r) ≡ true) (own .1) h))
+    f x (inr (p, itself, u)) r i (claims-on x (bare q) (bare r) c (subst (λ z. claims z (bare r) ≡ true) (own-is (bare q) y own) h))
 clear-on P Q p q x f u c a y (inr (r, l, v)) w i h = f y (inr (r, leads-on P p q r (through x itself u c a) l, v)) w i h
 
 abbrev pub Ordered : List Part → Type 0
@@ -168,10 +171,10 @@ module _ (P Q : List Part) (r : Ordered P) (o : Ordered Q) where
         (same-count P Q r o x clear-here) (z .0) (z .1)
 
   same-doubled : (p : Part) → Clear P Q p → ownDoubled first-all (bare p) ≡ ownDoubled second-all (bare p)
-  same-doubled p c = go (isClaim (classOf (bare p))) refl
+  same-doubled p c = doubled-one first-all (bare p) ∙ go (isClaim (classOf (bare p))) refl ∙ sym (doubled-one second-all (bare p))
     where
       go : (b : Bool) → isClaim (classOf (bare p)) ≡ b → (b && leb 2 (claimsIn (ownName (bare p)) first-all)) ≡ (b && leb 2 (claimsIn (ownName (bare p)) second-all))
-      go true h = ap (λ (n : ℕ). leb 2 n) (same-count P Q r o (ownName (bare p)) (c (ownName (bare p)) (inl (h, refl))))
+      go true h = ap (λ (n : ℕ). leb 2 n) (same-count P Q r o (ownName (bare p)) (c (ownName (bare p)) (inl (own-among (bare p) h))))
       go false h = refl
 
   pub same-value : (n : ℕ) → Value-same n

@@ -14,11 +14,11 @@ use Rattle.classes.specs.Bytes.{endsLine}
 use Rattle.element_reading.specs.Promises.{Inside}
 use Rattle.forms.specs.Tree.{Row}
 use Rattle.records.specs.Records.{wordAt, state, high}
-use Rattle.tree.specs.Items.{rowsOfPiece}
+use Rattle.tree.specs.code.PieceRows.{rowsOfPiece}
 use Rattle.meaning.specs.Elements.{Element, Piece, at, kinds}
 use Rattle.meaning.specs.Sameness.{sameAs}
 use Rattle.meaning.specs.Names.{ownName, claims}
-use Rattle.meaning.specs.Items.{recordsOf}
+use Rattle.meaning.specs.code.PieceValues.{recordsOf}
 use Rattle.meaning.proofs.Claimed.{claims-class, claims-name, claims-by}
 use Rattle.damage.specs.Places.{In, Line, Above, Changed, Below, Part, closesPart, opensPart, bare, SameEach, PieceOf}
 use Rattle.damage.specs.Damage.{OneLine, olds, news, NoneOf, NotWithin, UsesName, NoClaim, LeadsTo, itself, through, Concerns, Undisturbed, ClosedAbove, OpenedBelow}
@@ -28,6 +28,7 @@ use Rattle.meaning.proofs.Trees.{rows-are}
 use Rattle.survey_reading.specs.Permitted.{Leaves}
 use Rattle.damage.proofs.Promises.{same-answer}
 use Rattle.damage.proofs.Answers.{third-demand}
+use Rattle.damage.proofs.Agreeing.{own-is}
 
 module _ {A : Type 0} (f : A → Bool) where
   abbrev pub every : List A → Bool
@@ -255,7 +256,7 @@ module _ (s t : List ℕ) (d : OneLine s t) (p : Part) (names : List Element) (o
   concerns-any : (x : Element) → Concerns (olds d) p x → isAny names x ≡ true
   concerns-any x (inl h) =
       let y = any-in (λ y. claims y (bare p)) names own in
-      in-any (λ y. sameAs x y) names (y .0) (y .1) (subst (λ z. sameAs z (y .0) ≡ true) (sym (h .1)) (claims-name (y .0) (bare p) (y .2)))
+      in-any (λ y. sameAs x y) names (y .0) (y .1) (subst (λ z. sameAs z (y .0) ≡ true) (sym (own-is (bare p) x h)) (claims-name (y .0) (bare p) (y .2)))
   concerns-any x (inr (q, l, u)) = uses-any q x (leads-any q l) u
 
   pub undisturbed : apart names (olds d) ≡ true → apart names (news d) ≡ true → Undisturbed (olds d) (news d) p

@@ -2,10 +2,9 @@
 use Prim.Native.Nat.{ℕ, _≤_}
 use mathlib.Core.Path.{_≡_}
 use mathlib.Core.List.{List}
-use lib.ListN.{length}
 use Rattle.records.specs.Records.{wordAt, state, high}
 use Rattle.survey_reading.specs.Permitted.{Leaves}
-use Rattle.damage.specs.Places.{Part, SameEach, PieceOf}
+use Rattle.damage.specs.Places.{Part, SameEach, PieceOf, recordAfter}
 use Rattle.damage.specs.Damage.{OneLine, olds, news, NoneOf, Undisturbed}
 
 -- "Take two package texts that the survey doesn't refuse and that differ only inside one line, line ends kept. Consider an item made of the
@@ -18,4 +17,4 @@ ThirdDemand =
     (s t elements items elements′ items′ : List ℕ) → Leaves s elements items → Leaves t elements′ items′
     → (d : OneLine s t) (p q : Part) (i : PieceOf (olds d) p) (j : PieceOf (news d) q) → SameEach p q → NoneOf p
     → Undisturbed (olds d) (news d) p
-    → (k : ℕ) → state ≤ k → k ≤ high → wordAt items (length (i .above)) k ≡ wordAt items′ (length (j .above)) k
+    → (k : ℕ) → state ≤ k → k ≤ high → wordAt items (recordAfter (i .above)) k ≡ wordAt items′ (recordAfter (j .above)) k

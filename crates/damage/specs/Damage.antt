@@ -1,21 +1,18 @@
--- The third demand: two texts that differ only inside one line, and what is the same in both. proofs/Promises.antt and, of `AlwaysCommon`,
--- proofs/Common.antt prove the statements.
--- Assumes nothing.
+-- The third demand: two texts that differ only inside one line, and what its words say of their pieces. Answers.antt has the demand. Assumes
+-- nothing: these are definitions.
 use Prim.Native.Nat.{ℕ, suc, _≤_}
 use mathlib.Core.Path.{_≡_}
-use mathlib.Core.Logic.{_⊎_, _↔_}
+use mathlib.Core.Logic.{_⊎_}
 use mathlib.Core.Bool.{true, false}
 use mathlib.Core.List.{List, [], _∷_, _++_}
 use lib.ListN.{length}
-use Rattle.records.specs.Records.{isClaim, wordAt, state, high}
-use Rattle.element_reading.specs.Rows.{linesOf, rowsOf}
 use Rattle.element_reading.specs.Promises.{Inside, Ended, Starts}
+use Rattle.form_numbers.specs.Forms as form
 use Rattle.forms.specs.Tree.{Row}
-use Rattle.meaning.specs.Elements.{Element, Piece, at, elementsOf, piecesOf}
-use Rattle.meaning.specs.Names.{classOf, ownName, claims}
+use Rattle.meaning.specs.Elements.{Element, Piece, at}
+use Rattle.meaning.specs.Names.{namesClaimed, claims}
 use Rattle.meaning.specs.Forms.{ItemTree}
-use Rattle.meaning.specs.Items.{recordsOf}
-use Rattle.damage.specs.Places.{In, Above, Changed, Below, Placed, placed, Part, closesPart, opensPart, partsOf, bare, bareEach, SameEach, PieceOf, linesAbove, lineNumber, firstsIn, firstsOf}
+use Rattle.damage.specs.Places.{In, Above, Changed, Below, placed, Part, closesPart, opensPart, partsOf, bare, SameEach}
 
 -- "two package texts .. that differ only inside one line, line ends kept"
 pub record OneLine (s t : List ℕ) : Type 0 where
@@ -37,21 +34,6 @@ olds d = partsOf (placed (d .before) (d .middle) (d .after))
 abbrev pub news : {s t : List ℕ} → OneLine s t → List Part
 news d = partsOf (placed (d .before) (d .changed) (d .after))
 
--- The elements and the pieces with their places are those of the text, and each element's first byte is its line's and its place in the line.
-abbrev pub PlacesAdded : Type 0
-PlacesAdded =
-    (before middle after : List ℕ) → Starts before → Inside middle → Ended after
-    → (bare (placed before middle after) ≡ elementsOf (before ++ (middle ++ after)) (rowsOf (before ++ (middle ++ after))))
-    × (bareEach (partsOf (placed before middle after)) ≡ piecesOf (before ++ (middle ++ after)))
-    × (firstsIn (linesAbove before) (linesOf (before ++ (middle ++ after))) (placed before middle after) ≡ firstsOf (rowsOf (before ++ (middle ++ after))))
-
--- In two texts that differ inside one line, elements agree in their line exactly when they agree in its number from the text's start.
-abbrev pub LinesAgree : Type 0
-LinesAgree =
-    (before middle changed after : List ℕ) → Starts before → Inside middle → Inside changed → Ended after
-    → (x y : Placed) → In x (placed before middle after) → In y (placed before changed after)
-    → (x .line ≡ y .line) ↔ (lineNumber (linesAbove before) (x .line) ≡ lineNumber (linesAbove before) (y .line))
-
 -- none of these elements is of the changed line
 abbrev pub NoneOf : Part → Type 0
 NoneOf [] = Unit {0}
@@ -68,7 +50,7 @@ Common old new p = Has old p × Has new p × NoneOf p
 -- of the rows above a row none of form 25 or 26 holds it: each ends above it. (A row with its `rows` rows is itself and the rows inside it.)
 abbrev pub NotWithin : List Row → Type 0
 NotWithin [] = Unit {0}
-NotWithin (r ∷ rs) = ((r .form ≡ 25) ⊎ (r .form ≡ 26) → r .rows ≤ suc (length rs)) × NotWithin rs
+NotWithin (r ∷ rs) = ((r .form ≡ form.called) ⊎ (r .form ≡ form.attribute) → r .rows ≤ suc (length rs)) × NotWithin rs
 
 -- "any name it uses, directly": of its tree, the names, 24, but for those inside a form 25 or 26, which is in state 3 whatever its names are; and
 -- its type mark, 31
@@ -77,7 +59,7 @@ pub record UsesName (p : Piece) (x : Element) : Type 0 where
   pub row : Row
   pub below : List Row
   pub tree : ItemTree p (above ++ row ∷ below)
-  pub looked-up : ((row .form ≡ 24) × NotWithin above) ⊎ (row .form ≡ 31)
+  pub looked-up : ((row .form ≡ form.name) × NotWithin above) ⊎ (row .form ≡ form.mark)
   pub named : x ≡ at p (row .first)
 
 -- none of these claims x
@@ -94,9 +76,9 @@ pub data LeadsTo (pieces : List Part) (p : Part) : Part → Type 0 where
   itself : LeadsTo pieces p p
   through : {q r : Part} (x : Element) → LeadsTo pieces p q → UsesName (bare q) x → claims x (bare r) ≡ true → FirstAbove x pieces r q → LeadsTo pieces p r
 
--- "its own name"
+-- "its own name": one that it claims
 abbrev pub OwnName : Piece → Element → Type 0
-OwnName p x = (isClaim (classOf p) ≡ true) × (x ≡ ownName p)
+OwnName p x = In x (namesClaimed p)
 
 -- "its own name" or "any name it uses, directly or through other items"; for the demand one of the two texts is enough
 abbrev pub Concerns : List Part → Part → Element → Type 0
@@ -105,13 +87,6 @@ Concerns pieces p x = OwnName (bare p) x ⊎ ((q : Part) × LeadsTo pieces p q �
 -- "neither its own name nor any name it uses .. is claimed in either text by a piece not common to both"
 abbrev pub Undisturbed : List Part → List Part → Part → Type 0
 Undisturbed old new p = (x : Element) → Concerns old p x → (q : Part) → In q old ⊎ In q new → claims x (bare q) ≡ true → Common old new q
-
--- "it has the same state, kind and number in both": the last four words of its record in each of the two item tables, whatever stands after
--- the records
-abbrev pub SameAnswer : Type 0
-SameAnswer =
-    (s t : List ℕ) (d : OneLine s t) (p q : Part) (i : PieceOf (olds d) p) (j : PieceOf (news d) q) → SameEach p q → NoneOf p → Undisturbed (olds d) (news d) p
-    → (rest others : List ℕ) (k : ℕ) → state ≤ k → k ≤ high → wordAt (recordsOf s ++ rest) (length (i .above)) k ≡ wordAt (recordsOf t ++ others) (length (j .above)) k
 
 -- the last element of a piece closes it, and stands above the change
 abbrev pub ClosedAbove : Part → Type 0
@@ -123,8 +98,3 @@ ClosedAbove (x ∷ y ∷ p) = ClosedAbove (y ∷ p)
 abbrev pub OpenedBelow : Part → Type 0
 OpenedBelow [] = ⊥
 OpenedBelow (x ∷ p) = (opensPart x ≡ true) × ((k : ℕ) × (x .line ≡ Below k))
-
--- 'Pieces closed by a semicolon above the line, and pieces opened below it by "constant", "subtype" or "end", are always common.'
-abbrev pub AlwaysCommon : Type 0
-AlwaysCommon =
-    (s t : List ℕ) (d : OneLine s t) (p : Part) → In p (olds d) ⊎ In p (news d) → ClosedAbove p ⊎ OpenedBelow p → Common (olds d) (news d) p

@@ -1,3 +1,4 @@
 pub mod Places
 pub mod Damage
 pub mod Answers
+pub mod code

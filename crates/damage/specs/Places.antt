@@ -84,6 +84,10 @@ pub record PieceOf (pieces : List Part) (p : Part) : Type 0 where
   pub below : List Part
   pub split : pieces ≡ above ++ p ∷ below
 
+-- "one record to a piece": the number of its record
+abbrev pub recordAfter : List Part → ℕ
+recordAfter above = length above
+
 -- ---- what says that lines and places are the text's
 
 -- how many lines these bytes are, at the end of which a line begins

@@ -1,5 +1,5 @@
 -- What is computed of a text's records is said of the table that a survey leaves: no example computes a survey. Assumes nothing.
-use Prim.Native.Nat.{ℕ, _-_, _*_, _≤_}
+use Prim.Native.Nat.{ℕ, _-_, _*_}
 use mathlib.Core.Path.{_≡_, ap, _∙_}
 use mathlib.Core.Bool.{Bool, true, _&&_}
 use mathlib.Core.List.{List, [], _∷_, _++_}
@@ -13,19 +13,20 @@ use Rattle.places.specs.Places.{rowWords}
 use Rattle.pieces.specs.Records.{recordWords}
 use Rattle.element_reading.specs.Rows.{rowsOf}
 use Rattle.meaning.specs.Elements.{piecesOf}
-use Rattle.meaning.specs.Items.{recordsOf}
-use Rattle.survey_reading.specs.Survey.{itemTable}
+use Rattle.meaning.specs.code.PieceValues.{recordsOf}
+use Rattle.survey_reading.specs.code.Survey.{itemTable}
 use Rattle.survey_reading.proofs.Promises.{surveyed, says-of-records}
-use Rattle.edges.specs.Left.{itemsLeft, lastsFrom, Line, packageOf, wordsOf, Leaves, LeavesEach}
+use Rattle.survey_reading.proofs.Permits.{permitted-is}
+use Rattle.edges.specs.Left.{OfTable, lastsFrom, Line, packageOf, lineWords, Leaves, LeavesEach}
 
 -- none of 1, 3 and 9 refuses the text
 unfoldable pub fits : List ℕ → Bool
 fits text = leb (length text) mostBytes && (leb (length (rowsOf text)) mostElements && leb (length (piecesOf text)) mostPieces)
 
 -- a record's words, or those of several
-pub left : (f : List ℕ → List ℕ) (text words : List ℕ) → fits text ≡ true → ((rest : List ℕ) → f (recordsOf text ++ rest) ≡ words) → f (itemsLeft text) ≡ words
+pub left : (f : List ℕ → List ℕ) (text words : List ℕ) → fits text ≡ true → ((rest : List ℕ) → f (recordsOf text ++ rest) ≡ words) → OfTable text (λ items. f items ≡ words)
 unfolding fits itemTable
-left f text words h g =
+left f text words h g x t u p =
     let few : Bool = leb (length (rowsOf text)) mostElements in
     let all : Bool = leb (length (piecesOf text)) mostPieces in
     let rest = both-right (leb (length text) mostBytes) (few && all) h in
@@ -34,11 +35,12 @@ left f text words h g =
     let pieces = leb-true (length (piecesOf text)) mostPieces (both-right few all rest) in
     let done = surveyed text (rowWords * mostElements) (recordWords * mostPieces) .1 ((bytes, rows, omega arith), pieces, omega arith) in
     let said = says-of-records text (rowWords * mostElements) (recordWords * mostPieces) (done .0) (done .1) in
-    ap f (said .0) ∙ g (replicate (recordWords * mostPieces - recordWords * length (piecesOf text)) 0)
+    let after = permitted-is text (rowWords * mostElements) (recordWords * mostPieces) x t u p in
+    ap f (after .2 ∙ said .0) ∙ g (replicate (recordWords * mostPieces - recordWords * length (piecesOf text)) 0)
 
 -- the words of the items of a package
-pub leaves : (ls : List Line) → fits (packageOf ls) ≡ true → ((rest : List ℕ) → lastsFrom 1 (length ls) (recordsOf (packageOf ls) ++ rest) ≡ wordsOf ls) → Leaves ls
-leaves ls h g = left (lastsFrom 1 (length ls)) (packageOf ls) (wordsOf ls) h g
+pub leaves : (ls : List Line) → fits (packageOf ls) ≡ true → ((rest : List ℕ) → lastsFrom 1 (length ls) (recordsOf (packageOf ls) ++ rest) ≡ lineWords ls) → Leaves ls
+leaves ls h g = left (lastsFrom 1 (length ls)) (packageOf ls) (lineWords ls) h g
 
 -- of each item in a package of its own
 unfoldable pub eachFits : List Line → Bool
@@ -51,7 +53,7 @@ eachEnds (l ∷ ls) rest = lastsFrom 1 1 (recordsOf (packageOf (l ∷ [])) ++ re
 
 abbrev pub eachWords : List Line → List (List ℕ)
 eachWords [] = []
-eachWords (l ∷ ls) = wordsOf (l ∷ []) ∷ eachWords ls
+eachWords (l ∷ ls) = lineWords (l ∷ []) ∷ eachWords ls
 
 same-head : (x y : List ℕ) (xs ys : List (List ℕ)) → x ∷ xs ≡ y ∷ ys → x ≡ y
 same-head x y xs ys e = cc

@@ -9,11 +9,13 @@ use Rattle.words.specs.Words.{bytesOf}
 use Rattle.places.specs.Sizes.{mostElements, mostPieces}
 use Rattle.places.specs.Places.{rowWords}
 use Rattle.pieces.specs.Records.{recordWords}
-use Rattle.survey_reading.specs.Survey.{itemsAfter}
+use Rattle.survey_reading.specs.Permitted.{Permitted}
+use Rattle.survey_reading.specs.declared.Survey.{Survey}
 
--- the item table after the survey, with tables lent that have a row to each element and a record to each piece of any text
-abbrev pub itemsLeft : List ℕ → List ℕ
-itemsLeft text = itemsAfter text (rowWords * mostElements) (recordWords * mostPieces)
+-- what holds of the item table after the survey, by every answer that its contract permits, with tables lent that have a row to each element
+-- and a record to each piece of any text
+abbrev pub OfTable : List ℕ → (List ℕ → Type 0) → Type 0
+OfTable text P = (x : Survey) (elements items : List ℕ) → Permitted text (rowWords * mostElements) (recordWords * mostPieces) x elements items → P items
 
 -- "class ..; first element, count, name element", and then "state; in state 0 kind, 1 integer or 2 truth, and two numbers": where the state stands,
 -- the first n records, and the words of record k from its state on
@@ -22,6 +24,9 @@ stateAt = 4
 
 abbrev pub firstRecords : ℕ → List ℕ → List ℕ
 firstRecords n items = take (recordWords * n) items
+
+abbrev pub LeavesFirst : ℕ → List ℕ → List ℕ → Type 0
+LeavesFirst n text words = OfTable text (λ items. firstRecords n items ≡ words)
 
 abbrev pub lastWords : ℕ → List ℕ → List ℕ
 lastWords k items = take (recordWords - stateAt) (drop (recordWords * k + stateAt) items)
@@ -48,13 +53,13 @@ abbrev pub packageOf : List Line → List ℕ
 packageOf ls = bytesOf "package p is\n" ++ itemsOf ls ++ bytesOf "end;\n"
 
 -- their words
-abbrev pub wordsOf : List Line → List ℕ
-wordsOf [] = []
-wordsOf (l ∷ ls) = l .words ++ wordsOf ls
+abbrev pub lineWords : List Line → List ℕ
+lineWords [] = []
+lineWords (l ∷ ls) = l .words ++ lineWords ls
 
 -- A survey of the package leaves these words in the records of its items, which stand after the heading's.
 abbrev pub Leaves : List Line → Type 0
-Leaves ls = lastsFrom 1 (length ls) (itemsLeft (packageOf ls)) ≡ wordsOf ls
+Leaves ls = OfTable (packageOf ls) (λ items. lastsFrom 1 (length ls) items ≡ lineWords ls)
 
 -- The same of each item in a package of its own.
 abbrev pub LeavesEach : List Line → Type 0

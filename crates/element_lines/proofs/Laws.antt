@@ -11,10 +11,11 @@ use Rattle.words.specs.Words.{bytesOf}
 use Rattle.puts.specs.Puts.{Wrote}
 use Rattle.puts.specs.Decimals.{decimalOf, fieldOf, lineFeed}
 use Rattle.puts.proofs.Laws.{then3, named}
-use Rattle.refused_line.specs.Refused.{refusal, place, count, refusedOf, linesBy}
+use Rattle.refused_line.specs.Refused.{refusal, place, counted, refusedOf, linesBy}
 use Rattle.refused_line.proofs.Laws.{given-line, refused-line}
-use Rattle.places.specs.Places.{cellAt, rowsIn}
-use Rattle.element_lines.specs.Lines.{kind, firstByte, byteCount, kindWords, firstReserved, kindWord, placesOf, elementOf, headOf, listedLine, elementLine, elementLines}
+use Rattle.places.specs.Places.{kindColumn, firstColumn, sizeColumn, cellAt, rowsIn}
+use Rattle.places.specs.Kinds.{firstReserved}
+use Rattle.element_lines.specs.Lines.{kindWords, kindWord, placesOf, elementOf, headOf, listedLine, elementLine, elementLines}
 
 pub kind-put : {t t′ : List ℕ} {at r : ℕ} (n k : ℕ) → n ≡ k → Wrote t at (kindWord k) t′ r → Wrote t at (kindWord n) t′ r
 kind-put n k e p = named (ap kindWord e) p
@@ -45,8 +46,8 @@ pub places-put : {t t₁ t₂ t₃ : List ℕ} {a b c d : ℕ} (f n : ℕ) → W
 unfolding placesOf
 places-put f n p q u = then3 p q u
 
-pub element-put : {t t₁ t₂ t₃ : List ℕ} {a b c d : ℕ} (table : List ℕ) (i k f n : ℕ) → k ≡ cellAt table i kind → f ≡ cellAt table i firstByte
-    → n ≡ cellAt table i byteCount → Wrote t a (decimalOf i) t₁ b → Wrote t₁ b (kindWord k) t₂ c → Wrote t₂ c (placesOf f n) t₃ d
+pub element-put : {t t₁ t₂ t₃ : List ℕ} {a b c d : ℕ} (table : List ℕ) (i k f n : ℕ) → k ≡ cellAt table i kindColumn → f ≡ cellAt table i firstColumn
+    → n ≡ cellAt table i sizeColumn → Wrote t a (decimalOf i) t₁ b → Wrote t₁ b (kindWord k) t₂ c → Wrote t₂ c (placesOf f n) t₃ d
     → Wrote t a (elementOf table i) t₃ d
 unfolding elementOf
 element-put table i k f n x y z p q u = named (rw (← x, ← y, ← z)) (then3 p q u)
@@ -68,7 +69,7 @@ module _ {t t′ : List ℕ} {at r : ℕ} (table answer : List ℕ) where
   unfolding elementLine
   refused-element i w x e h d p = refused-line answer (listedLine table answer) i w x e h d p
 
-  pub head-element : (i w n : ℕ) → w ≡ getD answer refusal 0 → w ≡ 0 → i ≡ 0 → n ≡ getD answer count 0
+  pub head-element : (i w n : ℕ) → w ≡ getD answer refusal 0 → w ≡ 0 → i ≡ 0 → n ≡ getD answer counted 0
       → Wrote t at (headOf n) t′ r → Wrote t at (elementLine table answer i) t′ r
   unfolding elementLine listedLine
   head-element i w n e h z a q = given-line answer (listedLine table answer) i w e h (named (rw (z, ← a)) q)
@@ -79,8 +80,8 @@ module _ {t t′ : List ℕ} {at r : ℕ} (table answer : List ℕ) where
   one-element i w e h z p = given-line answer (listedLine table answer) i w e h (named (line-of table answer i z) p)
 
 -- how many lines there are
-pub lines-of : (table answer : List ℕ) (r l n x : ℕ) → r ≡ linesBy answer (l + 1) → l ≡ min n x → x ≡ rowsIn table → n ≡ getD answer count 0 → r ≡ elementLines table answer
+pub lines-of : (table answer : List ℕ) (r l n x : ℕ) → r ≡ linesBy answer (l + 1) → l ≡ min n x → x ≡ rowsIn table → n ≡ getD answer counted 0 → r ≡ elementLines table answer
 unfolding elementLines
 lines-of table answer r l n x p q f e =
-    let d : l + 1 ≡ suc (min (getD answer count 0) (rowsIn table)) = omega arith in
+    let d : l + 1 ≡ suc (min (getD answer counted 0) (rowsIn table)) = omega arith in
     p ∙ ap (λ (k : ℕ). linesBy answer k) d

@@ -12,24 +12,21 @@ ghost use Rattle.puts.specs.Puts.{Wrote};
 ghost use Rattle.puts.specs.Lines.{Part};
 ghost use Rattle.element_lines.specs.Lines.{kindWord, placesOf, elementOf, headOf, elementLine, elementLines};
 
-// The kind of the first reserved word: those before it, from the eighth on, are delimiters.
-const FIRST_RESERVED: u64 = 33;
-
 // The word for a kind's number.
 pub fn put_kind(kind: u64, out: &mut [u8], at: usize) -> usize
     ensures { λ r. ⌜ Wrote (now (out .entry)) at (kindWord kind) (now (out .exit)) r ⌝ }
 {
     match kind {
         0 => puts::put_none(out, at),
-        1 => puts::put_bytes(b" identifier", out, at),
-        2 => puts::put_bytes(b" extended", out, at),
-        3 => puts::put_bytes(b" integer", out, at),
-        4 => puts::put_bytes(b" real", out, at),
-        5 => puts::put_bytes(b" character", out, at),
-        6 => puts::put_bytes(b" string", out, at),
-        7 => puts::put_bytes(b" unreadable", out, at),
+        places::IDENTIFIER => puts::put_bytes(b" identifier", out, at),
+        places::EXTENDED => puts::put_bytes(b" extended", out, at),
+        places::INTEGER_LITERAL => puts::put_bytes(b" integer", out, at),
+        places::REAL => puts::put_bytes(b" real", out, at),
+        places::CHARACTER => puts::put_bytes(b" character", out, at),
+        places::STRING => puts::put_bytes(b" string", out, at),
+        places::UNREADABLE => puts::put_bytes(b" unreadable", out, at),
         _ => {
-            if kind < FIRST_RESERVED {
+            if kind < places::FIRST_WORD {
                 return puts::put_bytes(b" delimiter", out, at);
             }
             puts::put_bytes(b" reserved", out, at)
@@ -46,13 +43,13 @@ fn put_places(first: BytePlace, size: u64, out: &mut [u8], at: usize) -> usize
 }
 
 // The line of an element: its number, its kind's word, its first byte and how many it has.
-pub fn put_element(table: &[u64], i: usize, out: &mut [u8], at: usize) -> usize
-    ensures { λ r. ⌜ Wrote (now (out .entry)) at (elementOf (now (table .entry)) i) (now (out .exit)) r ⌝ }
+pub fn put_element(table: &[u64], e: ElementNumber, out: &mut [u8], at: usize) -> usize
+    ensures { λ r. ⌜ Wrote (now (out .entry)) at (elementOf (now (table .entry)) (e .0)) (now (out .exit)) r ⌝ }
 {
-    let a = puts::put_decimal(i as u64, out, at);
-    let b = put_kind(places::kind_of(table, ElementNumber(i)), out, a);
-    let first = places::place_of(table, ElementNumber(i));
-    put_places(first, places::size_of(table, ElementNumber(i)), out, b)
+    let a = puts::put_decimal(e.0 as u64, out, at);
+    let b = put_kind(places::kind_of(table, e), out, a);
+    let first = places::place_of(table, e);
+    put_places(first, places::size_of(table, e), out, b)
 }
 
 // The listing's first line.
@@ -75,7 +72,8 @@ fn put_element_line(table: &[u64], answer: &[u64], i: usize, out: &mut [u8], at:
     if i == 0 {
         return put_head(lent_tables::word_at(answer, COUNT), out, at);
     }
-    put_element(table, i - 1, out, at)
+    let before = i - 1;
+    put_element(table, ElementNumber(before), out, at)
 }
 
 // How many lines there are.

@@ -20,7 +20,7 @@ use Rattle.refusals.specs.declared.Refusal.the-variants.{TextTooLong, TooManyEl
 use Rattle.element_reading.specs.declared.Reading.{Reading}
 use Rattle.element_reading.specs.declared.Reading.the-variants.{Read, Refused}
 use Rattle.element_reading.specs.Reading.{readingOf, tableBy, tableOf}
-use Rattle.element_reading.specs.Given.{count, Taken, Given, too-long, too-many, short}
+use Rattle.element_reading.specs.Given.{elementCount, Taken, Given, too-long, too-many, short}
 use Rattle.element_reading.specs.Permitted.{Permitted}
 use Rattle.element_reading.proofs.TableLaws.{length-puts, length-cells, puts-zeros}
 
@@ -28,15 +28,15 @@ module _ (s : List ℕ) (w : ℕ) where
   -- when each refusal is given, refusal by refusal
   abbrev pub GivenAs : Refusal → Type 0
   GivenAs (TextTooLong p) = (p .0 ≡ mostBytes) × (mostBytes < length s)
-  GivenAs (TooManyElements e) = (e .0 ≡ mostElements) × (length s ≤ mostBytes) × (mostElements < count s)
-  GivenAs (TableShort e) = (e .0 ≡ w / rowWords) × (length s ≤ mostBytes) × (count s ≤ mostElements) × (w < rowWords * count s)
+  GivenAs (TooManyElements e) = (e .0 ≡ mostElements) × (length s ≤ mostBytes) × (mostElements < elementCount s)
+  GivenAs (TableShort e) = (e .0 ≡ w / rowWords) × (length s ≤ mostBytes) × (elementCount s ≤ mostElements) × (w < rowWords * elementCount s)
 
   -- and by the numbers of 01's table
   abbrev At : ℕ → ℕ → Type 0
   At n k =
       cond (eqb n 1) ((k ≡ mostBytes) × (mostBytes < length s))
-      (cond (eqb n 3) ((k ≡ mostElements) × (length s ≤ mostBytes) × (mostElements < count s))
-      (cond (eqb n 4) ((k ≡ w / rowWords) × (length s ≤ mostBytes) × (count s ≤ mostElements) × (w < rowWords * count s)) ⊥))
+      (cond (eqb n 3) ((k ≡ mostElements) × (length s ≤ mostBytes) × (mostElements < elementCount s))
+      (cond (eqb n 4) ((k ≡ w / rowWords) × (length s ≤ mostBytes) × (elementCount s ≤ mostElements) × (w < rowWords * elementCount s)) ⊥))
 
   numbered : {n k : ℕ} → Given s w n k → At n k
   numbered (too-long h) = (refl, h)
@@ -55,33 +55,33 @@ module _ (s : List ℕ) (w : ℕ) where
 
   -- what an answer says of the text
   abbrev pub ReadingSays : Reading → Type 0
-  ReadingSays (Read n) = (n .0 ≡ count s) × Taken s w
+  ReadingSays (Read n) = (n .0 ≡ elementCount s) × Taken s w
   ReadingSays (Refused r) = GivenAs r
 
   pub reading-says : ReadingSays (readingOf s w)
   unfolding readingOf
   reading-says =
       by-test ReadingSays (ltb 65536 (length s)) (λ l. (refl, ltb-true 65536 (length s) l))
-      (λ g. by-test ReadingSays (ltb 8192 (count s)) (λ l. (refl, ltb-false 65536 (length s) g, ltb-true 8192 (count s) l))
-      (λ h. by-test ReadingSays (ltb (w / 3) (count s))
-      (λ l. (refl, ltb-false 65536 (length s) g, ltb-false 8192 (count s) h, omega (arith, ltb-true (w / 3) (count s) l)))
-      (λ l. (refl, (ltb-false 65536 (length s) g, ltb-false 8192 (count s) h, omega (arith, ltb-false (w / 3) (count s) l))))))
+      (λ g. by-test ReadingSays (ltb 8192 (elementCount s)) (λ l. (refl, ltb-false 65536 (length s) g, ltb-true 8192 (elementCount s) l))
+      (λ h. by-test ReadingSays (ltb (w / 3) (elementCount s))
+      (λ l. (refl, ltb-false 65536 (length s) g, ltb-false 8192 (elementCount s) h, omega (arith, ltb-true (w / 3) (elementCount s) l)))
+      (λ l. (refl, (ltb-false 65536 (length s) g, ltb-false 8192 (elementCount s) h, omega (arith, ltb-false (w / 3) (elementCount s) l))))))
 
   -- and the answer by what is said
-  pub taken-read : Taken s w → readingOf s w ≡ Read (record { 0 = count s })
+  pub taken-read : Taken s w → readingOf s w ≡ Read (record { 0 = elementCount s })
   unfolding readingOf
-  taken-read t = let l = t .2 in simp (le-ltb 65536 (length s) (t .0), le-ltb 8192 (count s) (t .1), le-ltb (w / 3) (count s) (omega arith))
+  taken-read t = let l = t .2 in simp (le-ltb 65536 (length s) (t .0), le-ltb 8192 (elementCount s) (t .1), le-ltb (w / 3) (elementCount s) (omega arith))
 
   pub refused-reading : (r : Refusal) → GivenAs r → readingOf s w ≡ Refused r
   unfolding readingOf
   refused-reading (TextTooLong p) g = rw (lt-ltb 65536 (length s) (g .1)) (ap (λ (k : ℕ). Refused (TextTooLong (record { 0 = k }))) (sym (g .0)))
   refused-reading (TooManyElements e) g =
-      rw (le-ltb 65536 (length s) (g .1), lt-ltb 8192 (count s) (g .2)) (ap (λ (k : ℕ). Refused (TooManyElements (record { 0 = k }))) (sym (g .0)))
+      rw (le-ltb 65536 (length s) (g .1), lt-ltb 8192 (elementCount s) (g .2)) (ap (λ (k : ℕ). Refused (TooManyElements (record { 0 = k }))) (sym (g .0)))
   refused-reading (TableShort e) g =
       let l = g .3 in
-      rw (le-ltb 65536 (length s) (g .1), le-ltb 8192 (count s) (g .2), lt-ltb (w / 3) (count s) (omega arith)) (ap (λ (k : ℕ). Refused (TableShort (record { 0 = k }))) (sym (g .0)))
+      rw (le-ltb 65536 (length s) (g .1), le-ltb 8192 (elementCount s) (g .2), lt-ltb (w / 3) (elementCount s) (omega arith)) (ap (λ (k : ℕ). Refused (TableShort (record { 0 = k }))) (sym (g .0)))
 
-  read-says : (n : ElementNumber) → readingOf s w ≡ Read n → (n .0 ≡ count s) × Taken s w
+  read-says : (n : ElementNumber) → readingOf s w ≡ Read n → (n .0 ≡ elementCount s) × Taken s w
   read-says n e = subst ReadingSays e reading-says
 
   pub table-refused : {r : Refusal} → readingOf s w ≡ Refused r → tableOf s w ≡ replicate w 0
@@ -105,7 +105,7 @@ module _ (s t u₀ : List ℕ) (z : u₀ ≡ replicate (length t) 0) where
   pub refuse-long : mostBytes < length s → Permitted s (length t) (Refused (TextTooLong (record { 0 = mostBytes }))) u₀
   refuse-long h = (too-long h, z)
 
-  module _ (u₁ : List ℕ) (n : ℕ) (g : length s ≤ mostBytes) (c : n ≡ count s) (p : u₁ ≡ puts u₀ 0 (rowsOf s)) where
+  module _ (u₁ : List ℕ) (n : ℕ) (g : length s ≤ mostBytes) (c : n ≡ elementCount s) (p : u₁ ≡ puts u₀ 0 (rowsOf s)) where
     same : length u₁ ≡ length t
     same = ap length p ∙ length-puts u₀ 0 (rowsOf s) ∙ ap length z ∙ length-replicate (length t) 0
 

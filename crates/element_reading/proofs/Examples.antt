@@ -1,7 +1,7 @@
 -- The examples, computed from bytes by the definitions. Assumes nothing.
 use mathlib.Core.Path.{refl}
 use Rattle.classes.specs.Bytes.{endsLine, separates, isLetter, lower, isDigit, isGraphic, digitValue}
-use Rattle.classes.specs.Runs.{inRun, count, goesOn, run}
+use Rattle.classes.specs.Runs.{inRun, countWhile, goesOn, run}
 use Rattle.words.specs.Words.{bytesOf, begins, spells, placeFrom, reservedWords, delimiters}
 use Rattle.quoted.specs.Quoted.{closedFrom}
 use Rattle.numbers.specs.Numbers.{digits, digitIn, spelled, leading, exponentHead, exponent, belowBase, based, pointed, number}
@@ -10,7 +10,7 @@ use Rattle.element_reading.specs.Rows.{linesOf, lineRows, linesRows, row
 use Rattle.element_reading.specs.Examples.{Examples}
 
 pub examples : Examples
-unfolding endsLine separates isLetter lower isDigit isGraphic digitValue inRun count goesOn run bytesOf begins spells placeFrom reservedWords delimiters closedFrom digits digitIn spelled leading exponentHead exponent belowBase based pointed number unreadable identifier extended string apostrophe delimiter ruled spoilsNumber elementAt linesOf lineRows linesRows rowsOf
+unfolding endsLine separates isLetter lower isDigit isGraphic digitValue inRun countWhile goesOn run bytesOf begins spells placeFrom reservedWords delimiters closedFrom digits digitIn spelled leading exponentHead exponent belowBase based pointed number unreadable identifier extended string apostrophe delimiter ruled spoilsNumber elementAt linesOf lineRows linesRows rowsOf
 examples = (
   refl,
   refl,

@@ -10,8 +10,8 @@ use lib.Seq.{drop-cons, drop-drop}
 use Rattle.elements.specs.Kinds.{ticksAfter}
 use Rattle.elements.specs.Element.{elementAt}
 use Rattle.elements.specs.declared.Kind.{Kind}
-use Rattle.elements.specs.declared.Found.{Found}
-use Rattle.elements.specs.declared.Found.the-variants.{Skip, Element}
+use Rattle.elements.specs.declared.Front.{Front}
+use Rattle.elements.specs.declared.Front.the-variants.{Skip, Element}
 use Rattle.elements.proofs.Sizes.{sizeOf, element-good}
 use Rattle.element_reading.specs.Rows.{Row, lineRows}
 
@@ -69,6 +69,6 @@ line-few [] (suc k) at ticks = zero-le
 line-few (b ∷ l) (suc k) at ticks = omega (arith, line-few l k (suc at) ticks)
 line-few (b ∷ l) zero at ticks = go (elementAt ticks (b ∷ l)) refl (λ (k : ℕ) (t : Bool). line-few l k (suc at) t)
   where
-    go : (f : Found) → elementAt ticks (b ∷ l) ≡ f → ((k : ℕ) (t : Bool) → length (lineRows k (suc at) t l) ≤ length l) → length (lineRows 0 at ticks (b ∷ l)) ≤ suc (length l)
+    go : (f : Front) → elementAt ticks (b ∷ l) ≡ f → ((k : ℕ) (t : Bool) → length (lineRows k (suc at) t l) ≤ length l) → length (lineRows 0 at ticks (b ∷ l)) ≤ suc (length l)
     go (Skip n) e r = rw (e, lineRows) (omega (arith, r (pred n) ticks))
     go (Element k n) e r = rw (e, lineRows) (suc-le-suc (r (pred n) (ticksAfter k)))

@@ -12,13 +12,13 @@ use lib.Dec.{leb, ltb}
 use lib.ListN.{length, take, drop, getD, take-append-drop, length-append, length-drop, drop-of-length-le}
 use lib.Seq.{length-take-le, drop-cons}
 use Rattle.classes.specs.Bytes.{endsLine, separates}
-use Rattle.classes.specs.Runs.{count}
+use Rattle.classes.specs.Runs.{countWhile}
 use Rattle.classes.proofs.Laws.{count-le}
 use Rattle.elements.specs.Kinds.{ticksAfter}
 use Rattle.elements.specs.Element.{elementAt}
 use Rattle.elements.specs.declared.Kind.{Kind}
-use Rattle.elements.specs.declared.Found.{Found}
-use Rattle.elements.specs.declared.Found.the-variants.{Skip, Element}
+use Rattle.elements.specs.declared.Front.{Front}
+use Rattle.elements.specs.declared.Front.the-variants.{Skip, Element}
 use Rattle.elements.proofs.Sizes.{element-good}
 use Rattle.elements.proofs.Skips.{skip-is}
 use Rattle.element_reading.specs.Rows.{Row, onto, linesOf, lineRows, linesRows, rowsOf}
@@ -96,7 +96,7 @@ unfolding lineRows
 line-some f u rs e ih [] h at ticks i d = rw add-zero at d
 line-some f u rs e ih (b ∷ l) h at ticks i d = go (elementAt ticks (b ∷ l)) refl
   where
-    go : (x : Found) → elementAt ticks (b ∷ l) ≡ x → Laid at ((b ∷ l) ++ u) (lineRows 0 at ticks (b ∷ l) ++ rs)
+    go : (x : Front) → elementAt ticks (b ∷ l) ≡ x → Laid at ((b ∷ l) ++ u) (lineRows 0 at ticks (b ∷ l) ++ rs)
     go (Skip n) q =
         ⊎-elim (λ w. front-separator u rs e b l at ticks i d n q (w .0) (w .1) (ih l (le-of-suc-le-suc h)))
         (λ w. front-comment u rs e b l at ticks i d n q (w .0) (w .1) (w .2)) (rw q at (skip-is (b ∷ l) ticks))
@@ -109,19 +109,19 @@ laid-line zero u rs e = line-none u rs
 laid-line (suc f) u rs e = line-some f u rs e (laid-line f u rs e)
 
 -- the first line of a text holds no line end, and one stands after it, or the text ends
-first-inside : (s : List ℕ) → Inside (take (count inLine s) s)
-first-inside [] = inside-take (count inLine []) [] tt
+first-inside : (s : List ℕ) → Inside (take (countWhile inLine s) s)
+first-inside [] = inside-take (countWhile inLine []) [] tt
 first-inside (b ∷ s) = go (endsLine b) refl (first-inside s)
   where
-    go : (x : Bool) → endsLine b ≡ x → Inside (take (count inLine s) s) → Inside (take (count inLine (b ∷ s)) (b ∷ s))
+    go : (x : Bool) → endsLine b ≡ x → Inside (take (countWhile inLine s) s) → Inside (take (countWhile inLine (b ∷ s)) (b ∷ s))
     go true e h = rw (count-ended b s e) tt
     go false e h = rw (count-byte b s e) (e, h)
 
-first-ended : (s : List ℕ) → Ended (drop (count inLine s) s)
-first-ended [] = rw (drop-of-length-le [] {i = count inLine []} zero-le) tt
+first-ended : (s : List ℕ) → Ended (drop (countWhile inLine s) s)
+first-ended [] = rw (drop-of-length-le [] {i = countWhile inLine []} zero-le) tt
 first-ended (b ∷ s) = go (endsLine b) refl (first-ended s)
   where
-    go : (x : Bool) → endsLine b ≡ x → Ended (drop (count inLine s) s) → Ended (drop (count inLine (b ∷ s)) (b ∷ s))
+    go : (x : Bool) → endsLine b ≡ x → Ended (drop (countWhile inLine s) s) → Ended (drop (countWhile inLine (b ∷ s)) (b ∷ s))
     go true e h = rw (count-ended b s e) e
     go false e h = rw (count-byte b s e) h
 
@@ -143,7 +143,7 @@ text-none (b ∷ s) h at = absurd (not-suc-le-zero h)
 
 text-some : (f : ℕ) → ((s : List ℕ) → length s ≤ f → (at : ℕ) → Laid at s (linesRows at (linesOf s))) → (s : List ℕ) → length s ≤ suc f → (at : ℕ) → Laid at s (linesRows at (linesOf s))
 text-some f ih s h at =
-    let n : ℕ = count inLine s in
+    let n : ℕ = countWhile inLine s in
     let r = laid-rest at n s (first-ended s) (ih (drop (suc n) s) (omega (arith, h, length-drop (suc n) s)) (suc (at + n))) in
     let m : length (take n s) ≡ n = length-take-le n s (count-le inLine s) in
     let t = laid-line (length (take n s)) (drop n s) (linesRows (suc (at + n)) (linesOf (drop (suc n) s))) (first-ended s) (take n s) (le-refl _) at false (first-inside s) (rw m r) in
@@ -180,7 +180,7 @@ line-moves [] (suc k) n at ticks = refl
 line-moves (b ∷ l) (suc k) n at ticks = rw (← add-suc) (line-moves l k n (suc at) ticks)
 line-moves (b ∷ l) zero n at ticks = go (elementAt ticks (b ∷ l)) refl (λ (k : ℕ) (t : Bool). line-moves l k n (suc at) t)
   where
-    go : (x : Found) → elementAt ticks (b ∷ l) ≡ x → ((k : ℕ) (t : Bool) → lineRows k (n + suc at) t l ≡ moved n (lineRows k (suc at) t l)) → lineRows 0 (n + at) ticks (b ∷ l) ≡ moved n (lineRows 0 at ticks (b ∷ l))
+    go : (x : Front) → elementAt ticks (b ∷ l) ≡ x → ((k : ℕ) (t : Bool) → lineRows k (n + suc at) t l ≡ moved n (lineRows k (suc at) t l)) → lineRows 0 (n + at) ticks (b ∷ l) ≡ moved n (lineRows 0 at ticks (b ∷ l))
     go (Skip m) e ih = rw (e, lineRows, ← add-suc) (ih (pred m) ticks)
     go (Element k m) e ih = rw (e, lineRows, ← add-suc) (ap (λ (t : List Row). record { kind = k; first = n + at; size = m } ∷ t) (ih (pred m) (ticksAfter k)))
 

@@ -12,13 +12,13 @@ use mir.Syntax.{w64}
 use lib.ListN.{length, take, drop, getD, length-append, length-drop, drop-of-length-le}
 use lib.Seq.{getD-drop, drop-drop, length-take-le}
 use Rattle.classes.specs.Bytes.{endsLine}
-use Rattle.classes.specs.Runs.{count}
+use Rattle.classes.specs.Runs.{countWhile}
 use Rattle.classes.proofs.Laws.{count-on, count-stop, count-le, part-rest}
 use Rattle.elements.specs.Kinds.{ticksAfter, kindNumber}
 use Rattle.elements.specs.Element.{elementAt}
 use Rattle.elements.specs.declared.Kind.{Kind}
-use Rattle.elements.specs.declared.Found.{Found}
-use Rattle.elements.specs.declared.Found.the-variants.{Skip, Element}
+use Rattle.elements.specs.declared.Front.{Front}
+use Rattle.elements.specs.declared.Front.the-variants.{Skip, Element}
 use Rattle.elements.proofs.Sizes.{sizeOf}
 use Rattle.element_reading.specs.Rows.{linesOf, lineRows, linesRows}
 use Rattle.element_reading.specs.code.Lines.{inLine}
@@ -29,7 +29,7 @@ use Rattle.element_reading.proofs.TextLaws.{text-first, lines-none}
 use Rattle.element_reading.proofs.TableLaws.{length-put, length-puts, puts-append}
 
 -- the way to the end of a line
-module _ (s : List ℕ) (i total : ℕ) (x : Bool) (v : i + count inLine (drop i s) ≡ total) (h : i < length s) (e : x ≡ endsLine (getD s i 0)) where
+module _ (s : List ℕ) (i total : ℕ) (x : Bool) (v : i + countWhile inLine (drop i s) ≡ total) (h : i < length s) (e : x ≡ endsLine (getD s i 0)) where
   at-byte : inLine (drop i s) ≡ not x
   unfolding inLine
   at-byte = rw (getD-drop i s 0 0, add-zero, ← e)
@@ -37,15 +37,15 @@ module _ (s : List ℕ) (i total : ℕ) (x : Bool) (v : i + count inLine (drop i
   pub end-found : x ≡ true → i ≡ total
   end-found t = omega (arith, count-stop inLine s i h (rw t at at-byte), v)
 
-  pub end-further : x ≡ false → i + 1 + count inLine (drop (i + 1) s) ≡ total
+  pub end-further : x ≡ false → i + 1 + countWhile inLine (drop (i + 1) s) ≡ total
   end-further t = omega (arith, count-on inLine s i h (rw t at at-byte), v)
 
 -- an element, or what is none, in a line that begins at the byte `at`; st is what stands at i
-module _ (l : List ℕ) (at i : ℕ) (ticks : Bool) (st : Found) (h : i < length l) (e : st ≡ elementAt ticks (take (length l - i) (drop i l))) where
-  here : (f : Found) → st ≡ f → elementAt ticks (drop i l) ≡ f
+module _ (l : List ℕ) (at i : ℕ) (ticks : Bool) (st : Front) (h : i < length l) (e : st ≡ elementAt ticks (take (length l - i) (drop i l))) where
+  here : (f : Front) → st ≡ f → elementAt ticks (drop i l) ≡ f
   here f m = sym (rw (part-rest l i) at e) ∙ m
 
-  within : (f : Found) → st ≡ f → (1 ≤ sizeOf f) × (i + sizeOf f ≤ length l)
+  within : (f : Front) → st ≡ f → (1 ≤ sizeOf f) × (i + sizeOf f ≤ length l)
   within f m = rw (here f m) at (place-good l i ticks h)
 
   module _ (k : ℕ) where
@@ -100,8 +100,8 @@ module _ (l : List ℕ) (at i n : ℕ) (ticks : Bool) where
   line-put t whole v h = rw (line-end l (at + i) i ticks h) at v
 
 -- a line of a text, k bytes long, that begins at the byte `at`; m elements stand after it
-module _ (s : List ℕ) (at k : ℕ) (h : at < length s) (e : k ≡ count inLine (take (length s - at) (drop at s))) where
-  long : k ≡ count inLine (drop at s)
+module _ (s : List ℕ) (at k : ℕ) (h : at < length s) (e : k ≡ countWhile inLine (take (length s - at) (drop at s))) where
+  long : k ≡ countWhile inLine (drop at s)
   long = rw (part-rest s at) at e
 
   pub line-in : at + k ≤ length s

@@ -8,18 +8,18 @@ use Rattle.places.specs.Places.{rowWords}
 use Rattle.element_reading.specs.Rows.{rowsOf}
 
 -- how many elements a text has
-abbrev pub count : List ℕ → ℕ
-count text = length (rowsOf text)
+abbrev pub elementCount : List ℕ → ℕ
+elementCount text = length (rowsOf text)
 
 -- the text's elements are taken: none of 1, 3, 4 refuses it
 abbrev pub Taken : List ℕ → ℕ → Type 0
-Taken text words = (length text ≤ mostBytes) × (count text ≤ mostElements) × (rowWords * count text ≤ words)
+Taken text words = (length text ≤ mostBytes) × (elementCount text ≤ mostElements) × (rowWords * elementCount text ≤ words)
 
 -- 01's table of refusals, a line to each: its number, when it is given, and its place
 pub data Given (text : List ℕ) (words : ℕ) : ℕ → ℕ → Type 0 where
   -- "text too long", at "65,536"
   too-long : mostBytes < length text → Given text words 1 mostBytes
   -- "more than 8,192 elements", at "8,192"
-  too-many : length text ≤ mostBytes → mostElements < count text → Given text words 3 mostElements
+  too-many : length text ≤ mostBytes → mostElements < elementCount text → Given text words 3 mostElements
   -- "element table short", at the "rows it has"
-  short : length text ≤ mostBytes → count text ≤ mostElements → words < rowWords * count text → Given text words 4 (words / rowWords)
+  short : length text ≤ mostBytes → elementCount text ≤ mostElements → words < rowWords * elementCount text → Given text words 4 (words / rowWords)

@@ -3,6 +3,6 @@ pub mod code
 pub mod Table
 pub mod Given
 pub mod Permitted
-pub mod Reading
 pub mod Promises
 pub mod Examples
+pub mod Reading

@@ -8,7 +8,7 @@ use Rattle.places.specs.Places.{rowWords}
 use Rattle.refusals.specs.Refusals.{refusalNumber, refusalPlace}
 use Rattle.element_reading.specs.Rows.{rowsOf}
 use Rattle.element_reading.specs.Table.{cells}
-use Rattle.element_reading.specs.Given.{count, Taken, Given}
+use Rattle.element_reading.specs.Given.{elementCount, Taken, Given}
 use Rattle.element_reading.specs.declared.Reading.{Reading}
 use Rattle.element_reading.specs.declared.Reading.the-variants.{Read, Refused}
 
@@ -16,5 +16,5 @@ use Rattle.element_reading.specs.declared.Reading.the-variants.{Read, Re
 -- zeros."
 abbrev pub Permitted : List ℕ → ℕ → Reading → List ℕ → Type 0
 Permitted text words (Read n) table =
-    Taken text words × (n .0 ≡ count text) × (table ≡ cells (rowsOf text) ++ replicate (words - rowWords * count text) 0)
+    Taken text words × (n .0 ≡ elementCount text) × (table ≡ cells (rowsOf text) ++ replicate (words - rowWords * elementCount text) 0)
 Permitted text words (Refused r) table = Given text words (refusalNumber r) (refusalPlace r) × (table ≡ replicate words 0)

@@ -7,14 +7,14 @@ use mathlib.Core.Bool.{true, false, cond, _&&_}
 use mathlib.Core.List.{List, [], _∷_, _++_}
 use lib.Dec.{leb, ltb}
 use lib.ListN.{length, getD}
-use Rattle.classes.specs.Bytes.{endsLine, separates}
+use Rattle.classes.specs.Bytes.{endsLine, separates, hyphen}
 use Rattle.elements.specs.declared.Kind.{Kind}
 use Rattle.element_reading.specs.Rows.{Row, rowsOf}
 use Rattle.places.specs.declared.ElementNumber.{ElementNumber}
 use Rattle.refusals.specs.Refusals.{refusalNumber, refusalPlace}
 use Rattle.refusals.specs.declared.Refusal.{Refusal}
 use Rattle.element_reading.specs.Reading.{readingOf, tableOf}
-use Rattle.element_reading.specs.Given.{count, Taken, Given}
+use Rattle.element_reading.specs.Given.{elementCount, Taken, Given}
 use Rattle.element_reading.specs.Permitted.{Permitted}
 use Rattle.element_reading.specs.declared.Reading.{Reading}
 use Rattle.element_reading.specs.declared.Reading.the-variants.{Read, Refused}
@@ -29,7 +29,7 @@ Answered = (s : List ℕ) (words : ℕ) → Permitted s words (readingOf s words
 
 -- A text's elements are read exactly when none of 1, 3, 4 refuses it, and then all of them are.
 abbrev pub ReadExactly : Type 0
-ReadExactly = (s : List ℕ) (words : ℕ) (n : ElementNumber) → (readingOf s words ≡ Read n) ↔ ((n .0 ≡ count s) × Taken s words)
+ReadExactly = (s : List ℕ) (words : ℕ) (n : ElementNumber) → (readingOf s words ≡ Read n) ↔ ((n .0 ≡ elementCount s) × Taken s words)
 
 -- Refusals 1, 3 and 4 are given exactly when 01 says, with its number and at its place.
 abbrev pub RefusedExactly : Type 0
@@ -51,7 +51,7 @@ pub data Laid : ℕ → List ℕ → List Row → Type 0 where
   nothing : {at : ℕ} → Laid at [] []
   line-end : {at b : ℕ} {s : List ℕ} {rs : List Row} → endsLine b ≡ true → Laid (suc at) s rs → Laid at (b ∷ s) rs
   separator : {at b : ℕ} {s : List ℕ} {rs : List Row} → separates b ≡ true → Laid (suc at) s rs → Laid at (b ∷ s) rs
-  comment : {at : ℕ} {s u : List ℕ} {rs : List Row} (c : List ℕ) → u ≡ c ++ s → (getD c 0 0 ≡ 45) × (getD c 1 0 ≡ 45) → Inside c → Ended s → Laid (at + length c) s rs → Laid at u rs
+  comment : {at : ℕ} {s u : List ℕ} {rs : List Row} (c : List ℕ) → u ≡ c ++ s → (getD c 0 0 ≡ hyphen) × (getD c 1 0 ≡ hyphen) → Inside c → Ended s → Laid (at + length c) s rs → Laid at u rs
   element : {at : ℕ} {s u : List ℕ} {rs : List Row} (k : Kind) (e : List ℕ) → u ≡ e ++ s → 1 ≤ length e → Inside e → Laid (at + length e) s rs → Laid at u (record { kind = k; first = at; size = length e } ∷ rs)
 
 -- Nothing is lost: every byte of a text lies in exactly one element, or is a separator, a line end or part of a comment.

@@ -7,7 +7,7 @@ use Rattle.classes.specs.Bytes.{endsLine}
 use Rattle.elements.specs.Kinds.{ticksAfter}
 use Rattle.elements.specs.Element.{elementAt}
 use Rattle.elements.specs.declared.Kind.{Kind}
-use Rattle.elements.specs.declared.Found.the-variants.{Skip, Element}
+use Rattle.elements.specs.declared.Front.the-variants.{Skip, Element}
 
 -- "A row has kind, first byte and length."
 pub record Row : Type 0 where

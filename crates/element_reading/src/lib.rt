@@ -1,5 +1,5 @@
 // Reads a text's elements into a table that the caller lends, line by line, in one pass. Any bytes and any table may be given.
-use elements::Found;
+use elements::Front;
 use places::BytePlace;
 use places::ElementNumber;
 use places::MOST_BYTES;
@@ -10,7 +10,7 @@ ghost use mathlib.Core.Bool.{false};
 ghost use Prim.Native.Nat.{_+_, _≤_};
 ghost use lib.ListN.{length};
 ghost use Rattle.places.specs.Sizes.{mostBytes};
-ghost use Rattle.classes.specs.Runs.{count};
+ghost use Rattle.classes.specs.Runs.{countWhile};
 ghost use Rattle.element_reading.specs.Rows.{lineRows, rowsOf};
 ghost use Rattle.element_reading.specs.code.Lines.{inLine};
 ghost use Rattle.element_reading.specs.Table.{puts};
@@ -22,25 +22,27 @@ pub enum Reading {
 }
 
 // Reads a line that begins at a byte place; n elements stand before it. Answers how many stand after it.
-fn read_line(l: &[u8], at: usize, t: &mut [u64], before: usize) -> usize
-    requires { ⌜ (at + length (now l) ≤ mostBytes) × (before ≤ at) ⌝ }
-    ensures { λ r. ⌜ r ≡ before + length (lineRows 0 at false (now (l .entry))) ⌝ }
-    ensures { λ r. ⌜ now (t .exit) ≡ puts (now (t .entry)) before (lineRows 0 at false (now (l .entry))) ⌝ }
+fn read_line(l: &[u8], at: BytePlace, t: &mut [u64], before: ElementNumber) -> ElementNumber
+    requires { ⌜ (at .0 + length (now l) ≤ mostBytes) × (before .0 ≤ at .0) ⌝ }
+    ensures { λ r. ⌜ r .0 ≡ before .0 + length (lineRows 0 (at .0) false (now (l .entry))) ⌝ }
+    ensures { λ r. ⌜ now (t .exit) ≡ puts (now (t .entry)) (before .0) (lineRows 0 (at .0) false (now (l .entry))) ⌝ }
 {
+    let from = at.0;
+    let first = before.0;
     let mut i = 0;
-    let mut n = before;
+    let mut n = first;
     let mut ticks = false;
     while i < l.len() {
         match elements::element_at(&l[i..], ticks) {
-            Found::Skip(k) => {
+            Front::Skip(k) => {
                 i += k;
             },
-            Found::Element(kind, k) => {
+            Front::Element(kind, k) => {
                 places::put_row(
                     t,
                     ElementNumber(n),
                     elements::kind_number(kind),
-                    BytePlace(at + i),
+                    BytePlace(from + i),
                     k,
                 );
                 ticks = elements::ticks_after(kind);
@@ -49,12 +51,12 @@ fn read_line(l: &[u8], at: usize, t: &mut [u64], before: usize) -> usize
             },
         }
     }
-    n
+    ElementNumber(n)
 }
 
 // How many bytes the line at the front has.
 fn line_length(s: &[u8]) -> usize
-    ensures { λ r. ⌜ r ≡ count inLine (now (s .entry)) ⌝ }
+    ensures { λ r. ⌜ r ≡ countWhile inLine (now (s .entry)) ⌝ }
 {
     let mut i = 0;
     while i < s.len() {
@@ -76,7 +78,8 @@ fn read_lines(s: &[u8], t: &mut [u64]) -> usize
     let mut n = 0;
     while at < s.len() {
         let end = at + line_length(&s[at..]);
-        n = read_line(&s[at..end], at, t, n);
+        let m = read_line(&s[at..end], BytePlace(at), t, ElementNumber(n));
+        n = m.0;
         at = end + 1;
     }
     n

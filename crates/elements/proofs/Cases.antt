@@ -30,8 +30,8 @@ use Rattle.elements.specs.code.Ways.{nameAt, wordAt, extendedAt, extende
 use Rattle.elements.specs.declared.Kind.{Kind}
 use Rattle.elements.specs.declared.Literal.{Literal}
 use Rattle.elements.specs.declared.Opens.{Opens}
-use Rattle.elements.specs.declared.Found.{Found}
-use Rattle.elements.specs.declared.Found.the-variants.{Skip, Element}
+use Rattle.elements.specs.declared.Front.{Front}
+use Rattle.elements.specs.declared.Front.the-variants.{Skip, Element}
 
 -- a place in either list fits a byte
 pub reserved-fits : (p : Place) (w : List ℕ) (k : ℕ) → p ≡ placeIn w reservedWords → p ≡ At k → Fits w8 k
@@ -51,7 +51,7 @@ module _ (s : List ℕ) (n next : ℕ) (h : n ≡ run Word s) (q : next ≡ getD
   pub word-part : n ≤ length s
   word-part = omega (arith, h, run-le Word s)
 
-  pub word-broken : (f : Found) → next ≡ 95 → f ≡ unreadable s → f ≡ wordAt s
+  pub word-broken : (f : Front) → next ≡ 95 → f ≡ unreadable s → f ≡ wordAt s
   unfolding wordAt
   word-broken f e g = simp (← h, ← q, eq-eqb next 95 e, g)
 
@@ -60,7 +60,7 @@ module _ (s : List ℕ) (n next : ℕ) (h : n ≡ run Word s) (q : next ≡ getD
     unfolding wordAt
     word-reserved k m = simp (← h, ← q, ne-eqb next 95 x, ← e, m)
 
-    pub word-quote : (f : Found) → p ≡ Nowhere → next ≡ 34 → f ≡ unreadable s → f ≡ wordAt s
+    pub word-quote : (f : Front) → p ≡ Nowhere → next ≡ 34 → f ≡ unreadable s → f ≡ wordAt s
     unfolding wordAt nameAt
     word-quote f m y g = simp (← h, ← q, ne-eqb next 95 x, ← e, m, eq-eqb next 34 y, g)
 
@@ -74,11 +74,11 @@ module _ (s : List ℕ) (cl : Closed) (e : cl ≡ closedFrom 92 0 (take (length 
   unfolding extendedAt
   extended-is = rw (e, part-rest s 1)
 
-  pub extended-open : (f : Found) → cl ≡ Never → f ≡ unreadable s → f ≡ extendedAt s
+  pub extended-open : (f : Front) → cl ≡ Never → f ≡ unreadable s → f ≡ extendedAt s
   extended-open f m g = g ∙ sym (rw m at extended-is)
 
   module _ (n next : ℕ) (x : Bool) (m : cl ≡ After n) (q : next ≡ getD s (n + 1) 0) (y : x ≡ (eqb n 1 || eqb next 95 || eqb next 34)) where
-    pub extended-spoilt : (f : Found) → x ≡ true → f ≡ unreadable s → f ≡ extendedAt s
+    pub extended-spoilt : (f : Front) → x ≡ true → f ≡ unreadable s → f ≡ extendedAt s
     extended-spoilt f t g = g ∙ sym (rw (m, ← q, ← y, t) at extended-is)
 
     pub extended-whole : x ≡ false → Element Kind.Extended (n + 1) ≡ extendedAt s
@@ -89,7 +89,7 @@ module _ (s : List ℕ) (cl : Closed) (e : cl ≡ closedFrom 34 0 (take (length 
   unfolding string
   string-is = rw (e, part-rest s 1)
 
-  pub string-open : (f : Found) → cl ≡ Never → f ≡ unreadable s → f ≡ string s
+  pub string-open : (f : Front) → cl ≡ Never → f ≡ unreadable s → f ≡ string s
   string-open f m g = g ∙ sym (rw m at string-is)
 
   pub string-whole : (n : ℕ) → cl ≡ After n → Element (Kind.Literal Literal.String) (n + 1) ≡ string s
@@ -101,17 +101,17 @@ module _ (s : List ℕ) (r : Number) (e : r ≡ number s) where
   unfolding numeralAt
   numeral-is = rw e
 
-  pub numeral-none : (f : Found) → r ≡ Neither → f ≡ unreadable s → f ≡ numeralAt s
+  pub numeral-none : (f : Front) → r ≡ Neither → f ≡ unreadable s → f ≡ numeralAt s
   numeral-none f m g = g ∙ sym (rw m at numeral-is)
 
   module _ (n b : ℕ) (x : Bool) (q : b ≡ getD s n 0) (y : x ≡ spoilsNumber b) where
-    pub integer-spoilt : (f : Found) → r ≡ Integer n → x ≡ true → f ≡ unreadable s → f ≡ numeralAt s
+    pub integer-spoilt : (f : Front) → r ≡ Integer n → x ≡ true → f ≡ unreadable s → f ≡ numeralAt s
     integer-spoilt f m t g = g ∙ sym (rw (m, ← q, ← y, t) at numeral-is)
 
     pub integer-whole : r ≡ Integer n → x ≡ false → Element (Kind.Literal Literal.Integer) n ≡ numeralAt s
     integer-whole m t = sym (rw (m, ← q, ← y, t) at numeral-is)
 
-    pub real-spoilt : (f : Found) → r ≡ Real n → x ≡ true → f ≡ unreadable s → f ≡ numeralAt s
+    pub real-spoilt : (f : Front) → r ≡ Real n → x ≡ true → f ≡ unreadable s → f ≡ numeralAt s
     real-spoilt f m t g = g ∙ sym (rw (m, ← q, ← y, t) at numeral-is)
 
     pub real-whole : r ≡ Real n → x ≡ false → Element (Kind.Literal Literal.Real) n ≡ numeralAt s
@@ -133,7 +133,7 @@ module _ (s : List ℕ) (ticks : Bool) where
       unfolding apostrophe
       character-whole u = simp (t, ← q, eq-eqb b 39 e, ← q′, ← y, u)
 
-      pub character-broken : (f : Found) → x ≡ false → f ≡ unreadable s → f ≡ apostrophe ticks s
+      pub character-broken : (f : Front) → x ≡ false → f ≡ unreadable s → f ≡ apostrophe ticks s
       unfolding apostrophe
       character-broken f u g = simp (t, ← q, eq-eqb b 39 e, ← q′, ← y, u, g)
 
@@ -156,7 +156,7 @@ module _ (s : List ℕ) (p : Place) (b : ℕ) (q : b ≡ getD s 0 0) where
     unfolding singleAt
     single-found k m = simp (← one-as, m)
 
-    pub single-none : (f : Found) → p ≡ Nowhere → f ≡ unreadable s → f ≡ singleAt s
+    pub single-none : (f : Front) → p ≡ Nowhere → f ≡ unreadable s → f ≡ singleAt s
     unfolding singleAt
     single-none f m g = simp (← one-as, m, g)
 
@@ -168,11 +168,11 @@ module _ (s : List ℕ) (p : Place) (b : ℕ) (q : b ≡ getD s 0 0) where
     unfolding delimiterAt
     double-found k m = simp (le-ltb (length s) 2 l, ← two-as, m)
 
-    pub double-none : (f : Found) → p ≡ Nowhere → f ≡ singleAt s → f ≡ delimiterAt s
+    pub double-none : (f : Front) → p ≡ Nowhere → f ≡ singleAt s → f ≡ delimiterAt s
     unfolding delimiterAt
     double-none f m g = simp (le-ltb (length s) 2 l, ← two-as, m, g)
 
-pub double-short : (s : List ℕ) (f : Found) → length s < 2 → f ≡ singleAt s → f ≡ delimiterAt s
+pub double-short : (s : List ℕ) (f : Front) → length s < 2 → f ≡ singleAt s → f ≡ delimiterAt s
 unfolding delimiterAt
 double-short s f l g = simp (lt-ltb (length s) 2 l, g)
 
@@ -182,11 +182,11 @@ module _ (s : List ℕ) (b d : ℕ) (q : b ≡ getD s 0 0) (q′ : d ≡ getD s 
   unfolding otherAt
   other-comment t = simp (← q, ← q′, t)
 
-  pub other-delimited : (f : Found) → (eqb b 45 && eqb d 45) ≡ false → (eqb b 47 && eqb d 42) ≡ true → f ≡ unreadable s → f ≡ otherAt s
+  pub other-delimited : (f : Front) → (eqb b 45 && eqb d 45) ≡ false → (eqb b 47 && eqb d 42) ≡ true → f ≡ unreadable s → f ≡ otherAt s
   unfolding otherAt
   other-delimited f t u g = simp (← q, ← q′, t, u, g)
 
-  pub other-plain : (f : Found) → (eqb b 45 && eqb d 45) ≡ false → (eqb b 47 && eqb d 42) ≡ false → f ≡ delimiterAt s → f ≡ otherAt s
+  pub other-plain : (f : Front) → (eqb b 45 && eqb d 45) ≡ false → (eqb b 47 && eqb d 42) ≡ false → f ≡ delimiterAt s → f ≡ otherAt s
   unfolding otherAt
   other-plain f t u g = simp (← q, ← q′, t, u, g)
 
@@ -231,26 +231,26 @@ module _ (s : List ℕ) (ticks : Bool) (b : ℕ) (o : Opens) (q : b ≡ getD s 0
   pub opened-separator : o ≡ Opens.Separator → Skip 1 ≡ elementAt ticks s
   opened-separator m = opened Opens.Separator m
 
-  pub opened-letter : (f : Found) → o ≡ Opens.Letter → f ≡ wordAt s → f ≡ elementAt ticks s
+  pub opened-letter : (f : Front) → o ≡ Opens.Letter → f ≡ wordAt s → f ≡ elementAt ticks s
   opened-letter f m g = g ∙ opened Opens.Letter m
 
-  pub opened-digit : (f : Found) → o ≡ Opens.Digit → f ≡ numeralAt s → f ≡ elementAt ticks s
+  pub opened-digit : (f : Front) → o ≡ Opens.Digit → f ≡ numeralAt s → f ≡ elementAt ticks s
   opened-digit f m g = g ∙ opened Opens.Digit m
 
-  pub opened-quote : (f : Found) → o ≡ Opens.Quote → f ≡ string s → f ≡ elementAt ticks s
+  pub opened-quote : (f : Front) → o ≡ Opens.Quote → f ≡ string s → f ≡ elementAt ticks s
   opened-quote f m g = g ∙ opened Opens.Quote m
 
-  pub opened-backslash : (f : Found) → o ≡ Opens.Backslash → f ≡ extendedAt s → f ≡ elementAt ticks s
+  pub opened-backslash : (f : Front) → o ≡ Opens.Backslash → f ≡ extendedAt s → f ≡ elementAt ticks s
   opened-backslash f m g = g ∙ opened Opens.Backslash m
 
-  pub opened-apostrophe : (f : Found) → o ≡ Opens.Apostrophe → f ≡ apostrophe ticks s → f ≡ elementAt ticks s
+  pub opened-apostrophe : (f : Front) → o ≡ Opens.Apostrophe → f ≡ apostrophe ticks s → f ≡ elementAt ticks s
   opened-apostrophe f m g = g ∙ opened Opens.Apostrophe m
 
-  pub opened-other : (f : Found) → o ≡ Opens.Other → f ≡ otherAt s → f ≡ elementAt ticks s
+  pub opened-other : (f : Front) → o ≡ Opens.Other → f ≡ otherAt s → f ≡ elementAt ticks s
   opened-other f m g = g ∙ opened Opens.Other m
 
 -- an empty rest
-pub by-nothing : (s : List ℕ) (ticks : Bool) (f : Found) → length s ≡ 0 → f ≡ unreadable s → f ≡ elementAt ticks s
+pub by-nothing : (s : List ℕ) (ticks : Bool) (f : Front) → length s ≡ 0 → f ≡ unreadable s → f ≡ elementAt ticks s
 unfolding elementAt ruled delimiter unreadable separates isLetter isDigit placeFrom delimiters spells begins bytesOf
 by-nothing [] ticks f e g = g
 by-nothing (b ∷ s) ticks f e g = absurd (omega (arith, e))

@@ -22,8 +22,8 @@ use Rattle.quoted.specs.declared.Closed.the-variants.{After, Never}
 use Rattle.elements.specs.Element.{unreadable, identifierBy, identifier, extendedBy, extended, numeralBy, stringBy, string, apostrophe, delimiterBy, delimiter, ruled, unlessSpoilt, elementAt}
 use Rattle.elements.specs.code.Ways.{nameAt, wordBy, wordAt, extendedFrom, extendedAt, numeralFrom, numeralAt, singleAt, delimiterAt, otherAt, opensOf, openedBy, foundAt}
 use Rattle.elements.specs.declared.Opens.{Opens}
-use Rattle.elements.specs.declared.Found.{Found}
-use Rattle.elements.specs.declared.Found.the-variants.{Skip}
+use Rattle.elements.specs.declared.Front.{Front}
+use Rattle.elements.specs.declared.Front.the-variants.{Skip}
 
 -- a byte that a test tells is none that it does not tell
 apart : (p : ℕ → Bool) (m b : ℕ) → p b ≡ true → p m ≡ false → eqb b m ≡ false
@@ -33,7 +33,7 @@ apart p m b h g = go (eqb b m) refl
     go true e = absurd (false≢true (sym g ∙ ap p (sym (eqb-true b m e)) ∙ h))
     go false e = e
 
-either : (x y : Bool) (u v : Found) → cond x u (cond y u v) ≡ cond (x || y) u v
+either : (x y : Bool) (u v : Front) → cond x u (cond y u v) ≡ cond (x || y) u v
 either true y u v = refl
 either false y u v = refl
 
@@ -85,7 +85,7 @@ module _ (s : List ℕ) where
   apostrophe-as ticks =
       by-test Kept (not ticks && eqb (getD s 2 0) 39) (λ _. by-test Kept (isGraphic (getD s 1 0)) (λ _. refl) (λ _. unreadable-as)) (λ _. refl)
     where
-      Kept : Found → Type 0
+      Kept : Front → Type 0
       Kept f = f ≡ unlessSpoilt s f
 
 delimiter-as : (s : List ℕ) → delimiterAt s ≡ unlessSpoilt s (delimiter s)

@@ -27,14 +27,14 @@ use Rattle.elements.specs.Element.{unreadable, string, stringBy, apostro
 use Rattle.elements.proofs.Rules.{found-ruled}
 use Rattle.elements.specs.code.Ways.{nameAt, wordAt, wordBy, extendedAt, extendedFrom, numeralAt, numeralFrom, singleAt, delimiterAt, otherAt, opensOf, foundAt, openedBy}
 use Rattle.elements.specs.declared.Opens.{Opens}
-use Rattle.elements.specs.declared.Found.{Found}
-use Rattle.elements.specs.declared.Found.the-variants.{Skip, Element}
+use Rattle.elements.specs.declared.Front.{Front}
+use Rattle.elements.specs.declared.Front.the-variants.{Skip, Element}
 
-abbrev pub sizeOf : Found → ℕ
+abbrev pub sizeOf : Front → ℕ
 sizeOf (Skip n) = n
 sizeOf (Element k n) = n
 
-abbrev pub Good : List ℕ → Found → Type 0
+abbrev pub Good : List ℕ → Front → Type 0
 Good s f = (1 ≤ sizeOf f) × (sizeOf f ≤ length s)
 
 module _ (b : ℕ) (t : List ℕ) where

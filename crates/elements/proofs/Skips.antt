@@ -25,11 +25,11 @@ use Rattle.elements.specs.Element.{unreadable, string, stringBy, apostro
 use Rattle.elements.proofs.Rules.{found-ruled}
 use Rattle.elements.specs.code.Ways.{nameAt, wordAt, wordBy, extendedAt, extendedFrom, numeralAt, numeralFrom, singleAt, delimiterAt, otherAt, opensOf, foundAt, openedBy}
 use Rattle.elements.specs.declared.Opens.{Opens}
-use Rattle.elements.specs.declared.Found.{Found}
-use Rattle.elements.specs.declared.Found.the-variants.{Skip, Element}
+use Rattle.elements.specs.declared.Front.{Front}
+use Rattle.elements.specs.declared.Front.the-variants.{Skip, Element}
 
 -- an element, or a separator, or a comment
-abbrev pub SkipIs : List ℕ → Found → Type 0
+abbrev pub SkipIs : List ℕ → Front → Type 0
 SkipIs s (Skip n) = ((separates (getD s 0 0) ≡ true) × (n ≡ 1)) ⊎ ((getD s 0 0 ≡ 45) × (getD s 1 0 ≡ 45) × (n ≡ length s))
 SkipIs s (Element k n) = Unit {0}
 
@@ -64,7 +64,7 @@ module _ (s : List ℕ) where
   none-apostrophe ticks =
       by-test (SkipIs s) (not ticks && eqb (getD s 2 0) 39) (λ _. by-test (SkipIs s) (isGraphic (getD s 1 0)) (λ _. tt) (λ _. none-unreadable)) (λ _. tt)
 
-  none-by : (p : Place) (n : ℕ) (f : Found) → SkipIs s f → SkipIs s (delimiterBy p n f)
+  none-by : (p : Place) (n : ℕ) (f : Front) → SkipIs s f → SkipIs s (delimiterBy p n f)
   none-by (At k) n f h = tt
   none-by Nowhere n f h = h
 

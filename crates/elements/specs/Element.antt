@@ -22,8 +22,8 @@ use Rattle.quoted.specs.declared.Closed.the-variants.{After, Never}
 use Rattle.elements.specs.Kinds.{tick}
 use Rattle.elements.specs.declared.Kind.{Kind}
 use Rattle.elements.specs.declared.Literal.{Literal}
-use Rattle.elements.specs.declared.Found.{Found}
-use Rattle.elements.specs.declared.Found.the-variants.{Skip, Element}
+use Rattle.elements.specs.declared.Front.{Front}
+use Rattle.elements.specs.declared.Front.the-variants.{Skip, Element}
 
 -- the rest begins with this byte, or with these two
 abbrev pub firstIs : ℕ → List ℕ → Bool
@@ -33,61 +33,70 @@ abbrev pub firstAre : ℕ → ℕ → List ℕ → Bool
 firstAre b d s = eqb (getD s 0 0) b && eqb (getD s 1 0) d
 
 -- "one unreadable element from its first byte to the line's end"
-unfoldable pub unreadable : List ℕ → Found
+unfoldable pub unreadable : List ℕ → Front
 unreadable s = Element Kind.Unreadable (length s)
 
 -- "Identifier: a letter, then letters and digits, single underscores between them." "Reserved words are those of 000 and are never names."
-abbrev pub identifierBy : Place → ℕ → Found
+abbrev pub identifierBy : Place → ℕ → Front
 identifierBy (At k) n = Element (Kind.Reserved k) n
 identifierBy Nowhere n = Element Kind.Identifier n
 
-unfoldable pub identifier : List ℕ → Found
+unfoldable pub identifier : List ℕ → Front
 identifier s = identifierBy (placeIn (take (run Word s) s) reservedWords) (run Word s)
 
 -- "Extended identifiers (between backslashes, a doubled backslash for one)": n bytes after the first backslash, the last of them a
 -- backslash; where it is the only one, nothing stands between
-abbrev pub extendedBy : Closed → List ℕ → Found
+abbrev pub extendedBy : Closed → List ℕ → Front
 extendedBy (After n) s = cond (eqb n 1) (unreadable s) (Element Kind.Extended (n + 1))
 extendedBy Never s = unreadable s
 
-unfoldable pub extended : List ℕ → Found
+unfoldable pub extended : List ℕ → Front
 extended s = extendedBy (closed byte.backslash (drop 1 s)) s
 
 -- "Integer: ..", "A real literal is ..": as `number` says
-abbrev pub numeralBy : Number → List ℕ → Found
+abbrev pub numeralBy : Number → List ℕ → Front
 numeralBy (Integer n) s = Element (Kind.Literal Literal.Integer) n
 numeralBy (Real n) s = Element (Kind.Literal Literal.Real) n
 numeralBy Neither s = unreadable s
 
 -- "String: between quotes, a doubled quote for one."
-abbrev pub stringBy : Closed → List ℕ → Found
+abbrev pub stringBy : Closed → List ℕ → Front
 stringBy (After n) s = Element (Kind.Literal Literal.String) (n + 1)
 stringBy Never s = unreadable s
 
-unfoldable pub string : List ℕ → Found
+unfoldable pub string : List ℕ → Front
 string s = stringBy (closed byte.quote (drop 1 s)) s
 
 -- "Apostrophe: opens a character literal if the byte two further on the same line is an apostrophe and the element before it on that line
 -- is neither a non-reserved identifier nor `)`. Else it is a tick." `ticks` says that the element before it is one of these.
-unfoldable pub apostrophe : Bool → List ℕ → Found
+abbrev pub secondApostrophe : ℕ
+secondApostrophe = 2
+
+abbrev pub characterSize : ℕ
+characterSize = 3
+
+unfoldable pub apostrophe : Bool → List ℕ → Front
 apostrophe ticks s =
-    cond (not ticks && eqb (getD s 2 0) byte.apostrophe)
-    (cond (isGraphic (getD s 1 0)) (Element (Kind.Literal Literal.Character) 3) (unreadable s))
+    cond (not ticks && eqb (getD s secondApostrophe 0) byte.apostrophe)
+    (cond (isGraphic (getD s 1 0)) (Element (Kind.Literal Literal.Character) characterSize) (unreadable s))
     (Element (Kind.Delimiter tick) 1)
 
--- "Delimiters, longest first"
-abbrev pub delimiterBy : Place → ℕ → Found → Found
+-- "Delimiters, longest first": the longest have two bytes
+abbrev pub longDelimiter : ℕ
+longDelimiter = 2
+
+abbrev pub delimiterBy : Place → ℕ → Front → Front
 delimiterBy (At k) n other = Element (Kind.Delimiter k) n
 delimiterBy Nowhere n other = other
 
-abbrev pub delimiterOf : List ℕ → Found → Found
+abbrev pub delimiterOf : List ℕ → Front → Front
 delimiterOf w other = delimiterBy (placeIn w delimiters) (length w) other
 
-unfoldable pub delimiter : List ℕ → Found
-delimiter s = delimiterOf (take 2 s) (delimiterOf (take 1 s) (unreadable s))
+unfoldable pub delimiter : List ℕ → Front
+delimiter s = delimiterOf (take longDelimiter s) (delimiterOf (take 1 s) (unreadable s))
 
 -- which rule holds, in 01's order; "Anything else is one unreadable element", and so is "`/*`"
-unfoldable pub ruled : Bool → List ℕ → Found
+unfoldable pub ruled : Bool → List ℕ → Front
 ruled ticks s =
     cond (separates (getD s 0 0)) (Skip 1)
     (cond (firstAre byte.hyphen byte.hyphen s) (Skip (length s))
@@ -115,10 +124,10 @@ spoils (Kind.Literal Literal.String) b = false
 spoils (Kind.Delimiter k) b = false
 spoils Kind.Unreadable b = false
 
-abbrev pub unlessSpoilt : List ℕ → Found → Found
+abbrev pub unlessSpoilt : List ℕ → Front → Front
 unlessSpoilt s (Skip n) = Skip n
 unlessSpoilt s (Element k n) = cond (spoils k (getD s n 0)) (unreadable s) (Element k n)
 
 -- what stands at the front: so many bytes that are no element, or an element of a kind and a length
-unfoldable pub elementAt : Bool → List ℕ → Found
+unfoldable pub elementAt : Bool → List ℕ → Front
 elementAt ticks s = unlessSpoilt s (ruled ticks s)

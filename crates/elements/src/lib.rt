@@ -30,7 +30,7 @@ pub enum Kind {
 }
 
 // So many bytes that are no element, or an element of so many bytes.
-pub enum Found {
+pub enum Front {
     Skip(usize),
     Element(Kind, usize),
 }
@@ -46,15 +46,18 @@ pub enum Opens {
     Other,
 }
 
-// From which numbers the kinds of delimiters and of reserved words are counted.
-const FIRST_DELIMITER: u64 = 8;
-
-const FIRST_WORD: u64 = 33;
-
 // The numbers of `'` and `)` among the delimiters.
 const TICK: u8 = 8;
 
 const CLOSE_PARENTHESIS: u8 = 10;
+
+// A character literal: how far its second apostrophe is from the first, and how many bytes it has.
+const SECOND_APOSTROPHE: usize = 2;
+
+const CHARACTER_SIZE: usize = SECOND_APOSTROPHE + 1;
+
+// How many bytes the longest delimiters have.
+const LONG_DELIMITER: usize = 2;
 
 pub fn kind_number(k: Kind) -> u64
     ensures { λ r. ⌜ r ≡ kindNumber k ⌝ }
@@ -69,8 +72,8 @@ pub fn kind_number(k: Kind) -> u64
             Literal::String => places::STRING,
         },
         Kind::Unreadable => places::UNREADABLE,
-        Kind::Delimiter(n) => FIRST_DELIMITER + (n as u64),
-        Kind::Reserved(n) => FIRST_WORD + (n as u64),
+        Kind::Delimiter(n) => places::FIRST_DELIMITER + (n as u64),
+        Kind::Reserved(n) => places::FIRST_WORD + (n as u64),
     }
 }
 
@@ -88,13 +91,13 @@ pub fn ticks_after(k: Kind) -> bool
     }
 }
 
-fn unreadable_at(s: &[u8]) -> Found
+fn unreadable_at(s: &[u8]) -> Front
     ensures { λ r. ⌜ r ≡ unreadable (now (s .entry)) ⌝ }
 {
-    Found::Element(Kind::Unreadable, s.len())
+    Front::Element(Kind::Unreadable, s.len())
 }
 
-fn word_at(s: &[u8]) -> Found
+fn word_at(s: &[u8]) -> Front
     ensures { λ r. ⌜ r ≡ wordAt (now (s .entry)) ⌝ }
 {
     let n = classes::run_length(Run::Word, s);
@@ -103,12 +106,12 @@ fn word_at(s: &[u8]) -> Found
         return unreadable_at(s);
     }
     match words::reserved_word(&s[..n]) {
-        Place::At(k) => Found::Element(Kind::Reserved(k as u8), n),
+        Place::At(k) => Front::Element(Kind::Reserved(k as u8), n),
         Place::Nowhere => {
             if next == b'"' {
                 return unreadable_at(s);
             }
-            Found::Element(Kind::Identifier, n)
+            Front::Element(Kind::Identifier, n)
         },
     }
 }
@@ -120,7 +123,7 @@ fn spoils_extended(n: usize, next: u8) -> bool
     (n == 1) | (next == b'_') | (next == b'"')
 }
 
-fn extended_at(s: &[u8]) -> Found
+fn extended_at(s: &[u8]) -> Front
     requires { ⌜ 0 < length (now s) ⌝ }
     ensures { λ r. ⌜ r ≡ extendedAt (now (s .entry)) ⌝ }
 {
@@ -130,7 +133,7 @@ fn extended_at(s: &[u8]) -> Found
             if spoils_extended(n, classes::byte_or(s, m)) {
                 return unreadable_at(s);
             }
-            Found::Element(Kind::Extended, m)
+            Front::Element(Kind::Extended, m)
         },
         Closed::Never => unreadable_at(s),
     }
@@ -147,7 +150,7 @@ fn follows_none(b: u8) -> bool
         | (b == b'"')
 }
 
-fn numeral_at(s: &[u8]) -> Found
+fn numeral_at(s: &[u8]) -> Front
     ensures { λ r. ⌜ r ≡ numeralAt (now (s .entry)) ⌝ }
 {
     match numbers::number_at(s) {
@@ -155,74 +158,74 @@ fn numeral_at(s: &[u8]) -> Found
             if follows_none(classes::byte_or(s, n)) {
                 return unreadable_at(s);
             }
-            Found::Element(Kind::Literal(Literal::Integer), n)
+            Front::Element(Kind::Literal(Literal::Integer), n)
         },
         Number::Real(n) => {
             if follows_none(classes::byte_or(s, n)) {
                 return unreadable_at(s);
             }
-            Found::Element(Kind::Literal(Literal::Real), n)
+            Front::Element(Kind::Literal(Literal::Real), n)
         },
         Number::Neither => unreadable_at(s),
     }
 }
 
-fn string_at(s: &[u8]) -> Found
+fn string_at(s: &[u8]) -> Front
     requires { ⌜ 0 < length (now s) ⌝ }
     ensures { λ r. ⌜ r ≡ string (now (s .entry)) ⌝ }
 {
     match quoted::closing(b'"', &s[1..]) {
-        Closed::After(n) => Found::Element(Kind::Literal(Literal::String), n + 1),
+        Closed::After(n) => Front::Element(Kind::Literal(Literal::String), n + 1),
         Closed::Never => unreadable_at(s),
     }
 }
 
-fn apostrophe_at(s: &[u8], ticks: bool) -> Found
+fn apostrophe_at(s: &[u8], ticks: bool) -> Front
     ensures { λ r. ⌜ r ≡ apostrophe ticks (now (s .entry)) ⌝ }
 {
     if ticks {
-        return Found::Element(Kind::Delimiter(TICK), 1);
+        return Front::Element(Kind::Delimiter(TICK), 1);
     }
-    if classes::byte_or(s, 2) != b'\'' {
-        return Found::Element(Kind::Delimiter(TICK), 1);
+    if classes::byte_or(s, SECOND_APOSTROPHE) != b'\'' {
+        return Front::Element(Kind::Delimiter(TICK), 1);
     }
     if classes::is_graphic(classes::byte_or(s, 1)) {
-        return Found::Element(Kind::Literal(Literal::Character), 3);
+        return Front::Element(Kind::Literal(Literal::Character), CHARACTER_SIZE);
     }
     unreadable_at(s)
 }
 
-fn single_at(s: &[u8]) -> Found
+fn single_at(s: &[u8]) -> Front
     requires { ⌜ 0 < length (now s) ⌝ }
     ensures { λ r. ⌜ r ≡ singleAt (now (s .entry)) ⌝ }
 {
     match words::delimiter_one(classes::byte_or(s, 0)) {
-        Place::At(k) => Found::Element(Kind::Delimiter(k as u8), 1),
+        Place::At(k) => Front::Element(Kind::Delimiter(k as u8), 1),
         Place::Nowhere => unreadable_at(s),
     }
 }
 
-fn delimiter_at(s: &[u8]) -> Found
+fn delimiter_at(s: &[u8]) -> Front
     requires { ⌜ 0 < length (now s) ⌝ }
     ensures { λ r. ⌜ r ≡ delimiterAt (now (s .entry)) ⌝ }
 {
-    if s.len() < 2 {
+    if s.len() < LONG_DELIMITER {
         return single_at(s);
     }
     match words::delimiter_two(classes::byte_or(s, 0), classes::byte_or(s, 1)) {
-        Place::At(k) => Found::Element(Kind::Delimiter(k as u8), 2),
+        Place::At(k) => Front::Element(Kind::Delimiter(k as u8), LONG_DELIMITER),
         Place::Nowhere => single_at(s),
     }
 }
 
-fn other_at(s: &[u8]) -> Found
+fn other_at(s: &[u8]) -> Front
     requires { ⌜ 0 < length (now s) ⌝ }
     ensures { λ r. ⌜ r ≡ otherAt (now (s .entry)) ⌝ }
 {
     let b = classes::byte_or(s, 0);
     let d = classes::byte_or(s, 1);
     if (b == b'-') & (d == b'-') {
-        return Found::Skip(s.len());
+        return Front::Skip(s.len());
     }
     if (b == b'/') & (d == b'*') {
         return unreadable_at(s);
@@ -255,14 +258,14 @@ fn opens_with(b: u8) -> Opens
 }
 
 // What stands at the front of a line's rest. An empty rest is an unreadable element of no bytes: no reader of lines asks for it.
-pub fn element_at(s: &[u8], ticks: bool) -> Found
+pub fn element_at(s: &[u8], ticks: bool) -> Front
     ensures { λ r. ⌜ r ≡ elementAt ticks (now (s .entry)) ⌝ }
 {
     if s.len() == 0 {
         return unreadable_at(s);
     }
     match opens_with(classes::byte_or(s, 0)) {
-        Opens::Separator => Found::Skip(1),
+        Opens::Separator => Front::Skip(1),
         Opens::Letter => word_at(s),
         Opens::Digit => numeral_at(s),
         Opens::Quote => string_at(s),

@@ -3,7 +3,7 @@ use mathlib.Core.Path.{refl}
 use Rattle.places.specs.Places.{cellAt}
 use Rattle.records.specs.Records.{wordAt}
 use Rattle.element_reading.specs.Table.{cells}
-use Rattle.operands.specs.Operands.{bytesAt, literalIn}
+use Rattle.operands.specs.code.Operands.{bytesAt, literalIn}
 use Rattle.forms.specs.Words.{rowsIn}
 use Rattle.expressions.specs.Folds.{elementIn, literalAt, kindInPiece, foldOf, foldedOf}
 use Rattle.edges.proofs.Computing.{computing}

@@ -8,7 +8,7 @@ use lib.IntN.{pos, negℤ}
 use Rattle.words.specs.Words.{bytesOf}
 use Rattle.element_reading.specs.Rows.{rowsOf}
 use Rattle.element_reading.specs.Table.{cells}
-use Rattle.meaning.specs.Items.{recordsOf}
+use Rattle.meaning.specs.code.PieceValues.{recordsOf}
 use Rattle.integers.specs.Numbers.{Numbers, numbersOf}
 use Rattle.expressions.specs.Folds.{foldedOf}
 

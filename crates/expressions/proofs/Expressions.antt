@@ -7,9 +7,10 @@ use native.Mathlib.Omega.{arith}
 use lib.ListN.{length, length-drop}
 use Rattle.forms.specs.Tree.{Row}
 use Rattle.folding.specs.declared.Outcome.{Outcome}
-use Rattle.operands.specs.Leaves.{wrongLeaf}
+use Rattle.operands.specs.code.Leaves.{wrongLeaf}
 use Rattle.states.specs.States as state
-use Rattle.expressions.specs.Expressions.{behind, rowOutcome, outcomeIn, outcomeOf}
+use Rattle.forms.specs.Tree.{behind}
+use Rattle.expressions.specs.code.Expressions.{rowOutcome, outcomeIn, outcomeOf}
 
 behind-less : (rs : List Row) → length (behind rs) ≤ length rs
 behind-less [] = omega arith

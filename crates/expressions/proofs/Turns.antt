@@ -17,17 +17,19 @@ use Rattle.folding.specs.declared.Sort.{Sort}
 use Rattle.folding.specs.declared.Sign.{Sign}
 use Rattle.folding.specs.declared.Operator.{Operator}
 use Rattle.folding.specs.declared.Outcome.{Outcome}
-use Rattle.folding.specs.Outcomes.{combinedOf, signedOf}
-use Rattle.operands.specs.Leaves.{wrongLeaf}
-use Rattle.operands.specs.Operands.{operatorOf, signOf, literalIn}
-use Rattle.marks.specs.Marks.{operandOf}
+use Rattle.folding.specs.code.Outcomes.{combinedOf, signedOf}
+use Rattle.operands.specs.code.Leaves.{wrongLeaf}
+use Rattle.operands.specs.Operands.{operatorOf, signOf}
+use Rattle.operands.specs.code.Operands.{literalIn}
+use Rattle.marks.specs.code.Marks.{operandOf}
 use Rattle.values.specs.declared.Value.{Value}
 use Rattle.uses.specs.code.Uses.{useIn}
 use Rattle.pieces.specs.Columns as column
 use Rattle.states.specs.States as state
 use Rattle.places.specs.Sizes.{mostElements}
-use Rattle.expressions.specs.Forms as forms
-use Rattle.expressions.specs.Expressions.{behind, rowOutcome}
+use Rattle.form_numbers.specs.Forms as forms
+use Rattle.forms.specs.Tree.{behind}
+use Rattle.expressions.specs.code.Expressions.{rowOutcome}
 use Rattle.forms.specs.Words.{rowAt, rowNumbers, rowsIn}
 use Rattle.expressions.specs.code.Stored.{sortBy, foldedKind, foldedBy, unpacked, storedAt, outcomeWords}
 use Rattle.expressions.specs.Folds.{elementIn, nameValue, nameIn, literalAt, kindInPiece, expressionIn, foldedRow, rightOf, foldOf}
@@ -84,17 +86,17 @@ module _ (text table items links rows : List ℕ) (i k : ℕ) (x y r : Outcome) 
     unfolding rowOutcome
     is-literal j h g z = rw (← f, h, ← g) z
 
-    pub is-sign : (j kind : ℕ) (o : Sign) → form ≡ forms.signed → j ≡ rowAt rows k .operator → kind ≡ kindInPiece table items i j → o ≡ signOf kind → r ≡ signedOf o x → r ≡ Row′
+    pub is-sign : (j kind : ℕ) (o : Sign) → form ≡ forms.unary → j ≡ rowAt rows k .operator → kind ≡ kindInPiece table items i j → o ≡ signOf kind → r ≡ signedOf o x → r ≡ Row′
     unfolding rowOutcome
     is-sign j kind o h g m q z = rw (← f, h, ← g, ← m, ← q) z
 
-    pub is-operator : (j kind : ℕ) (o : Operator) → form ≡ forms.operator → j ≡ rowAt rows k .operator → kind ≡ kindInPiece table items i j → o ≡ operatorOf kind → r ≡ combinedOf o x y → r ≡ Row′
+    pub is-operator : (j kind : ℕ) (o : Operator) → form ≡ forms.binary → j ≡ rowAt rows k .operator → kind ≡ kindInPiece table items i j → o ≡ operatorOf kind → r ≡ combinedOf o x y → r ≡ Row′
     unfolding rowOutcome
     is-operator j kind o h g m q z = rw (← f, h, ← g, ← m, ← q) z
 
-    pub is-other : (form ≡ forms.name → ⊥) → (form ≡ forms.literal → ⊥) → (form ≡ forms.signed → ⊥) → (form ≡ forms.operator → ⊥) → r ≡ wrongLeaf state.unfolded → r ≡ Row′
+    pub is-other : (form ≡ forms.name → ⊥) → (form ≡ forms.literal → ⊥) → (form ≡ forms.unary → ⊥) → (form ≡ forms.binary → ⊥) → r ≡ wrongLeaf state.unfolded → r ≡ Row′
     unfolding rowOutcome
-    is-other a b c d z = rw (← f, ne-eqb form forms.name a, ne-eqb form forms.literal b, ne-eqb form forms.signed c, ne-eqb form forms.operator d) z
+    is-other a b c d z = rw (← f, ne-eqb form forms.name a, ne-eqb form forms.literal b, ne-eqb form forms.unary c, ne-eqb form forms.binary d) z
 
 -- an outcome stored
 module _ (outs : List ℕ) (k a b c : ℕ) (o : Outcome) (room : outcomeWords * k + outcomeWords ≤ length outs) where

@@ -10,15 +10,15 @@ use Rattle.places.specs.Places as places
 use Rattle.records.specs.Records.{wordAt}
 use Rattle.forms.specs.Tree.{Row}
 use Rattle.integers.specs.declared.Folded.{Folded}
-use Rattle.folding.specs.Outcomes.{settledOf}
+use Rattle.folding.specs.code.Outcomes.{settledOf}
 use Rattle.folding.specs.declared.Outcome.{Outcome}
-use Rattle.operands.specs.Operands.{literalIn}
-use Rattle.marks.specs.Marks.{operandOf}
+use Rattle.operands.specs.code.Operands.{literalIn}
+use Rattle.marks.specs.code.Marks.{operandOf}
 use Rattle.values.specs.declared.Value.{Value}
 use Rattle.uses.specs.code.Uses.{useIn}
 use Rattle.pieces.specs.Columns as column
 use Rattle.forms.specs.Words.{rowNumbers, rowAt, rowsIn}
-use Rattle.expressions.specs.Expressions.{rowOutcome, outcomeOf}
+use Rattle.expressions.specs.code.Expressions.{rowOutcome, outcomeOf}
 
 -- where element j of piece i stands in the element table; after its last, where the piece has none
 unfoldable pub elementIn : List ℕ → List ℕ → ℕ → ℕ → ℕ
@@ -36,7 +36,7 @@ unfoldable pub literalAt : List ℕ → List ℕ → List ℕ → ℕ → ℕ �
 literalAt text table items i j = literalIn text table (elementIn table items i j)
 
 unfoldable pub kindInPiece : List ℕ → List ℕ → ℕ → ℕ → ℕ
-kindInPiece table items i j = cellAt table (elementIn table items i j) 0
+kindInPiece table items i j = cellAt table (elementIn table items i j) places.kindColumn
 
 abbrev pub foldedRow : List ℕ → List ℕ → List ℕ → List ℕ → ℕ → Row → Outcome → Outcome → Outcome
 foldedRow text table items links i r x y = rowOutcome (nameIn text table items links i) (literalAt text table items i) (kindInPiece table items i) r x y

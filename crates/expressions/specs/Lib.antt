@@ -1,4 +1,2 @@
-pub mod Forms
-pub mod Expressions
-pub mod Folds
 pub mod code
+pub mod Folds

@@ -2,6 +2,10 @@
 // any tables.
 use folding::Outcome;
 use folding::Sort;
+use form_numbers::FIRST;
+use form_numbers::OPERATOR;
+use form_numbers::ROW_NUMBERS;
+use form_numbers::ROWS;
 use integers::Folded;
 use integers::Kind;
 use places::ElementNumber;
@@ -14,26 +18,13 @@ ghost use Rattle.forms.specs.Words.{rowNumbers, rowAt, rowsIn};
 ghost use Rattle.expressions.specs.code.Stored.{outcomeWords, kindWord, sortWord, sortBy, foldedKind, foldedWord, foldedBy, unpacked, storedAt};
 ghost use Rattle.expressions.specs.Folds.{elementIn, nameValue, nameIn, literalAt, kindInPiece, expressionIn, foldedRow, rightOf, foldOf, foldedOf};
 
-// A row of the tree has five numbers: form, first element, element count, rows in its subtree, operator element.
-pub const ROW_NUMBERS: usize = 5;
-
-pub const FIRST: usize = 1;
-
-pub const ROWS: usize = 3;
-
-const OPERATOR: usize = 4;
-
-// The forms of an expression.
-const FORM_NAME: u64 = 24;
-
-const FORM_LITERAL: u64 = 27;
-
-const FORM_SIGNED: u64 = 28;
-
-const FORM_OPERATOR: u64 = 29;
-
-// How many words an outcome is stored in, and of how many rows an expression is small.
+// How many words an outcome is stored in, which of them are the kind of the folded answer and the answer, and of how many rows an
+// expression is small.
 const OUTCOME_WORDS: usize = 3;
+
+const FOLDED_KIND: usize = 1;
+
+const FOLDED_ANSWER: usize = 2;
 
 const FEW: usize = 32;
 
@@ -45,23 +36,24 @@ const WRONG_FROM: u64 = 2;
 const BYTES: u64 = 256;
 
 // Where element j of piece i stands in the element table; after the table's last, where the piece has none.
-fn element_in(elements: &[u64], items: &[u64], i: usize, j: u64) -> usize
-    ensures { λ r. ⌜ r ≡ elementIn (now (elements .entry)) (now (items .entry)) i j ⌝ }
+fn element_in(elements: &[u64], items: &[u64], i: usize, j: u64) -> ElementNumber
+    ensures { λ r. ⌜ r .0 ≡ elementIn (now (elements .entry)) (now (items .entry)) i j ⌝ }
 {
     let n = places::rows_in(elements);
     let from = records::word(items, i, pieces::FIRST) as usize;
     let count = records::word(items, i, pieces::COUNT);
     if n <= from {
-        return n;
+        return ElementNumber(n);
     }
     let at = j as usize;
     if n - from <= at {
-        return n;
+        return ElementNumber(n);
     }
     if count <= j {
-        return n;
+        return ElementNumber(n);
     }
-    from + at
+    let e = from + at;
+    ElementNumber(e)
 }
 
 // Element j of piece i used as a name.
@@ -102,7 +94,7 @@ fn literal_outcome(text: &[u8], elements: &[u64], items: &[u64], i: usize, j: u6
 fn kind_in(elements: &[u64], items: &[u64], i: usize, j: u64) -> u64
     ensures { λ r. ⌜ r ≡ kindInPiece (now (elements .entry)) (now (items .entry)) i j ⌝ }
 {
-    places::kind_of(elements, ElementNumber(element_in(elements, items, i, j)))
+    places::kind_of(elements, element_in(elements, items, i, j))
 }
 
 // What row k comes to, by what its operands do.
@@ -122,17 +114,17 @@ fn row_outcome(
 {
     let at = ROW_NUMBERS * k;
     let form = rows[at];
-    if form == FORM_NAME {
+    if form == form_numbers::NAME {
         return name_outcome(text, elements, items, links, i, rows[at + FIRST]);
     }
-    if form == FORM_LITERAL {
+    if form == form_numbers::LITERAL {
         return literal_outcome(text, elements, items, i, rows[at + FIRST]);
     }
-    if form == FORM_SIGNED {
+    if form == form_numbers::UNARY {
         let kind = kind_in(elements, items, i, rows[at + OPERATOR]);
         return folding::signed(operands::sign_of(kind), x);
     }
-    if form == FORM_OPERATOR {
+    if form == form_numbers::BINARY {
         let kind = kind_in(elements, items, i, rows[at + OPERATOR]);
         return folding::combined(operands::operator_of(kind), x, y);
     }
@@ -219,8 +211,8 @@ fn put_outcome(outs: &mut [u64], k: usize, o: Outcome)
     let b = folded_kind(folded);
     let c = folded_word(folded);
     outs[at] = a;
-    outs[at + 1] = b;
-    outs[at + 2] = c;
+    outs[at + FOLDED_KIND] = b;
+    outs[at + FOLDED_ANSWER] = c;
 }
 
 fn outcome_at(outs: &[u64], n: usize, k: usize) -> Outcome
@@ -232,7 +224,7 @@ fn outcome_at(outs: &[u64], n: usize, k: usize) -> Outcome
     }
     let at = OUTCOME_WORDS * k;
     let sort = sort_by(outs[at]);
-    let folded = folded_by(outs[at + 1], outs[at + 2]);
+    let folded = folded_by(outs[at + FOLDED_KIND], outs[at + FOLDED_ANSWER]);
     Outcome {
         sort: sort,
         folded: folded,

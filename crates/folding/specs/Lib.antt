@@ -1,2 +1,2 @@
 pub mod Operators
-pub mod Outcomes
+pub mod code

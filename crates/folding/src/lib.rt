@@ -4,8 +4,9 @@ use integers::Folded;
 use integers::Kind;
 ghost use mathlib.Core.Path.{_≡_};
 ghost use Prim.Native.Nat.{min};
-ghost use Rattle.folding.specs.Operators.{relationOf, placeOf, logicOf, decides, onWholes, onTruths, afterWhole, afterTruth, shortCircuit, besideTruth, binaryOf, signedWhole, notOf, unaryOf};
-ghost use Rattle.folding.specs.Outcomes.{numberSort, booleanSort, wrongSort, besideInteger, besideBoolean, kindsSort, operatorSort, integerSigned, booleanSigned, kindSigned, signSort, combinedOf, signedOf, settledOf};
+ghost use Rattle.folding.specs.Operators.{relationOf, truthPlace, logicOf, decides};
+ghost use Rattle.folding.specs.code.Folding.{onWholes, onTruths, afterWhole, afterTruth, shortCircuit, besideTruth, binaryOf, signedWhole, notOf, unaryOf};
+ghost use Rattle.folding.specs.code.Outcomes.{numberSort, booleanSort, wrongSort, besideInteger, besideBoolean, kindsSort, operatorSort, integerSigned, booleanSigned, kindSigned, signSort, combinedOf, signedOf, settledOf};
 
 pub enum Relation {
     Equal,
@@ -66,7 +67,7 @@ fn relates(op: Relation, a: i32, b: i32) -> bool
 }
 
 fn place(t: bool) -> i32
-    ensures { λ r. ⌜ r ≡ placeOf t ⌝ }
+    ensures { λ r. ⌜ r ≡ truthPlace t ⌝ }
 {
     if t { 1 } else { 0 }
 }

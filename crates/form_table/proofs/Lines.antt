@@ -7,14 +7,14 @@ use native.Mathlib.Omega.{arith}
 use lib.Dec.{T, ltb, leb, leb→le}
 use lib.ListN.{length, getD}
 use borrow.Author.Tests.{lt-ltb, le-ltb, ltb-true, ltb-false}
-use Rattle.grammars.specs.Grammar.{Sym, tok, nt, act}
+use Rattle.grammars.specs.code.Grammar.{Sym, tok, nt, act}
 use Rattle.grammars.proofs.Theory.{and-left, and-right}
 use Rattle.grammars.proofs.Check.{below-at}
-use Rattle.forms.specs.Kinds.{kindCount}
-use Rattle.forms.specs.Names.{nameCount}
-use Rattle.forms.specs.Rules.{forms, body, rules}
-use Rattle.form_table.specs.Symbols.{symOf, firstAction}
-use Rattle.form_table.specs.Bytes.{Rule, sized, encode, padded, lined, sizeBytes, bodyBytes, formBytes}
+use Rattle.forms.specs.code.Kinds.{kindCount}
+use Rattle.forms.specs.code.Names.{nameCount}
+use Rattle.forms.specs.code.Rules.{forms, body, rules}
+use Rattle.form_table.specs.code.Symbols.{symOf, firstAction}
+use Rattle.form_table.specs.code.Bytes.{Rule, sized, encode, padded, lined, sizeBytes, bodyBytes, formBytes}
 use Rattle.form_table.proofs.Tables.{sizesAt, bodiesAt, formsEnd, in-front, behind, past-picks, flat-at}
 
 abbrev none : Rule

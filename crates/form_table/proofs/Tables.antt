@@ -8,13 +8,13 @@ use native.Mathlib.Nat.{suc-mul, zero-mul}
 use lib.Dec.{T, ltb, eqb, leb→le, eqb→eq}
 use lib.ListN.{length, getD, List·getD-append}
 use lib.Seq.{getD-append-add}
-use Rattle.grammars.specs.Grammar.{Sym}
+use Rattle.grammars.specs.code.Grammar.{Sym}
 use Rattle.grammars.proofs.Theory.{and-left, and-right}
-use Rattle.forms.specs.Kinds.{kinds, numberOf, kindCount, terminalOf, other}
-use Rattle.forms.specs.Names.{nameCount}
-use Rattle.forms.specs.Rules.{forms}
+use Rattle.forms.specs.code.Kinds.{kinds, numberOf, kindCount, terminalOf, other}
+use Rattle.forms.specs.code.Names.{nameCount}
+use Rattle.forms.specs.code.Rules.{forms}
 use Rattle.forms.specs.code.Picks.{picks, predict}
-use Rattle.form_table.specs.Bytes.{numbers, flatten, kindBytes, pickBytes, sizeBytes, bodyBytes, formBytes}
+use Rattle.form_table.specs.code.Bytes.{numbers, flatten, kindBytes, pickBytes, sizeBytes, bodyBytes, formBytes}
 
 -- how long the table of rules is, and where the parts begin and end
 abbrev pub picksSize : ℕ

@@ -1,2 +1,1 @@
-pub mod Symbols
-pub mod Bytes
+pub mod code

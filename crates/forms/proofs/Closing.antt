@@ -9,14 +9,14 @@ use native.Mathlib.Omega.{arith}
 use lib.Dec.{ltb}
 use lib.ListN.{getD}
 use Rattle.laws.proofs.Laws.{clash}
-use Rattle.grammars.specs.Grammar.{Sym, act}
-use Rattle.grammars.specs.Actions.{go, stop, End, read, bad, stopped, spent}
+use Rattle.grammars.specs.code.Grammar.{Sym, act}
+use Rattle.grammars.specs.code.Actions.{go, stop, End, read, bad, stopped, spent}
 use Rattle.grammars.proofs.Trail.{Trail, whole, more, other, none, refuses, eats, acts, grows}
-use Rattle.forms.specs.Names.{file}
-use Rattle.forms.specs.Rules.{forms}
-use Rattle.forms.specs.Tree.{Frame, State, Refusal, name-differs, too-deep, fresh, top, onTop, joined, marked, rowed, isNamed, does}
-use Rattle.forms.specs.Tree as machine
-use Rattle.forms.specs.Reading.{readingOf}
+use Rattle.forms.specs.code.Names.{file}
+use Rattle.forms.specs.code.Rules.{forms}
+use Rattle.forms.specs.code.Frames.{Frame, State, Refusal, name-differs, too-deep, fresh, top, onTop, joined, marked, rowed, isNamed, does}
+use Rattle.forms.specs.code.Frames as machine
+use Rattle.forms.specs.code.Reading.{readingOf}
 use Rattle.forms.specs.Closing.{Name, isNamedAs}
 use Rattle.forms.specs.Closing as paper
 use Rattle.forms.proofs.Walking.{Closed, nothing, named, Walk, walked, walkOver, unwalked, closedBy, nameOf, closes-there, closes-back, named-as}

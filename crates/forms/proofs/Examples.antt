@@ -3,12 +3,13 @@ use Prim.Native.Nat.{ℕ}
 use mathlib.Core.Path.{_≡_, refl}
 use mathlib.Core.Bool.{true, false}
 use mathlib.Core.List.{List, [], _∷_}
-use Rattle.grammars.specs.Grammar.{Sym}
-use Rattle.grammars.specs.Actions.{End, read, bad, stopped, spent, runs}
-use Rattle.forms.specs.Kinds.{numberOf, becomes, colon, identifier, integer, left-paren, minus, right-paren, semicolon, tick, word-architecture, word-begin, word-constant, word-end, word-is, word-loop, word-mod, word-of, word-package, word-process, word-range, word-subtype}
-use Rattle.forms.specs.Names.{constant, subtype}
-use Rattle.forms.specs.Tree.{Row, State, Refusal, name-differs, too-deep, rowsOf, does}
-use Rattle.forms.specs.Reading.{readingFrom, readingOf}
+use Rattle.grammars.specs.code.Grammar.{Sym}
+use Rattle.grammars.specs.code.Actions.{End, read, bad, stopped, spent, runs}
+use Rattle.forms.specs.code.Kinds.{numberOf, becomes, colon, identifier, integer, left-paren, minus, right-paren, semicolon, tick, word-architecture, word-begin, word-constant, word-end, word-is, word-loop, word-mod, word-of, word-package, word-process, word-range, word-subtype}
+use Rattle.forms.specs.code.Names.{constant, subtype}
+use Rattle.forms.specs.Tree.{Row}
+use Rattle.forms.specs.code.Frames.{State, Refusal, name-differs, too-deep, rowsOf, does}
+use Rattle.forms.specs.code.Reading.{readingFrom, readingOf}
 use Rattle.forms.specs.Closing.{element, named, closesAt, walkOver}
 
 abbrev numbers : List Sym → List ℕ

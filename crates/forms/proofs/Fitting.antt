@@ -8,18 +8,20 @@ use native.Mathlib.Omega.{arith}
 use lib.Dec.{T, ltb}
 use lib.ListN.{getD, drop, take, length, length-append}
 use Rattle.laws.proofs.Laws.{clash}
-use Rattle.grammars.specs.Grammar.{Sym, nt, act}
-use Rattle.grammars.specs.Actions.{go, stop, Reads, done, eat, acts, grow}
+use Rattle.grammars.specs.code.Grammar.{Sym, nt, act}
+use Rattle.grammars.specs.code.Actions.{go, stop, Reads, done, eat, acts, grow}
 use Rattle.grammars.proofs.Check.{imp}
-use Rattle.forms.specs.Rules.{forms}
-use Rattle.forms.specs.Tree.{Row, Frame, State, Refusal, name-differs, too-deep, fresh, top, onTop, joined, marked, named, rowOf, rowed, isNamed, does, start, rowsOf, Reading}
+use Rattle.forms.specs.code.Rules.{forms}
+use Rattle.forms.specs.Tree.{Row}
+use Rattle.forms.specs.code.Frames.{Frame, State, Refusal, name-differs, too-deep, fresh, top, onTop, joined, marked, named, rowOf, rowed, isNamed, does, start, rowsOf, Reading}
 use Rattle.forms.specs.Forest.{Forest, bare, tree}
-use Rattle.forms.specs.Names.{file, constant, subtype, nameNumber}
-use Rattle.forms.specs.Items.{ItemReading}
-use Rattle.forms.specs.Lines.{Item, at, row, operates, branches, sort, rows, line, Fits, elements, sortOf, itemsIn, ownItems, operatorOf, RowsFit, TreeFits}
+use Rattle.forms.specs.code.Names.{file, constant, subtype, nameNumber}
+use Rattle.forms.specs.code.ItemReading.{ItemReading}
+use Rattle.forms.specs.Lines.{Item, at, row, operates, branches, sort, rows, line, Fits, elements, sortOf, itemsIn, ownItems, operatorAt, RowsFit, TreeFits}
 use Rattle.forms.proofs.Growing.{Standing, kept, standing-eat, forest-le}
 use Rattle.forms.proofs.Nesting.{frame-left}
 use Rattle.forms.proofs.Summaries.{positive, lastAt, firstAt, Around, kindAt, tellingAt, RowOk, Fit, fit-grow}
+use Rattle.forms.proofs.Steps.{named-frames, deeper-frames}
 
 -- stretches of elements
 elements-append : (lo c d : ℕ) → elements lo c ++ elements (lo + c) d ≡ elements lo (c + d)
@@ -146,7 +148,7 @@ module _ (W : List ℕ) where
   rows-append (r ∷ l) m a b =
       let n = a .0 in (
         omega (arith, length-append l m),
-        subst (λ (x : List Row). Fits W (operatorOf r) (line (r .form)) (itemsIn W 0 (r .first) (r .first + r .count) x)) (sym (take-less (r .rows - 1) l m (omega arith))) (a .1),
+        subst (λ (x : List Row). Fits W (operatorAt r) (line (r .form)) (itemsIn W 0 (r .first) (r .first + r .count) x)) (sym (take-less (r .rows - 1) l m (omega arith))) (a .1),
         rows-append l m (a .2) b,
       )
 
@@ -249,14 +251,6 @@ module _ (W : List ℕ) where
       by (suc i) m = m
 
   module _ (End : List Item → Type 0) (alike : ℕ → ℕ → Bool) (k : ℕ) (s t : State) (α : List Sym) where
-    same-name : (b : Bool) → cond b (go s) (stop name-differs) ≡ go t → s .frames ≡ t .frames
-    same-name true e = let z : s ≡ t = cc in ap (λ (x : State). x .frames) z
-    same-name false e = let z : _≡_ {A = ℕ} 0 1 = cc in clash z
-
-    one-deeper : (b : Bool) → cond b (go (record { frames = s .frames; depth = s .depth + 1 })) (stop too-deep) ≡ go t → s .frames ≡ t .frames
-    one-deeper true e = let z : _≡_ {A = State} (record { frames = s .frames; depth = s .depth + 1 }) t = cc in ap (λ (x : State). x .frames) z
-    one-deeper false e = let z : _≡_ {A = ℕ} 0 1 = cc in clash z
-
     of : (u : State) → u ≡ t → u .frames ≡ t .frames
     of u e = ap (λ (x : State). x .frames) e
 
@@ -279,8 +273,8 @@ module _ (W : List ℕ) where
         to (onTop (named k) (s .frames)) (of (record { frames = onTop (named k) (s .frames); depth = s .depth }) (cc)) (h .items) (h .operator) (h .around) (h .fit)
         (linked-named k (s .frames) (h .items) (h .operator) (h .around) (h .linked)) st
     held-act (suc (suc (suc (suc zero)))) e st h =
-        to (s .frames) (same-name (isNamed alike (top (s .frames) .name) (k - 1)) e) (h .items) (h .operator) (h .around) (h .fit) (h .linked) st
-    held-act (suc (suc (suc (suc (suc zero))))) e st h = to (s .frames) (one-deeper (ltb (s .depth) 32) e) (h .items) (h .operator) (h .around) (h .fit) (h .linked) st
+        to (s .frames) (named-frames s t (isNamed alike (top (s .frames) .name) (k - 1)) e) (h .items) (h .operator) (h .around) (h .fit) (h .linked) st
+    held-act (suc (suc (suc (suc (suc zero))))) e st h = to (s .frames) (deeper-frames s t (ltb (s .depth) 32) e) (h .items) (h .operator) (h .around) (h .fit) (h .linked) st
     held-act (suc (suc (suc (suc (suc (suc zero)))))) e st h =
         to (s .frames) (of (record { frames = s .frames; depth = s .depth - 1 }) (cc)) (h .items) (h .operator) (h .around) (h .fit) (h .linked) st
     held-act (suc (suc (suc (suc (suc (suc (suc n))))))) e st h =

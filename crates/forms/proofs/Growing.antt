@@ -7,12 +7,14 @@ use native.Mathlib.Omega.{arith}
 use lib.Dec.{ltb}
 use lib.ListN.{length}
 use Rattle.laws.proofs.Laws.{clash}
-use Rattle.grammars.specs.Grammar.{Sym, nt}
-use Rattle.grammars.specs.Actions.{go, stop, Reads, done, eat, acts, grow}
-use Rattle.forms.specs.Rules.{forms}
-use Rattle.forms.specs.Tree.{Row, Frame, State, Refusal, name-differs, too-deep, fresh, top, onTop, joined, marked, named, rowOf, rowed, does, start, isNamed, rowsOf, Reading}
+use Rattle.grammars.specs.code.Grammar.{Sym, nt}
+use Rattle.grammars.specs.code.Actions.{go, stop, Reads, done, eat, acts, grow}
+use Rattle.forms.specs.code.Rules.{forms}
+use Rattle.forms.specs.Tree.{Row}
+use Rattle.forms.specs.code.Frames.{Frame, State, Refusal, name-differs, too-deep, fresh, top, onTop, joined, marked, named, rowOf, rowed, does, start, isNamed, rowsOf, Reading}
 use Rattle.forms.specs.Forest.{Forest, bare, tree}
 use Rattle.forms.proofs.Nesting.{Nested, nested-eat, nested-act, nested-grow, nested-from, frame-left}
+use Rattle.forms.proofs.Steps.{same-name, deeper-frames}
 
 pub forest-le : {lo hi : ℕ} {l : List Row} → Forest lo hi l → lo ≤ hi
 forest-le (bare h) = h
@@ -60,14 +62,6 @@ over n k f h =
     tree {lo = f .first} {hi = k} {r = rowOf n k f} (omega arith) (forest-more (f .first + (k - f .first)) h (omega arith)) refl (bare {lo = f .first + (k - f .first)} {hi = k} (omega arith)) (append-nil (f .rows))
 
 module _ (alike : ℕ → ℕ → Bool) (k : ℕ) (s t : State) where
-  same-name : (b : Bool) → cond b (go s) (stop name-differs) ≡ go t → s ≡ t
-  same-name true e = cc
-  same-name false e = let z : _≡_ {A = ℕ} 0 1 = cc in clash z
-
-  one-deeper : (b : Bool) → cond b (go (record { frames = s .frames; depth = s .depth + 1 })) (stop too-deep) ≡ go t → s .frames ≡ t .frames
-  one-deeper true e = let z : _≡_ {A = State} (record { frames = s .frames; depth = s .depth + 1 }) t = cc in ap (λ (x : State). x .frames) z
-  one-deeper false e = let z : _≡_ {A = ℕ} 0 1 = cc in clash z
-
   to : (u : State) → u ≡ t → Standing k (u .frames) → Standing k (t .frames)
   to u e h = subst (λ (x : State). Standing k (x .frames)) e h
 
@@ -77,8 +71,8 @@ module _ (alike : ℕ → ℕ → Bool) (k : ℕ) (s t : State) where
   kept (suc zero) e h = to (record { frames = joined (s .frames); depth = s .depth }) (cc) (standing-joined k (s .frames) h)
   kept (suc (suc zero)) e h = to (record { frames = onTop (marked (k - 1)) (s .frames); depth = s .depth }) (cc) (standing-top k (marked (k - 1)) (s .frames) (λ f x. x) (λ f. refl) h)
   kept (suc (suc (suc zero))) e h = to (record { frames = onTop (named k) (s .frames); depth = s .depth }) (cc) (standing-top k (named k) (s .frames) (λ f x. x) (λ f. refl) h)
-  kept (suc (suc (suc (suc zero)))) e h = to s (same-name (isNamed alike (top (s .frames) .name) (k - 1)) e) h
-  kept (suc (suc (suc (suc (suc zero))))) e h = subst (Standing k) (one-deeper (ltb (s .depth) 32) e) h
+  kept (suc (suc (suc (suc zero)))) e h = to s (same-name s t (isNamed alike (top (s .frames) .name) (k - 1)) e) h
+  kept (suc (suc (suc (suc (suc zero))))) e h = subst (Standing k) (deeper-frames s t (ltb (s .depth) 32) e) h
   kept (suc (suc (suc (suc (suc (suc zero)))))) e h = to (record { frames = s .frames; depth = s .depth - 1 }) (cc) h
   kept (suc (suc (suc (suc (suc (suc (suc n))))))) e h =
       to (record { frames = onTop (rowed n k) (s .frames); depth = s .depth }) (cc) (standing-top k (rowed n k) (s .frames) (over n k) (λ f. refl) h)

@@ -9,21 +9,21 @@ use native.Mathlib.Omega.{arith}
 use lib.Dec.{T, eqb, ltb}
 use lib.ListN.{length, length-append}
 use borrow.Author.Tests.{le-leb}
-use Rattle.grammars.specs.Grammar.{Sym, tok, nt, act, look}
+use Rattle.grammars.specs.code.Grammar.{Sym, tok, nt, act, look}
 use Rattle.grammars.proofs.Running.{run}
-use Rattle.grammars.specs.Actions.{Step, go, stop, Reads, done, eat, acts, grow, End, read, bad, spent, chooseEnd, goOn, runs}
+use Rattle.grammars.specs.code.Actions.{Step, go, stop, Reads, done, eat, acts, grow, End, read, bad, spent, chooseEnd, goOn, runs}
 use Rattle.grammars.proofs.Theory as theory
 use Rattle.grammars.proofs.Theory.{mem, and-left, and-right}
 use Rattle.grammars.proofs.Check.{below-at, imp, imp-at}
 use Rattle.grammars.proofs.Budget as budget
 use Rattle.grammars.proofs.Acting as acting
 use Rattle.grammars.proofs.Spare.{Fewer, credit, debit, fewer-grow, fewer-done}
-use Rattle.forms.specs.Names.{constant, subtype, subtype-range, range, direction, name, name-rest, attribute, expression, logic, and-chain, or-chain, xor-chain, xnor-chain, relation, compared, relational, simple, first-term, sign, added, adding, term, multiplied, multiplying, factor, raised, primary, literal, mark, nameCount, nameNumber, nameNumbers, firstRow}
-use Rattle.forms.specs.Rules.{forms, body}
+use Rattle.forms.specs.code.Names.{constant, subtype, subtype-range, range, direction, name, name-rest, attribute, expression, logic, and-chain, or-chain, xor-chain, xnor-chain, relation, compared, relational, simple, first-term, sign, added, adding, term, multiplied, multiplying, factor, raised, primary, literal, mark, nameCount, nameNumber, nameNumbers, firstRow}
+use Rattle.forms.specs.code.Rules.{forms, body}
 use Rattle.forms.specs.code.Picks.{predict}
-use Rattle.forms.specs.Tree.{Frame, State, Refusal, name-differs, too-deep, fresh, top, onTop, joined, marked, named, rowed, isNamed, does, start}
-use Rattle.forms.specs.Reading.{steps, readingFrom}
-use Rattle.forms.specs.Items.{IsItem, ItemReading, ReadsItems, ItemsAnswer, KindsAlone, OneItem, FewerRows}
+use Rattle.forms.specs.code.Frames.{Frame, State, Refusal, name-differs, too-deep, fresh, top, onTop, joined, marked, named, rowed, isNamed, does, start}
+use Rattle.forms.specs.code.Reading.{steps, readingFrom}
+use Rattle.forms.specs.code.ItemReading.{IsItem, ItemReading, ReadsItems, ItemsAnswer, KindsAlone, OneItem, FewerRows}
 use Rattle.forms.proofs.Positive.{picked}
 use Rattle.forms.proofs.Tests.{tables, forms-ll, weight, leads, steps-paid, isRow, spare, rows-spare}
 

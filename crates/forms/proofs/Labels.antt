@@ -8,11 +8,14 @@ use native.Mathlib.Omega.{arith}
 use lib.Dec.{T}
 use lib.ListN.{length, getD, take}
 use Rattle.grammars.proofs.Theory.{and-left, and-right}
-use Rattle.forms.specs.Tree.{Row, State, rowsOf, Reading}
+use Rattle.forms.specs.Tree.{Row}
+use Rattle.forms.specs.code.Frames.{State, rowsOf, Reading}
 use Rattle.forms.specs.Forest.{Forest, bare, tree}
-use Rattle.forms.specs.Lines.{Item, at, row, isIn, sort, Pattern, nothing, one, operand, both, either, many, lines, Fits, none, this, inside, then, left, right, no-more, more, elements, sortOf, itemsIn, operatorOf, RowsFit}
+use Rattle.forms.specs.Spellings.{isIn}
+use Rattle.forms.specs.Lines.{Item, at, row, sort, Pattern, nothing, one, operand, both, either, many, lines, Fits, none, this, inside, then, left, right, no-more, more, elements, sortOf, itemsIn, operatorAt, RowsFit}
 use Rattle.forms.specs.Lines as pattern
-use Rattle.forms.specs.Labels.{label, Leads, EachLeads, LabelsLead}
+use Rattle.form_numbers.specs.Forms.{label}
+use Rattle.forms.specs.Labels.{Leads, EachLeads, LabelsLead}
 use Rattle.forms.proofs.Growing.{rows-forest}
 use Rattle.forms.proofs.Fitting.{take-less, take-all, behind-tree, rows-fit}
 
@@ -145,7 +148,7 @@ module _ (w : List ℕ) where
       let m : l ++ z ≡ x ++ (y ++ z) = ap (λ (u : List Row). u ++ z) (sym j) ∙ append-assoc x y z in
       let own : FirstOnly (itemsIn w 0 (r .first) end x) =
       subst (λ (u : List Row). FirstOnly (itemsIn w 0 (r .first) end u)) taken
-      (first-only w (operatorOf r) (t .1) (lines-led lines tt (r .form))) in
+      (first-only w (operatorAt r) (t .1) (lines-led lines tt (r .form))) in
       let rest : RowsFit w (x ++ (y ++ z)) = subst (RowsFit w) m (t .2) in
       (q .0, subst (EachLeads r) j (each-append r x y (leads true r f (y ++ z) rest (own, refl, e)) (λ o. leads false o g z (fit-behind x (y ++ z) rest) (subst NoLabel (behind-tree w r x y l end hi e j) (q .1)))))
     where

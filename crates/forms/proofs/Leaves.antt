@@ -7,7 +7,8 @@ use mathlib.Core.Bool.{Bool, true, false, cond}
 use mathlib.Core.List.{List, [], _∷_, _++_, append-assoc, append-nil}
 use native.Mathlib.Omega.{arith}
 use lib.ListN.{length, length-append}
-use Rattle.forms.specs.Tree.{Row, State, rowsOf, Reading}
+use Rattle.forms.specs.Tree.{Row}
+use Rattle.forms.specs.code.Frames.{State, rowsOf, Reading}
 use Rattle.forms.specs.Forest.{Forest, bare, tree}
 use Rattle.forms.specs.Owners.{spans, ownerFrom, NoneSpans, hung, leavesIn, LeavesAre}
 use Rattle.forms.proofs.Growing.{forest-le, rows-forest}

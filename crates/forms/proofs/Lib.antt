@@ -1,6 +1,8 @@
 mod Hints
 pub mod Tests
 pub mod Meaning
+pub mod Steps
+pub mod Words
 pub mod Nesting
 pub mod Growing
 pub mod Examples

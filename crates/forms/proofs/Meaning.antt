@@ -12,16 +12,16 @@ use lib.Seq.{take-take}
 use Rattle.laws.proofs.Laws.{clash}
 use Rattle.grammars.proofs.Running.{Out, good, run}
 use Rattle.grammars.proofs.Running as plain
-use Rattle.grammars.specs.Actions.{End, bad, stopped, spent}
+use Rattle.grammars.specs.code.Actions.{End, bad, stopped, spent}
 use Rattle.grammars.proofs.Theory as theory
 use Rattle.grammars.proofs.Budget as budget
 use Rattle.grammars.proofs.Acting as acting
 use Rattle.grammars.proofs.Trail.{Trail, trail}
-use Rattle.forms.specs.Names.{file}
-use Rattle.forms.specs.Rules.{forms, body}
+use Rattle.forms.specs.code.Names.{file}
+use Rattle.forms.specs.code.Rules.{forms, body}
 use Rattle.forms.specs.code.Picks.{predict}
-use Rattle.forms.specs.Tree.{State, Refusal, does, start, IsFile}
-use Rattle.forms.specs.Reading.{steps, readingFrom, readingOf, Begins, ReadsFiles, OneReading, FirstWrong, StillBegins, AlwaysAnswers}
+use Rattle.forms.specs.code.Frames.{State, Refusal, does, start, IsFile}
+use Rattle.forms.specs.code.Reading.{steps, readingFrom, readingOf, Begins, ReadsFiles, OneReading, FirstWrong, StillBegins, AlwaysAnswers}
 use Rattle.forms.proofs.Tests.{tables, forms-ll, weight, leads, steps-paid}
 
 pub begun : theory.Fol forms predict tables forms-ll (file ∷ [])

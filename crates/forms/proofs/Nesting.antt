@@ -10,13 +10,14 @@ use lib.Dec.{ltb}
 use lib.ListN.{length}
 use borrow.Author.Tests.{ltb-true}
 use Rattle.laws.proofs.Laws.{clash}
-use Rattle.grammars.specs.Grammar.{Sym, tok, nt, act}
-use Rattle.grammars.specs.Actions.{go, stop, Reads, done, eat, acts, grow}
+use Rattle.grammars.specs.code.Grammar.{Sym, tok, nt, act}
+use Rattle.grammars.specs.code.Actions.{go, stop, Reads, done, eat, acts, grow}
 use Rattle.grammars.proofs.Room as room
-use Rattle.forms.specs.Names.{file}
-use Rattle.forms.specs.Rules.{forms, body}
-use Rattle.forms.specs.Tree.{Frame, State, Refusal, name-differs, too-deep, fresh, top, onTop, joined, marked, named, rowed, does, start, isNamed, Reading}
+use Rattle.forms.specs.code.Names.{file}
+use Rattle.forms.specs.code.Rules.{forms, body}
+use Rattle.forms.specs.code.Frames.{Frame, State, Refusal, name-differs, too-deep, fresh, top, onTop, joined, marked, named, rowed, does, start, isNamed, Reading}
 use Rattle.forms.proofs.Tests as tests
+use Rattle.forms.proofs.Steps.{same-name}
 
 pub top-size : (g : Frame → Frame) (fs : List Frame) → length (onTop g fs) ≡ length fs
 top-size g [] = refl
@@ -59,14 +60,10 @@ module _ (alike : ℕ → ℕ → Bool) (k : ℕ) (s t : State) (α : List Sym) 
         most = omega arith;
       }
 
-  same-name : (b : Bool) → cond b (go s) (stop name-differs) ≡ go t → s ≡ t
-  same-name true e = cc
-  same-name false e = let z : _≡_ {A = ℕ} 0 1 = cc in clash z
-
-  one-deeper : (b : Bool) → ltb (s .depth) 32 ≡ b → cond b (go (record { frames = s .frames; depth = s .depth + 1 })) (stop too-deep) ≡ go t
+  below-most : (b : Bool) → ltb (s .depth) 32 ≡ b → cond b (go (record { frames = s .frames; depth = s .depth + 1 })) (stop too-deep) ≡ go t
       → (_≡_ {A = State} (record { frames = s .frames; depth = s .depth + 1 }) t) × (s .depth < 32)
-  one-deeper true q e = (cc, ltb-true (s .depth) 32 q)
-  one-deeper false q e = let z : _≡_ {A = ℕ} 0 1 = cc in clash z
+  below-most true q e = (cc, ltb-true (s .depth) 32 q)
+  below-most false q e = let z : _≡_ {A = ℕ} 0 1 = cc in clash z
 
   pub moved : (a : ℕ) → does alike a k s ≡ go t → Inner i (act a ∷ α) → Open (s .depth) (act a ∷ α) → Nested t α
   unfolding does
@@ -102,11 +99,11 @@ module _ (alike : ℕ → ℕ → Bool) (k : ℕ) (s t : State) (α : List Sym) 
       plain-act 3 (λ z. absurd (omega arith)) (λ z. absurd (omega arith)) (λ z. absurd (omega arith)) (λ z. absurd (omega arith))
       (flip (ap (λ (x : State). length (x .frames)) z) ∙ top-size (named k) (s .frames)) (flip (ap (λ (x : State). x .depth) z)) n o
   moved (suc (suc (suc (suc zero)))) e n o =
-      let z : s ≡ t = same-name (isNamed alike (top (s .frames) .name) (k - 1)) e in
+      let z : s ≡ t = same-name s t (isNamed alike (top (s .frames) .name) (k - 1)) e in
       plain-act 4 (λ z. absurd (omega arith)) (λ z. absurd (omega arith)) (λ z. absurd (omega arith)) (λ z. absurd (omega arith))
       (flip (ap (λ (x : State). length (x .frames)) z)) (flip (ap (λ (x : State). x .depth) z)) n o
   moved (suc (suc (suc (suc (suc zero))))) e n o =
-      let y = one-deeper (ltb (s .depth) 32) refl e in
+      let y = below-most (ltb (s .depth) 32) refl e in
       let zd : s .depth + 1 ≡ t .depth = ap (λ (x : State). x .depth) (y .0) in
       record {
         inner = i;

@@ -10,19 +10,20 @@ use lib.Dec.{T, eqb, ltb, eqb→eq}
 use lib.ListN.{getD}
 use borrow.Author.Tests.{ne-eqb, ltb-true, ltb-false}
 use Rattle.laws.proofs.Laws.{clash}
-use Rattle.grammars.specs.Grammar.{Sym, tok, nt, act}
-use Rattle.grammars.specs.Actions.{Step, go, stop, End, read, bad, stopped, spent}
+use Rattle.grammars.specs.code.Grammar.{Sym, tok, nt, act}
+use Rattle.grammars.specs.code.Actions.{Step, go, stop, End, read, bad, stopped, spent}
 use Rattle.grammars.proofs.Theory.{mem, keep, nullb, and-left, and-right, and-both, or-cases, mem-append, mem-left, mem-right, mem-keep, keep-mem, is-one}
 use Rattle.grammars.proofs.Check.{below-at, every, every-at}
 use Rattle.grammars.proofs.Trail.{Trail, whole, more, other, none, refuses, eats, acts, grows}
-use Rattle.forms.specs.Names.{file}
-use Rattle.forms.specs.Rules.{forms, body}
-use Rattle.forms.specs.Tree.{State, Refusal, name-differs, too-deep, fresh, top, onTop, joined, marked, named, rowed, isNamed, does, Reading}
-use Rattle.forms.specs.Reading.{readingOf}
+use Rattle.forms.specs.code.Names.{file}
+use Rattle.forms.specs.code.Rules.{forms, body}
+use Rattle.forms.specs.code.Frames.{State, Refusal, name-differs, too-deep, fresh, top, onTop, joined, marked, named, rowed, isNamed, does, Reading}
+use Rattle.forms.specs.code.Reading.{readingOf}
 use Rattle.forms.specs.Open.{Role, opening, closing, neither, role, after, openFrom, openAfter}
 use Rattle.forms.proofs.Hints as hints
 use Rattle.forms.proofs.Tests as tests
 use Rattle.forms.proofs.Meaning.{trailed, reads-files}
+use Rattle.forms.proofs.Steps.{same-name, one-deeper}
 
 abbrev last : ℕ → List ℕ
 last n = getD hints.lasts n []
@@ -180,14 +181,6 @@ fine-grow p l n e q α f =
 
 -- what an action leaves of the count
 module _ (alike : ℕ → ℕ → Bool) (k : ℕ) (s t : State) (α : List Sym) where
-  same-name : (c : Bool) → cond c (go s) (stop name-differs) ≡ go t → s .depth ≡ t .depth
-  same-name true e = let z : s ≡ t = cc in ap (λ (x : State). x .depth) z
-  same-name false e = let z : _≡_ {A = ℕ} 0 1 = cc in clash z
-
-  deeper : (c : Bool) → ltb (s .depth) 32 ≡ c → cond {A = Step State Refusal} c (go (record { frames = s .frames; depth = s .depth + 1 })) (stop too-deep) ≡ go t → s .depth + 1 ≡ t .depth
-  deeper true q e = let z : _≡_ {A = State} (record { frames = s .frames; depth = s .depth + 1 }) t = cc in ap (λ (x : State). x .depth) z
-  deeper false q e = let z : _≡_ {A = ℕ} 0 1 = cc in clash z
-
   of : (u : State) → u ≡ t → u .depth ≡ t .depth
   of u e = ap (λ (x : State). x .depth) e
 
@@ -197,8 +190,8 @@ module _ (alike : ℕ → ℕ → Bool) (k : ℕ) (s t : State) (α : List Sym) 
   counted (suc zero) e = of (record { frames = joined (s .frames); depth = s .depth }) (cc)
   counted (suc (suc zero)) e = of (record { frames = onTop (marked (k - 1)) (s .frames); depth = s .depth }) (cc)
   counted (suc (suc (suc zero))) e = of (record { frames = onTop (named k) (s .frames); depth = s .depth }) (cc)
-  counted (suc (suc (suc (suc zero)))) e = same-name (isNamed alike (top (s .frames) .name) (k - 1)) e
-  counted (suc (suc (suc (suc (suc zero))))) e = deeper (ltb (s .depth) 32) refl e
+  counted (suc (suc (suc (suc zero)))) e = ap (λ (x : State). x .depth) (same-name s t (isNamed alike (top (s .frames) .name) (k - 1)) e)
+  counted (suc (suc (suc (suc (suc zero))))) e = ap (λ (x : State). x .depth) (one-deeper s t (ltb (s .depth) 32) e)
   counted (suc (suc (suc (suc (suc (suc zero)))))) e = of (record { frames = s .frames; depth = s .depth - 1 }) (cc)
   counted (suc (suc (suc (suc (suc (suc (suc f))))))) e =
       ap (λ (r : Role). after r (s .depth)) (other (suc (suc (suc (suc (suc (suc (suc f))))))) (λ z. absurd (omega arith)) (λ z. absurd (omega arith)))
@@ -220,7 +213,7 @@ module _ (alike : ℕ → ℕ → Bool) (k : ℕ) (s t : State) (α : List Sym) 
   low-kept (suc zero) e l = omega (arith, of (record { frames = joined (s .frames); depth = s .depth }) (cc))
   low-kept (suc (suc zero)) e l = omega (arith, of (record { frames = onTop (marked (k - 1)) (s .frames); depth = s .depth }) (cc))
   low-kept (suc (suc (suc zero))) e l = omega (arith, of (record { frames = onTop (named k) (s .frames); depth = s .depth }) (cc))
-  low-kept (suc (suc (suc (suc zero)))) e l = omega (arith, same-name (isNamed alike (top (s .frames) .name) (k - 1)) e)
+  low-kept (suc (suc (suc (suc zero)))) e l = omega (arith, ap (λ (x : State). x .depth) (same-name s t (isNamed alike (top (s .frames) .name) (k - 1)) e))
   low-kept (suc (suc (suc (suc (suc zero))))) e l = low-deeper (ltb (s .depth) 32) refl e
   low-kept (suc (suc (suc (suc (suc (suc zero)))))) e l = omega (arith, of (record { frames = s .frames; depth = s .depth - 1 }) (cc))
   low-kept (suc (suc (suc (suc (suc (suc (suc f))))))) e l = omega (arith, of (record { frames = onTop (rowed f k) (s .frames); depth = s .depth }) (cc))

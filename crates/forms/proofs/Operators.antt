@@ -1,25 +1,28 @@
 -- Every row's operator is of its span and of a kind that its form has, and is its first element in any form but 28 and 29. A frame's operator is told by its kind, 0 as long as it is the first element; two hint tables say
 -- which kinds a frame may have where a name begins and ends, and a computed test to a rule says that they hold. Assumes nothing.
 use Prim.Native.Nat.{ℕ, zero, suc, _+_, _-_, _≤_, _<_}
+use Prim.Native.String.{String}
 use mathlib.Core.Path.{_≡_, refl, sym, _∙_, ap, subst}
 use mathlib.Core.Bool.{Bool, true, false, _&&_, cond}
 use mathlib.Core.List.{List, [], _∷_, _++_}
 use native.Mathlib.Omega.{arith}
 use lib.Dec.{T, eqb, ltb, eqb→eq}
 use lib.ListN.{getD, drop}
-use Rattle.laws.proofs.Laws.{clash}
-use Rattle.grammars.specs.Grammar.{Sym, tok, nt, act}
-use Rattle.grammars.specs.Actions.{go, stop, Reads, done, eat, acts, grow}
+use Rattle.laws.proofs.Laws.{clash, is-true}
+use Rattle.grammars.specs.code.Grammar.{Sym, tok, nt, act}
+use Rattle.grammars.specs.code.Actions.{go, stop, Reads, done, eat, acts, grow}
 use Rattle.grammars.proofs.Theory.{mem, and-left, and-right, one-of, is-one}
 use Rattle.grammars.proofs.Check.{below-at, every, every-at}
-use Rattle.forms.specs.Rules.{forms, body}
-use Rattle.forms.specs.Tree.{Row, Frame, State, Refusal, name-differs, too-deep, fresh, top, onTop, joined, marked, named, rowOf, rowed, isNamed, does, rowsOf, Reading}
-use Rattle.forms.specs.Open.{among}
+use Rattle.forms.specs.code.Rules.{forms, body}
+use Rattle.forms.specs.Tree.{Row}
+use Rattle.forms.specs.code.Frames.{Frame, State, Refusal, name-differs, too-deep, fresh, top, onTop, joined, marked, named, rowOf, rowed, isNamed, does, rowsOf, Reading}
+use Rattle.forms.specs.Spellings.{among}
 use Rattle.forms.specs.Operators.{unaryOperators, binaryOperators, EachRow}
 use Rattle.forms.proofs.Hints as hints
+use Rattle.forms.proofs.Steps.{named-frames, deeper-frames}
 
 -- the row's operator is within the row's span, and of one of these kinds
-abbrev pub Within : List ℕ → List Sym → Row → Type 0
+abbrev pub Within : List ℕ → List String → Row → Type 0
 Within w kinds r = (r .first ≤ r .operator) × (r .operator < r .first + r .count) × (among (getD w (r .operator) 0) kinds ≡ true)
 
 abbrev pub MarkRight : List ℕ → Row → Type 0
@@ -131,10 +134,6 @@ marks-grow p l n e q k F α m =
     (every-at (λ q. marksOk (forms .lhs p) q (0 ∷ []) (q ∷ []) [] (body p)) (enter (forms .lhs p)) (rules-mark p l) q
     (subst (λ (x : ℕ). T (mem q (enter x))) (sym e) (m .0))))
 
-is-true : (b : Bool) → T b → b ≡ true
-is-true true h = refl
-is-true false h = absurd h
-
 module _ (W : List ℕ) where
   -- when k elements of W were read: a frame's operator is its first element, or it is one that was read since and has this kind
   abbrev Operates : ℕ → ℕ → ℕ → ℕ → Type 0
@@ -235,7 +234,7 @@ module _ (W : List ℕ) where
   mark-fits k (suc p) first t j = (omega (arith, j .0), omega (arith, j .0), j .1)
 
   -- the row just put
-  has : (kinds : List Sym) (n k q : ℕ) (f : Frame) → among 0 kinds ≡ false → T (among q kinds) → Operates k (f .first) (f .operator) q → Within W kinds (rowOf n k f)
+  has : (kinds : List String) (n k q : ℕ) (f : Frame) → among 0 kinds ≡ false → T (among q kinds) → Operates k (f .first) (f .operator) q → Within W kinds (rowOf n k f)
   has kinds n k zero f d t o = absurd (subst T d t)
   has kinds n k (suc q) f d t o = (o .0, omega (arith, o .0, o .1), ap (λ (x : ℕ). among x kinds) (o .2) ∙ is-true (among (suc q) kinds) t)
 
@@ -253,14 +252,6 @@ module _ (W : List ℕ) where
       by false false t = has-none n k q f t o
 
   module _ (alike : ℕ → ℕ → Bool) (k : ℕ) (s t : State) (α : List Sym) where
-    same-name : (b : Bool) → cond b (go s) (stop name-differs) ≡ go t → s ≡ t
-    same-name true e = cc
-    same-name false e = let z : _≡_ {A = ℕ} 0 1 = cc in clash z
-
-    one-deeper : (b : Bool) → cond b (go (record { frames = s .frames; depth = s .depth + 1 })) (stop too-deep) ≡ go t → s .frames ≡ t .frames
-    one-deeper true e = let z : _≡_ {A = State} (record { frames = s .frames; depth = s .depth + 1 }) t = cc in ap (λ (x : State). x .frames) z
-    one-deeper false e = let z : _≡_ {A = ℕ} 0 1 = cc in clash z
-
     -- the frames as they stand after an action
     to : (fs : List Frame) → fs ≡ t .frames → (p q : ℕ) (F : List ℕ) → Marks p q F α → Stand k k fs (q ∷ F) → Just k (top fs .first) p → Held k t α
     to fs e p q F m h j =
@@ -300,9 +291,9 @@ module _ (W : List ℕ) where
     held-act (suc (suc (suc zero))) e h =
         over 3 (named k) (λ f. refl) (of (record { frames = onTop (named k) (s .frames); depth = s .depth }) (cc)) h (h .operator) (λ f z o r. (o, r)) (h .marks)
     held-act (suc (suc (suc (suc zero)))) e h =
-        to (s .frames) (ap (λ (x : State). x .frames) (same-name (isNamed alike (top (s .frames) .name) (k - 1)) e)) (h .just-read) (h .operator) (h .around) (h .marks) (h .stand) (h .just)
+        to (s .frames) (named-frames s t (isNamed alike (top (s .frames) .name) (k - 1)) e) (h .just-read) (h .operator) (h .around) (h .marks) (h .stand) (h .just)
     held-act (suc (suc (suc (suc (suc zero))))) e h =
-        to (s .frames) (one-deeper (ltb (s .depth) 32) e) (h .just-read) (h .operator) (h .around) (h .marks) (h .stand) (h .just)
+        to (s .frames) (deeper-frames s t (ltb (s .depth) 32) e) (h .just-read) (h .operator) (h .around) (h .marks) (h .stand) (h .just)
     held-act (suc (suc (suc (suc (suc (suc zero)))))) e h =
         to (s .frames) (of (record { frames = s .frames; depth = s .depth - 1 }) (cc)) (h .just-read) (h .operator) (h .around) (h .marks) (h .stand) (h .just)
     held-act (suc (suc (suc (suc (suc (suc (suc n))))))) e h =

@@ -1,6 +1,7 @@
 -- The operator column of every row is right: what the lines of forms 28 and 29 say of a row's own items, and of the other forms what the
 -- marks of the rules say. Assumes nothing.
 use Prim.Native.Nat.{ℕ, zero, suc, _+_}
+use Prim.Native.String.{String}
 use mathlib.Core.Path.{_≡_, refl, sym, _∙_, ap, subst}
 use mathlib.Core.Logic.{inl, inr, ⊎-elim}
 use mathlib.Core.Bool.{Bool, true, false, _&&_, _||_, cond}
@@ -8,17 +9,16 @@ use mathlib.Core.List.{List, [], _∷_, _++_}
 use native.Mathlib.Omega.{arith}
 use lib.Dec.{T, eqb, eqb→eq}
 use lib.ListN.{getD}
-use Rattle.grammars.specs.Grammar.{Sym}
 use Rattle.grammars.proofs.Theory.{and-left, and-right, or-cases}
-use Rattle.forms.specs.Tree.{Row, State, rowsOf, Reading}
-use Rattle.forms.specs.Kinds.{numberOf}
-use Rattle.forms.specs.Open.{among}
+use Rattle.forms.specs.Tree.{Row}
+use Rattle.forms.specs.code.Frames.{State, rowsOf, Reading}
+use Rattle.forms.specs.Spellings.{spelledEach, isIn, among}
 use Rattle.forms.specs.Operators.{unaryOperators, binaryOperators, HasOperator, OperatorRight, OperatorsRight, EachRow}
-use Rattle.forms.specs.Lines.{Item, at, row, isIn, operates, Pattern, nothing, one, operand, both, either, many, line, IsOf, codeOf, Fits, none, this, bare, inside, then, left, right, no-more, more, ownItems, IsAmong, childrenIn, operatorOf, RowsFit}
-use Rattle.forms.specs.code.Shapes.{kindsOf}
+use Rattle.forms.specs.Lines.{Item, at, row, operates, Pattern, nothing, one, operand, both, either, many, line, IsOf, codeOf, Fits, none, this, bare, inside, then, left, right, no-more, more, ownItems, IsAmong, childrenIn, operatorAt, RowsFit}
 use Rattle.forms.proofs.Patterns.{subset, subset-at}
 use Rattle.forms.proofs.Operators.{Within, MarkRight, operators-marked}
 use Rattle.forms.proofs.Fitting.{rows-fit}
+use Rattle.laws.proofs.Laws.{is-true}
 
 children-append : (x y : List Item) → childrenIn (x ++ y) ≡ childrenIn x + childrenIn y
 children-append [] y = omega arith
@@ -33,22 +33,6 @@ among-left i (j ∷ x) y (inr h) = inr (among-left i x y h)
 among-right : (i : Item) (x y : List Item) → IsAmong i y → IsAmong i (x ++ y)
 among-right i [] y h = h
 among-right i (j ∷ x) y h = inr (among-right i x y h)
-
--- what is one of these kinds
-among-in : (k : ℕ) (l : List Sym) → T (isIn k (kindsOf l)) → among k l ≡ true
-among-in k l h = by (among k l) (same l h)
-  where
-    same : (l : List Sym) → T (isIn k (kindsOf l)) → T (among k l)
-    same [] h = h
-    same (s ∷ l) h = further (eqb k (numberOf s)) (isIn k (kindsOf l)) (among k l) (same l) h
-      where
-        further : (a b c : Bool) → (T b → T c) → T (a || b) → T (a || c)
-        further true b c f h = h
-        further false b c f h = f h
-
-    by : (b : Bool) → T b → b ≡ true
-    by true t = refl
-    by false t = absurd t
 
 -- how many children the items of a pattern have, where that is told
 abbrev children : Pattern → ℕ
@@ -125,13 +109,13 @@ module _ (w : List ℕ) (o : ℕ) (kinds : List ℕ) where
   operator-marked (more f g d) h = absurd h
 
 -- so it is on the two lines, by computing
-has : (w : List ℕ) (kinds : List Sym) (r : Row) (l : List Row) (p : Pattern) → T (marked (kindsOf kinds) p) → T (told p) → Fits w (suc (r .operator)) p (ownItems w r l) → HasOperator w kinds (children p) r l
+has : (w : List ℕ) (kinds : List String) (r : Row) (l : List Row) (p : Pattern) → T (marked (spelledEach kinds) p) → T (told p) → Fits w (suc (r .operator)) p (ownItems w r l) → HasOperator w kinds (children p) r l
 has w kinds r l p a b f =
-    let m = operator-marked w (r .operator) (kindsOf kinds) f a in
-    (m .0, among-in (getD w (r .operator) 0) kinds (m .1), children-told w (suc (r .operator)) f b)
+    let m = operator-marked w (r .operator) (spelledEach kinds) f a in
+    (m .0, is-true (among (getD w (r .operator) 0) kinds) (m .1), children-told w (suc (r .operator)) f b)
 
 -- a row whose form is told by a test
-by-form : (w : List ℕ) (r : Row) (l : List Row) → Fits w (operatorOf r) (line (r .form)) (ownItems w r l) → MarkRight w r → OperatorRight w r l
+by-form : (w : List ℕ) (r : Row) (l : List Row) → Fits w (operatorAt r) (line (r .form)) (ownItems w r l) → MarkRight w r → OperatorRight w r l
 by-form w r l f m = by (eqb (r .form) 28) (eqb (r .form) 29) refl refl m
   where
     on : (n : ℕ) → r .form ≡ n → Fits w (cond (operates n) (suc (r .operator)) 0) (line n) (ownItems w r l)

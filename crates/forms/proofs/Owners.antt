@@ -10,7 +10,8 @@ use lib.ListN.{length, take, length-append}
 use borrow.Author.Tests.{le-leb}
 use Rattle.laws.proofs.Laws.{clash}
 use Rattle.grammars.proofs.Theory.{and-left, and-right}
-use Rattle.forms.specs.Tree.{Row, State, rowsOf, Reading}
+use Rattle.forms.specs.Tree.{Row}
+use Rattle.forms.specs.code.Frames.{State, rowsOf, Reading}
 use Rattle.forms.specs.Forest.{Forest, bare, tree, Tiled, none, unit}
 use Rattle.forms.specs.Operators.{EachRow}
 use Rattle.forms.specs.Lines.{Item, at, row, elements, sortOf, itemsIn, ownItems, IsAmong}

@@ -6,12 +6,13 @@ use mathlib.Core.Bool.{Bool, true, false, not, _&&_, cond}
 use native.Mathlib.Omega.{arith}
 use lib.Dec.{T, eqb, ltb}
 use Rattle.laws.proofs.Laws.{clash}
-use Rattle.grammars.specs.Grammar.{Sym, tok, nt, act}
-use Rattle.grammars.specs.Actions.{go, stop, Reads, done, eat, acts, grow}
+use Rattle.grammars.specs.code.Grammar.{Sym, tok, nt, act}
+use Rattle.grammars.specs.code.Actions.{go, stop, Reads, done, eat, acts, grow}
 use Rattle.grammars.proofs.Theory.{and-left, and-right}
 use Rattle.grammars.proofs.Check.{below-at}
-use Rattle.forms.specs.Rules.{forms, body}
-use Rattle.forms.specs.Tree.{Row, Frame, State, Refusal, name-differs, too-deep, fresh, top, onTop, joined, marked, named, rowed, isNamed, does}
+use Rattle.forms.specs.code.Rules.{forms, body}
+use Rattle.forms.specs.Tree.{Row}
+use Rattle.forms.specs.code.Frames.{Frame, State, Refusal, name-differs, too-deep, fresh, top, onTop, joined, marked, named, rowed, isNamed, does}
 
 abbrev pub Positive : List Row → Type 0
 Positive [] = Unit {0}

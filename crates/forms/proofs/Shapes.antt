@@ -9,16 +9,17 @@ use lib.Dec.{T, eqb, ltb, eqb→eq}
 use lib.ListN.{length}
 use borrow.Author.Tests.{eq-eqb, ne-eqb}
 use Rattle.laws.proofs.Laws.{clash}
-use Rattle.grammars.specs.Grammar.{Sym, tok, nt, act}
-use Rattle.grammars.specs.Actions.{go, Reads, done, eat, acts, grow}
+use Rattle.grammars.specs.code.Grammar.{Sym, tok, nt, act}
+use Rattle.grammars.specs.code.Actions.{go, Reads, done, eat, acts, grow}
 use Rattle.grammars.proofs.Theory.{mem, and-left, and-right}
 use Rattle.grammars.proofs.Check.{below, below-at, imp, imp-at}
 use Rattle.grammars.proofs.Room as room
-use Rattle.forms.specs.Kinds.{numberOf, identifier, word-constant, word-is, word-subtype, colon}
-use Rattle.forms.specs.Names.{constant, subtype, subtype-range, range, expression, mark, nameNumber, nameNumbers}
-use Rattle.forms.specs.Rules.{forms, body, ruleOf}
-use Rattle.forms.specs.Tree.{Row, Frame, State, Refusal, name-differs, too-deep, fresh, top, onTop, joined, marked, named, rowed, isNamed, does, start, rowsOf}
-use Rattle.forms.specs.Items.{ItemReading, itemRow, markRow, BeginWithMark}
+use Rattle.forms.specs.code.Kinds.{numberOf, identifier, word-constant, word-is, word-subtype, colon}
+use Rattle.forms.specs.code.Names.{constant, subtype, subtype-range, range, expression, mark, nameNumber, nameNumbers}
+use Rattle.forms.specs.code.Rules.{forms, body, ruleOf}
+use Rattle.forms.specs.Tree.{Row}
+use Rattle.forms.specs.code.Frames.{Frame, State, Refusal, name-differs, too-deep, fresh, top, onTop, joined, marked, named, rowed, isNamed, does, start, rowsOf}
+use Rattle.forms.specs.code.ItemReading.{ItemReading, itemRow, markRow, BeginWithMark}
 use Rattle.forms.proofs.Positive.{picked}
 use Rattle.forms.proofs.Tests as tests
 
@@ -110,6 +111,11 @@ keeps-top : (i : ℕ) (u : Frame → Frame) (fs : List Frame) → Keeps (suc i) 
 keeps-top i u [] h = absurd h
 keeps-top i u (g ∷ fs) h = h
 
+-- where a name has one rule, a rule of it is that one
+pub only : (n q : ℕ) → T (below (forms .count) (λ p. imp (eqb (forms .lhs p) n) (eqb p q))) → (p : ℕ) → p < forms .count → forms .lhs p ≡ n → p ≡ q
+only n q h p l e =
+    eqb→eq p q (imp-at (eqb (forms .lhs p) n) (eqb p q) (below-at (forms .count) (λ p. imp (eqb (forms .lhs p) n) (eqb p q)) h p l) (subst T (flip (eq-eqb (forms .lhs p) n e)) tt))
+
 module _ (alike : ℕ → ℕ → Bool) where
   keeps-opens : (i k : ℕ) (s t : State) → does alike 0 k s ≡ go t → Keeps i (s .frames) → Keeps (suc i) (t .frames)
   unfolding does
@@ -200,10 +206,6 @@ module _ (alike : ℕ → ℕ → Bool) where
       let n : x ≡ afterMark k s =
       flip q ∙ ap (λ (o : State). record { frames = joined (o .frames); depth = o .depth }) (flip y) ∙ ap (λ (o : State). record { frames = joined (onTop (rowed 31 (suc k)) (o .frames)); depth = o .depth }) (flip z) in
       (v, (refl, subst (λ (o : State). Reads State Refusal forms (does alike) α (suc k) o v s′) n r))
-
-  only : (n q : ℕ) → T (below (forms .count) (λ p. imp (eqb (forms .lhs p) n) (eqb p q))) → (p : ℕ) → p < forms .count → forms .lhs p ≡ n → p ≡ q
-  only n q h p l e =
-      eqb→eq p q (imp-at (eqb (forms .lhs p) n) (eqb p q) (below-at (forms .count) (λ p. imp (eqb (forms .lhs p) n) (eqb p q)) h p l) (subst T (flip (eq-eqb (forms .lhs p) n e)) tt))
 
   mark-read : (k : ℕ) (s : State) {α : List Sym} {w : List ℕ} {s′ : State} → Reads State Refusal forms (does alike) (mark ∷ α) k s w s′
       → (v : List ℕ) × ((length w ≡ suc (length v)) × Reads State Refusal forms (does alike) α (suc k) (afterMark k s) v s′)

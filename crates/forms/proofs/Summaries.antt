@@ -7,15 +7,16 @@ use mathlib.Core.Bool.{Bool, true, false, _&&_, _||_, cond}
 use mathlib.Core.List.{List, [], _∷_, _++_, append-assoc, append-nil}
 use lib.Dec.{T, eqb, eqb→eq}
 use lib.ListN.{getD}
-use Rattle.grammars.specs.Grammar.{Sym, tok, nt, act}
+use Rattle.grammars.specs.code.Grammar.{Sym, tok, nt, act}
 use borrow.Author.Tests.{eq-eqb}
 use Rattle.grammars.proofs.Theory.{and-left, and-right, or-cases, or-left}
 use Rattle.grammars.proofs.Check.{below-at, imp}
-use Rattle.forms.specs.Kinds.{identifier, word-and, word-architecture, word-downto, word-else, word-elsif, word-entity, word-in, word-inout, word-is, word-mod, word-or, word-out, word-package, word-range, word-rem, word-to, word-when, word-xnor, word-xor, not-equal, at-least, at-most, ampersand, star, plus, comma, minus, slash, colon, semicolon, less, equal, greater}
-use Rattle.forms.specs.Names.{nameNumber}
-use Rattle.forms.specs.Names as name
-use Rattle.forms.specs.Rules.{forms, body}
-use Rattle.forms.specs.Lines.{Item, at, row, isIn, operates, branches, sort, Pattern, nothing, one, operand, both, either, many, rows, opt, seq, primaries, factors, terms, simples, relations, anExpression, labelled, closing, bounded, declared, concurrent, sequential, target, portList, nameList, line, Fits, this}
+use Rattle.forms.specs.code.Kinds.{identifier, word-and, word-architecture, word-downto, word-else, word-elsif, word-entity, word-in, word-inout, word-is, word-mod, word-or, word-out, word-package, word-range, word-rem, word-to, word-when, word-xnor, word-xor, not-equal, at-least, at-most, ampersand, star, plus, comma, minus, slash, colon, semicolon, less, equal, greater}
+use Rattle.forms.specs.code.Names.{nameNumber}
+use Rattle.forms.specs.code.Names as name
+use Rattle.forms.specs.code.Rules.{forms, body}
+use Rattle.forms.specs.Spellings.{isIn}
+use Rattle.forms.specs.Lines.{Item, at, row, operates, branches, sort, Pattern, nothing, one, operand, both, either, many, rows, opt, seq, primaries, factors, terms, simples, relations, anExpression, labelled, closing, bounded, declared, concurrent, sequential, target, portList, nameList, line, Fits, this}
 use Rattle.forms.specs.code.Shapes.{with, e, oneOf, branch}
 use Rattle.forms.proofs.Patterns.{FitsAll, sub, sub-sound, single, alone, plain, plains, replain, replains, fits-append}
 

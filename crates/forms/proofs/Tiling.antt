@@ -9,19 +9,21 @@ use lib.Dec.{T, eqb, ltb, eqb→eq, leb→le}
 use lib.ListN.{length}
 use borrow.Author.Tests.{eq-eqb, ne-eqb, le-leb}
 use Rattle.laws.proofs.Laws.{clash}
-use Rattle.grammars.specs.Grammar.{Sym, tok, nt, act}
-use Rattle.grammars.specs.Actions.{go, stop, Reads, done, eat, acts, grow}
+use Rattle.grammars.specs.code.Grammar.{Sym, tok, nt, act}
+use Rattle.grammars.specs.code.Actions.{go, stop, Reads, done, eat, acts, grow}
 use Rattle.grammars.proofs.Theory.{mem, and-left, and-right}
 use Rattle.grammars.proofs.Check.{below-at, imp, imp-at}
 use Rattle.grammars.proofs.Room.{pickT, pickB, nested, nest-down}
-use Rattle.forms.specs.Names.{file, units, unit, package-unit, entity-unit, architecture-unit, nameNumbers, firstRow}
-use Rattle.forms.specs.Rules.{forms, body}
-use Rattle.forms.specs.Tree.{Row, Frame, State, Refusal, name-differs, too-deep, fresh, top, onTop, joined, marked, named, rowOf, rowed, does, isNamed, rowsOf, Reading}
+use Rattle.forms.specs.code.Names.{file, units, unit, package-unit, entity-unit, architecture-unit, nameNumbers, firstRow}
+use Rattle.forms.specs.code.Rules.{forms, body}
+use Rattle.forms.specs.Tree.{Row}
+use Rattle.forms.specs.code.Frames.{Frame, State, Refusal, name-differs, too-deep, fresh, top, onTop, joined, marked, named, rowOf, rowed, does, isNamed, rowsOf, Reading}
 use Rattle.forms.specs.Forest.{Forest, bare, Tiled, none}
 use Rattle.forms.specs.Forest as forest
 use Rattle.forms.proofs.Tests as tests
 use Rattle.forms.proofs.Nesting.{top-size, joined-less, one-frame, Nested, nested-eat, nested-act, nested-grow, nested-start}
 use Rattle.forms.proofs.Growing.{Standing, kept, standing-eat, forest-le, forest-more}
+use Rattle.forms.proofs.Steps.{named-frames, deeper-frames}
 
 -- the names that stand outside every unit's frame
 abbrev outer : ℕ → Bool
@@ -192,14 +194,6 @@ record Step-on (i : ℕ) (k : ℕ) (t : State) (α : List Sym) : Type 0 where
   pub tiling : Tiling flag k (t .frames)
 
 module _ (alike : ℕ → ℕ → Bool) (k : ℕ) (s t : State) (α : List Sym) (b : Bool) (i : ℕ) (size : length (s .frames) ≡ suc i) (standing : Standing k (s .frames)) (tiling : Tiling b k (s .frames)) where
-  same-name : (c : Bool) → cond c (go s) (stop name-differs) ≡ go t → s .frames ≡ t .frames
-  same-name true e = let z : s ≡ t = cc in ap (λ (x : State). x .frames) z
-  same-name false e = let z : _≡_ {A = ℕ} 0 1 = cc in clash z
-
-  one-deeper : (c : Bool) → cond c (go (record { frames = s .frames; depth = s .depth + 1 })) (stop too-deep) ≡ go t → s .frames ≡ t .frames
-  one-deeper true e = let z : _≡_ {A = State} (record { frames = s .frames; depth = s .depth + 1 }) t = cc in ap (λ (x : State). x .frames) z
-  one-deeper false e = let z : _≡_ {A = ℕ} 0 1 = cc in clash z
-
   to : (j : ℕ) (c : Bool) (u : State) → u ≡ t → length (u .frames) ≡ suc j → Units j c α → Tiling c k (u .frames) → Step-on j k t α
   to j c u e l h g = record { flag = c; size = subst (λ (x : State). length (x .frames) ≡ suc j) e l; left = h; tiling = subst (λ (x : State). Tiling c k (x .frames)) e g }
 
@@ -227,8 +221,8 @@ module _ (alike : ℕ → ℕ → Bool) (k : ℕ) (s t : State) (α : List Sym) 
   step (suc zero) e l h = to (i - 1) false (record { frames = joined (s .frames); depth = s .depth }) (cc) (let m = l refl in omega (arith, joined-less (s .frames) (omega arith))) (h .1) (tiling-closes b k (s .frames) i size (l refl) (h .0) tiling)
   step (suc (suc zero)) e l h = to i b (record { frames = onTop (marked (k - 1)) (s .frames); depth = s .depth }) (cc) (top-size (marked (k - 1)) (s .frames) ∙ size) h (tiling-top b k (marked (k - 1)) (s .frames) (λ f. refl) (λ f. refl) tiling)
   step (suc (suc (suc zero))) e l h = to i b (record { frames = onTop (named k) (s .frames); depth = s .depth }) (cc) (top-size (named k) (s .frames) ∙ size) h (tiling-top b k (named k) (s .frames) (λ f. refl) (λ f. refl) tiling)
-  step (suc (suc (suc (suc zero)))) e l h = still (same-name (isNamed alike (top (s .frames) .name) (k - 1)) e) h
-  step (suc (suc (suc (suc (suc zero))))) e l h = still (one-deeper (ltb (s .depth) 32) e) h
+  step (suc (suc (suc (suc zero)))) e l h = still (named-frames s t (isNamed alike (top (s .frames) .name) (k - 1)) e) h
+  step (suc (suc (suc (suc (suc zero))))) e l h = still (deeper-frames s t (ltb (s .depth) 32) e) h
   step (suc (suc (suc (suc (suc (suc zero)))))) e l h = to i b (record { frames = s .frames; depth = s .depth - 1 }) (cc) size h tiling
   step (suc (suc (suc (suc (suc (suc (suc n))))))) e l h =
       let g = past-row (suc (suc (suc (suc (suc (suc (suc n))))))) (omega arith) h in

@@ -2,12 +2,13 @@
 -- names of the units, blocks, processes, loops and ifs that stand open are a stack, and each end closes the innermost.
 -- Assumes nothing: these are definitions.
 use Prim.Native.Nat.{ℕ, zero, suc}
+use Prim.Native.String.{String}
 use mathlib.Core.Bool.{Bool, true, false, _&&_, cond}
 use mathlib.Core.List.{List, [], _∷_}
+use lib.Dec.{eqb}
 use lib.ListN.{getD}
-use Rattle.grammars.specs.Grammar.{Sym}
-use Rattle.forms.specs.Kinds.{identifier, word-architecture, word-block, word-end, word-entity, word-loop, word-package, word-process, left-paren, colon}
-use Rattle.forms.specs.Open.{Role, opening, closing, neither, among, role}
+use Rattle.forms.specs.Spellings.{identifier, among}
+use Rattle.forms.specs.Open.{Role, opening, closing, neither, role}
 
 -- the name or label of what stands open: an element, or none
 pub data Name : Type 0 where
@@ -37,21 +38,21 @@ isOpening closing = false
 isOpening neither = false
 
 -- a unit has the name right after its word
-abbrev pub unitWords : List Sym
-unitWords = word-package ∷ word-entity ∷ word-architecture ∷ []
+abbrev pub unitWords : List String
+unitWords = "package" ∷ "entity" ∷ "architecture" ∷ []
 
 -- the words that may stand between end and a name
-abbrev pub closedWords : List Sym
-closedWords = word-package ∷ word-entity ∷ word-architecture ∷ word-block ∷ word-process ∷ word-loop ∷ []
+abbrev pub closedWords : List String
+closedWords = "package" ∷ "entity" ∷ "architecture" ∷ "block" ∷ "process" ∷ "loop" ∷ []
 
 abbrev pub isIdentifier : ℕ → Bool
-isIdentifier t = among t (identifier ∷ [])
+isIdentifier t = eqb t identifier
 
 abbrev pub isEnd : ℕ → Bool
-isEnd t = among t (word-end ∷ [])
+isEnd t = among t ("end" ∷ [])
 
 abbrev pub isColon : ℕ → Bool
-isColon t = among t (colon ∷ [])
+isColon t = among t (":" ∷ [])
 
 -- an identifier after a unit's word
 abbrev pub behindUnit : ℕ → ℕ → Bool
@@ -59,7 +60,7 @@ behindUnit p t = isIdentifier t && among p unitWords
 
 -- the word of a block, process, loop or if that opens
 abbrev pub opensOne : ℕ → ℕ → Bool
-opensOne p t = isOpening (cond (among t (left-paren ∷ [])) neither (role p t))
+opensOne p t = isOpening (cond (among t ("(" ∷ [])) neither (role p t))
 
 -- a word right after end, of what may be closed by name
 abbrev pub behindEnd : ℕ → ℕ → Bool

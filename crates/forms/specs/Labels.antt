@@ -1,18 +1,15 @@
 -- Which statement a label leads (01's table: "[label :]", and "leading label without its colon" for its row). Assumes nothing: these are
 -- definitions, and proofs/Labels.antt has the proof.
-use Prim.Native.Nat.{ℕ, _≤_}
+use Prim.Native.Nat.{_<_}
 use mathlib.Core.Path.{_≡_}
 use mathlib.Core.List.{List, [], _∷_}
+use Rattle.form_numbers.specs.Forms.{label}
 use Rattle.forms.specs.Tree.{Row}
-
--- the form of a label's row
-abbrev pub label : ℕ
-label = 30
 
 -- The label r leads the statement s whose row stands right before its own: s has rows inside it, of which the one right after it is the
 -- first, and begins at its label.
 abbrev pub Leads : Row → Row → Type 0
-Leads r s = (2 ≤ s .rows) × (r .first ≡ s .first)
+Leads r s = (1 < s .rows) × (r .first ≡ s .first)
 
 -- each label among the rows after s leads the row right before it
 abbrev pub EachLeads : Row → List Row → Type 0

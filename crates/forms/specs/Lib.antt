@@ -1,12 +1,7 @@
-pub mod Kinds
 pub mod Spellings
-pub mod Names
-pub mod Rules
 pub mod code
 pub mod Tree
 pub mod Words
-pub mod Reading
-pub mod Items
 pub mod Forest
 pub mod Open
 pub mod Operators

@@ -9,17 +9,13 @@ use mathlib.Core.Bool.{Bool, false, _||_, cond}
 use mathlib.Core.List.{List, [], _∷_, _++_}
 use lib.Dec.{T, eqb}
 use lib.ListN.{getD, length, take}
-use Rattle.forms.specs.Spellings.{identifier, literals, spelled, spelledEach}
+use Rattle.forms.specs.Spellings.{identifier, literals, spelled, spelledEach, isIn}
 use Rattle.forms.specs.Tree.{Row}
 
 -- an own item of a row: one of its elements, by number, or a child, by sort
 pub data Item : Type 0 where
   at : ℕ → Item
   row : ℕ → Item
-
-abbrev pub isIn : ℕ → List ℕ → Bool
-isIn t [] = false
-isIn t (x ∷ l) = eqb t x || isIn t l
 
 -- forms 28 and 29 have an operator
 abbrev pub operates : ℕ → Bool
@@ -286,13 +282,13 @@ childrenIn (at i ∷ x) = childrenIn x
 childrenIn (row s ∷ x) = suc (childrenIn x)
 
 -- the operator element's number and one more in forms 28 and 29, else 0
-abbrev pub operatorOf : Row → ℕ
-operatorOf r = cond (operates (r .form)) (suc (r .operator)) 0
+abbrev pub operatorAt : Row → ℕ
+operatorAt r = cond (operates (r .form)) (suc (r .operator)) 0
 
 -- every row has its subtree after it, and its own items fit its form's line
 abbrev pub RowsFit : List ℕ → List Row → Type 0
 RowsFit w [] = Unit {0}
-RowsFit w (r ∷ l) = (r .rows ≤ suc (length l)) × (Fits w (operatorOf r) (line (r .form)) (ownItems w r l)) × RowsFit w l
+RowsFit w (r ∷ l) = (r .rows ≤ suc (length l)) × (Fits w (operatorAt r) (line (r .form)) (ownItems w r l)) × RowsFit w l
 
 -- the rows of a file: its outermost ones are units, and every row fits its line
 abbrev pub TreeFits : List ℕ → List Row → Type 0

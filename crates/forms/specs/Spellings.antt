@@ -3,15 +3,30 @@
 use Prim.Native.Nat.{ℕ, suc}
 use Prim.Native.Char.{code}
 use Prim.Native.String.{String, [] as empty, _∷_ as _then_}
-use mathlib.Core.Bool.{Bool, true, false, cond, _&&_}
+use mathlib.Core.Bool.{Bool, true, false, cond, _&&_, _||_}
 use mathlib.Core.List.{List, [], _∷_}
 use lib.Dec.{eqb}
 
 abbrev pub identifier : ℕ
 identifier = 1
 
+abbrev pub integer : ℕ
+integer = 2
+
+abbrev pub real : ℕ
+real = 3
+
+abbrev pub character : ℕ
+character = 4
+
+abbrev pub string : ℕ
+string = 5
+
 abbrev pub literals : List ℕ
-literals = 2 ∷ 3 ∷ 4 ∷ 5 ∷ []
+literals = integer ∷ real ∷ character ∷ string ∷ []
+
+abbrev pub firstSpelled : ℕ
+firstSpelled = 6
 
 -- the words and the delimiters of 01's table of forms
 abbrev pub spellings : List String
@@ -35,8 +50,17 @@ placeOf n s (t ∷ l) = cond (alike s t) n (placeOf (suc n) s l)
 
 -- the number of what is spelled so
 abbrev pub spelled : String → ℕ
-spelled s = placeOf 6 s spellings
+spelled s = placeOf firstSpelled s spellings
 
 abbrev pub spelledEach : List String → List ℕ
 spelledEach [] = []
 spelledEach (s ∷ l) = spelled s ∷ spelledEach l
+
+-- t is one of these
+abbrev pub isIn : ℕ → List ℕ → Bool
+isIn t [] = false
+isIn t (x ∷ l) = eqb t x || isIn t l
+
+-- what is spelled as one of these
+abbrev pub among : ℕ → List String → Bool
+among t l = isIn t (spelledEach l)

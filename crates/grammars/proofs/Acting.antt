@@ -9,11 +9,11 @@ use native.Mathlib.Omega.{arith}
 use lib.Dec.{eqb}
 use borrow.Author.Tests.{eq-eqb, eqb-true}
 use Rattle.laws.proofs.Laws.{clash}
-use Rattle.grammars.specs.Grammar.{Sym, tok, nt, act, Grammar, Gen, look}
+use Rattle.grammars.specs.code.Grammar.{Sym, tok, nt, act, Grammar, Gen, look}
 use Rattle.grammars.proofs.Running.{Out, run, choose}
-use Rattle.grammars.specs.Grammar as plain
+use Rattle.grammars.specs.code.Grammar as plain
 use Rattle.grammars.proofs.Running as running
-use Rattle.grammars.specs.Actions.{Step, go, stop, Reads, done, eat, acts, grow, End, read, bad, stopped, spent, chooseEnd, goOn, runs}
+use Rattle.grammars.specs.code.Actions.{Step, go, stop, Reads, done, eat, acts, grow, End, read, bad, stopped, spent, chooseEnd, goOn, runs}
 use Rattle.grammars.proofs.Theory.{Tables, LL, Fol, picked, fol-grow}
 
 -- a refusal comes at an element that was not read yet

@@ -8,7 +8,7 @@ use native.Mathlib.Omega.{arith}
 use lib.Dec.{T, eqb, leb, leb→le}
 use lib.ListN.{length}
 use Rattle.laws.proofs.Laws.{clash}
-use Rattle.grammars.specs.Grammar.{Sym, tok, nt, act, Grammar, look}
+use Rattle.grammars.specs.code.Grammar.{Sym, tok, nt, act, Grammar, look}
 use Rattle.grammars.proofs.Running.{Out, bad, spent, choose, run}
 use Rattle.grammars.proofs.Theory.{Tables, LL}
 use Rattle.grammars.proofs.Check.{below, below-at}

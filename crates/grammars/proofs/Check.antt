@@ -8,7 +8,7 @@ use native.Mathlib.Omega.{arith}
 use native.Mathlib.Nat.{eq-or-lt-of-le, le-of-suc-le-suc}
 use lib.Dec.{T, eqb, ltb, eqb→eq, leb→le}
 use lib.ListN.{getD}
-use Rattle.grammars.specs.Grammar.{Sym, tok, nt, act, Grammar, predictBy}
+use Rattle.grammars.specs.code.Grammar.{Sym, tok, nt, act, Grammar, predictBy}
 use Rattle.grammars.proofs.Running.{Out, good, bad, spent, run}
 use Rattle.grammars.proofs.Theory.{or-cases, and-left, and-right, mem, inits, nullb, Inside, Tables, LL, sound}
 

@@ -9,7 +9,7 @@ use lib.Dec.{T, eqb, leb, ltb, leb→le, eqb→eq}
 use borrow.Author.Tests.{eqb-true, eq-eqb, ne-eqb}
 use lib.ListN.{length}
 use Rattle.laws.proofs.Laws.{clash}
-use Rattle.grammars.specs.Grammar.{Sym, tok, nt, act}
+use Rattle.grammars.specs.code.Grammar.{Sym, tok, nt, act}
 use Rattle.grammars.proofs.Theory.{and-left, and-right}
 
 abbrev pub pickN : Bool → ℕ → ℕ → ℕ

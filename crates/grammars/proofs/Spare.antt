@@ -7,7 +7,7 @@ use mathlib.Core.Bool.{Bool, true, false}
 use native.Mathlib.Omega.{arith}
 use lib.Dec.{leb}
 use lib.ListN.{length}
-use Rattle.grammars.specs.Grammar.{Sym, tok, nt, act}
+use Rattle.grammars.specs.code.Grammar.{Sym, tok, nt, act}
 use Rattle.grammars.proofs.Room.{pickN}
 
 -- elements and names

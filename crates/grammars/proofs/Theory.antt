@@ -9,7 +9,7 @@ use native.Mathlib.Omega.{arith}
 use lib.Dec.{T, eqb, eqb→eq}
 use lib.ListN.{length, take}
 use borrow.Author.Tests.{eq-eqb, eqb-true, eqb-false}
-use Rattle.grammars.specs.Grammar.{Sym, tok, nt, act, Grammar, Gen, done, eat, skip, grow, look}
+use Rattle.grammars.specs.code.Grammar.{Sym, tok, nt, act, Grammar, Gen, done, eat, skip, grow, look}
 use Rattle.grammars.proofs.Running.{Out, good, bad, spent, choose, run}
 
 pub or-cases : (a b : Bool) → T (a || b) → T a ⊎ T b

@@ -6,8 +6,8 @@ use mathlib.Core.List.{List, [], _∷_, _++_}
 use mathlib.Core.Bool.{Bool, true, false, cond}
 use lib.Dec.{eqb}
 use borrow.Author.Tests.{eqb-true}
-use Rattle.grammars.specs.Grammar.{Sym, tok, nt, act, Grammar, look}
-use Rattle.grammars.specs.Actions.{Step, go, stop, End, read, bad, stopped, spent, chooseEnd, goOn, runs}
+use Rattle.grammars.specs.code.Grammar.{Sym, tok, nt, act, Grammar, look}
+use Rattle.grammars.specs.code.Actions.{Step, go, stop, End, read, bad, stopped, spent, chooseEnd, goOn, runs}
 
 -- From the row of symbols α, element k and the state s, the elements left being of the kinds w, a reading ends so.
 pub data Trail (S R : Type 0) (G : Grammar) (does : ℕ → ℕ → S → Step S R) : List Sym → ℕ → S → List ℕ → End S R → Type 0 where

@@ -14,11 +14,11 @@ use Rattle.places.specs.Places.{cellAt, within}
 use Rattle.records.specs.Records.{wordAt, isItem}
 use Rattle.pieces.specs.Records.{recordWords}
 use Rattle.puts.specs.Puts.{Wrote}
-use Rattle.puts.specs.Decimals.{decimalOf, signedOf, lineFeed}
-use Rattle.refused_line.specs.Refused.{refusal, place, count, refusedOf, linesBy}
+use Rattle.puts.specs.Decimals.{decimalOf, signedText, lineFeed}
+use Rattle.refused_line.specs.Refused.{refusal, place, counted, whole, refusedOf, linesBy}
 use Rattle.refused_line.proofs.Laws.{given-line, refused-line}
 use Rattle.puts.proofs.Laws.{then, then3, then4, named}
-use Rattle.item_lines.specs.Lines.{whole, spelledOf, claimOf, stateWord, stateWords, foldedOf, upperOf, valueOf, resultOf, itemOf, lineOf, wholeOf, headOf, listedLine, surveyLine, surveyLines}
+use Rattle.item_lines.specs.Lines.{spelledOf, claimText, stateWord, stateWords, foldedText, upperOf, valueText, resultOf, itemOf, lineOf, wholeText, headOf, listedLine, surveyLine, surveyLines}
 
 -- where the name's bytes stand in the text, and that the part is within it
 pub ends : (s : List ℕ) (x n : ℕ) (b : Bool) → b ≡ within s x n → b ≡ true → x + n ≤ length s
@@ -42,21 +42,21 @@ module _ {t t′ : List ℕ} {at r : ℕ} where
   pub state-put : (state k : ℕ) → state ≡ k → Wrote t at (stateWord k) t′ r → Wrote t at (stateWord state) t′ r
   state-put state k e p = named (ap stateWord e) p
 
-  pub number-put : (kind word : ℕ) → (kind ≡ 2 → ⊥) → Wrote t at (signedOf word) t′ r → Wrote t at (foldedOf kind word) t′ r
-  unfolding foldedOf
+  pub number-put : (kind word : ℕ) → (kind ≡ 2 → ⊥) → Wrote t at (signedText word) t′ r → Wrote t at (foldedText kind word) t′ r
+  unfolding foldedText
   number-put kind word h p = named (rw (ne-eqb kind 2 h)) p
 
-  pub false-put : (kind word : ℕ) → kind ≡ 2 → word ≡ 0 → Wrote t at (bytesOf "false") t′ r → Wrote t at (foldedOf kind word) t′ r
-  unfolding foldedOf
+  pub false-put : (kind word : ℕ) → kind ≡ 2 → word ≡ 0 → Wrote t at (bytesOf "false") t′ r → Wrote t at (foldedText kind word) t′ r
+  unfolding foldedText
   false-put kind word h k p = named (rw (eq-eqb kind 2 h, eq-eqb word 0 k)) p
 
-  pub true-put : (kind word : ℕ) → kind ≡ 2 → (word ≡ 0 → ⊥) → Wrote t at (bytesOf "true") t′ r → Wrote t at (foldedOf kind word) t′ r
-  unfolding foldedOf
+  pub true-put : (kind word : ℕ) → kind ≡ 2 → (word ≡ 0 → ⊥) → Wrote t at (bytesOf "true") t′ r → Wrote t at (foldedText kind word) t′ r
+  unfolding foldedText
   true-put kind word h k p = named (rw (eq-eqb kind 2 h, ne-eqb word 0 k)) p
 
   pub piece-put : (s els : List ℕ) (class e : ℕ) → (class ≡ 3 → ⊥) → (class ≡ 4 → ⊥) → Wrote t at (bytesOf " piece -") t′ r
-      → Wrote t at (claimOf s els class e) t′ r
-  unfolding claimOf
+      → Wrote t at (claimText s els class e) t′ r
+  unfolding claimText
   piece-put s els class e h k p = named (rw (ne-eqb class 3 h, ne-eqb class 4 k)) p
 
   pub no-upper : (class kind high : ℕ) → (class ≡ 4 → ⊥) → Wrote t at [] t′ r → Wrote t at (upperOf class kind high) t′ r
@@ -69,7 +69,7 @@ module _ {t t′ : List ℕ} {at r : ℕ} where
   state-result items i state e h p = named (rw (← e, ne-eqb state 0 h)) p
 
   pub value-result : (items : List ℕ) (i state class kind low high : ℕ) → state ≡ wordAt items i 4 → state ≡ 0 → class ≡ wordAt items i 0
-      → kind ≡ wordAt items i 5 → low ≡ wordAt items i 6 → high ≡ wordAt items i 7 → Wrote t at (valueOf class kind low high) t′ r
+      → kind ≡ wordAt items i 5 → low ≡ wordAt items i 6 → high ≡ wordAt items i 7 → Wrote t at (valueText class kind low high) t′ r
       → Wrote t at (resultOf items i) t′ r
   unfolding resultOf
   value-result items i state class kind low high e h a b c d p = named (rw (← e, ← a, ← b, ← c, ← d, eq-eqb state 0 h)) p
@@ -86,27 +86,27 @@ module _ {t t′ : List ℕ} {at r : ℕ} where
 
 module _ {t t₁ t′ : List ℕ} {at m r : ℕ} where
   pub constant-put : (s els : List ℕ) (class e : ℕ) → class ≡ 3 → Wrote t at (bytesOf " constant ") t₁ m → Wrote t₁ m (spelledOf s els e) t′ r
-      → Wrote t at (claimOf s els class e) t′ r
-  unfolding claimOf
+      → Wrote t at (claimText s els class e) t′ r
+  unfolding claimText
   constant-put s els class e h p q = named (rw (eq-eqb class 3 h)) (then p q)
 
   pub subtype-put : (s els : List ℕ) (class e : ℕ) → (class ≡ 3 → ⊥) → class ≡ 4 → Wrote t at (bytesOf " subtype ") t₁ m
-      → Wrote t₁ m (spelledOf s els e) t′ r → Wrote t at (claimOf s els class e) t′ r
-  unfolding claimOf
+      → Wrote t₁ m (spelledOf s els e) t′ r → Wrote t at (claimText s els class e) t′ r
+  unfolding claimText
   subtype-put s els class e k h p q = named (rw (ne-eqb class 3 k, eq-eqb class 4 h)) (then p q)
 
-  pub upper-put : (class kind high : ℕ) → class ≡ 4 → Wrote t at (bytesOf " to ") t₁ m → Wrote t₁ m (foldedOf kind high) t′ r
+  pub upper-put : (class kind high : ℕ) → class ≡ 4 → Wrote t at (bytesOf " to ") t₁ m → Wrote t₁ m (foldedText kind high) t′ r
       → Wrote t at (upperOf class kind high) t′ r
   unfolding upperOf
   upper-put class kind high h p q = named (rw (eq-eqb class 4 h)) (then p q)
 
 pub value-put : {t t₁ t₂ t₃ : List ℕ} {a b c d : ℕ} (class kind low high : ℕ) → Wrote t a (bytesOf " value ") t₁ b
-    → Wrote t₁ b (foldedOf kind low) t₂ c → Wrote t₂ c (upperOf class kind high) t₃ d → Wrote t a (valueOf class kind low high) t₃ d
-unfolding valueOf
+    → Wrote t₁ b (foldedText kind low) t₂ c → Wrote t₂ c (upperOf class kind high) t₃ d → Wrote t a (valueText class kind low high) t₃ d
+unfolding valueText
 value-put class kind low high p q u = then3 p q u
 
 pub item-put : {t t₁ t₂ t₃ t₄ : List ℕ} {a b c d e : ℕ} (s els items : List ℕ) (i class name : ℕ) → class ≡ wordAt items i 0
-    → name ≡ wordAt items i 3 → Wrote t a (decimalOf i) t₁ b → Wrote t₁ b (claimOf s els class name) t₂ c
+    → name ≡ wordAt items i 3 → Wrote t a (decimalOf i) t₁ b → Wrote t₁ b (claimText s els class name) t₂ c
     → Wrote t₂ c (resultOf items i) t₃ d → Wrote t₃ d (lineFeed ∷ []) t₄ e → Wrote t a (itemOf s els items i) t₄ e
 unfolding itemOf
 item-put s els items i class name k n p q u v = named (rw (← k, ← n)) (then4 p q u v)
@@ -122,16 +122,16 @@ range-put n a b c d e f g h i j p =
     let past : 10 ≤ n = on 9 n (on 8 n (on 7 n (on 6 n (on 5 n (on 4 n (on 3 n (on 2 n (on 1 n (on 0 n (omega arith) a) b) c) d) e) f) g) h) i) j in
     named (ap bytesOf (List·getD-eq-default stateWords " range" past)) p
 
-pub whole-put : {t t′ : List ℕ} {at r : ℕ} (w : ℕ) → w ≡ 1 → Wrote t at (bytesOf " whole yes\n") t′ r → Wrote t at (wholeOf w) t′ r
-unfolding wholeOf
+pub whole-put : {t t′ : List ℕ} {at r : ℕ} (w : ℕ) → w ≡ 1 → Wrote t at (bytesOf " whole yes\n") t′ r → Wrote t at (wholeText w) t′ r
+unfolding wholeText
 whole-put w h p = named (rw (eq-eqb w 1 h)) p
 
-pub part-put : {t t′ : List ℕ} {at r : ℕ} (w : ℕ) → (w ≡ 1 → ⊥) → Wrote t at (bytesOf " whole no\n") t′ r → Wrote t at (wholeOf w) t′ r
-unfolding wholeOf
+pub part-put : {t t′ : List ℕ} {at r : ℕ} (w : ℕ) → (w ≡ 1 → ⊥) → Wrote t at (bytesOf " whole no\n") t′ r → Wrote t at (wholeText w) t′ r
+unfolding wholeText
 part-put w h p = named (rw (ne-eqb w 1 h)) p
 
 pub head-put : {t t₁ t₂ t₃ : List ℕ} {a b c d : ℕ} (n w : ℕ) → Wrote t a (bytesOf "pieces ") t₁ b → Wrote t₁ b (decimalOf n) t₂ c
-    → Wrote t₂ c (wholeOf w) t₃ d → Wrote t a (headOf n w) t₃ d
+    → Wrote t₂ c (wholeText w) t₃ d → Wrote t a (headOf n w) t₃ d
 unfolding headOf
 head-put n w p q u = then3 p q u
 
@@ -147,7 +147,7 @@ module _ {t t′ : List ℕ} {at r : ℕ} (s els items answer : List ℕ) where
   unfolding surveyLine
   refused-survey i w x e h d p = refused-line answer (listedLine s els items answer) i w x e h d p
 
-  pub head-survey : (i w n k : ℕ) → w ≡ getD answer refusal 0 → w ≡ 0 → i ≡ 0 → n ≡ getD answer count 0 → k ≡ getD answer whole 0
+  pub head-survey : (i w n k : ℕ) → w ≡ getD answer refusal 0 → w ≡ 0 → i ≡ 0 → n ≡ getD answer counted 0 → k ≡ getD answer whole 0
       → Wrote t at (headOf n k) t′ r → Wrote t at (surveyLine s els items answer i) t′ r
   unfolding surveyLine listedLine
   head-survey i w n k e h z a b p =
@@ -159,8 +159,8 @@ module _ {t t′ : List ℕ} {at r : ℕ} (s els items answer : List ℕ) where
   item-survey i w e h z p = given-line answer (listedLine s els items answer) i w e h (named (line-of s els items answer i z) p)
 
 -- how many lines there are
-pub lines-of : (items answer : List ℕ) (r l n : ℕ) → r ≡ linesBy answer (l + 1) → l ≡ min n (length items / recordWords) → n ≡ getD answer count 0 → r ≡ surveyLines items answer
+pub lines-of : (items answer : List ℕ) (r l n : ℕ) → r ≡ linesBy answer (l + 1) → l ≡ min n (length items / recordWords) → n ≡ getD answer counted 0 → r ≡ surveyLines items answer
 unfolding surveyLines
 lines-of items answer r l n p q e =
-    let d : l + 1 ≡ suc (min (getD answer count 0) (length items / recordWords)) = omega arith in
+    let d : l + 1 ≡ suc (min (getD answer counted 0) (length items / recordWords)) = omega arith in
     p ∙ ap (λ (k : ℕ). linesBy answer k) d

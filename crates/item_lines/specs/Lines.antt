@@ -6,46 +6,26 @@ use mathlib.Core.List.{List, [], _∷_, _++_}
 use lib.Dec.{eqb}
 use lib.ListN.{length, getD, take, drop}
 use Rattle.words.specs.Words.{bytesOf}
-use Rattle.places.specs.Places.{cellAt, within}
+use Rattle.places.specs.Places.{firstColumn, sizeColumn, cellAt, within}
 use Rattle.pieces.specs.Records.{recordWords}
-use Rattle.records.specs.Records.{wordAt, isItem, state, kind, low, high}
-use Rattle.puts.specs.Decimals.{decimalOf, signedOf, lineFeed}
+use Rattle.pieces.specs.Classes.{constant, subtype}
+use Rattle.pieces.specs.Columns as column
+use Rattle.records.specs.Records.{wordAt, isItem}
+use Rattle.integers.specs.Numbers.{truthKind}
+use Rattle.puts.specs.Decimals.{decimalOf, signedText, lineFeed}
 use Rattle.puts.specs.Lines.{linesFrom}
-use Rattle.refused_line.specs.Refused.{count, lineBy, linesBy}
-
--- where the first byte and the length stand in a row of the element table
-abbrev pub firstByte : ℕ
-firstByte = 1
-
-abbrev pub byteCount : ℕ
-byteCount = 2
+use Rattle.refused_line.specs.Refused.{counted, whole, lineBy, linesBy}
 
 -- "Names print as spelled": the bytes of an element, none where the tables point outside
 unfoldable pub spelledOf : List ℕ → List ℕ → ℕ → List ℕ
 spelledOf text elements e =
-    cond (within text (cellAt elements e firstByte) (cellAt elements e byteCount)) (take (cellAt elements e byteCount) (drop (cellAt elements e firstByte) text)) []
-
--- where a record's class and its name's element stand; the classes of items that claim a name; the kind of a truth
-abbrev pub class : ℕ
-class = 0
-
-abbrev pub name : ℕ
-name = 3
-
-abbrev pub constantClass : ℕ
-constantClass = 3
-
-abbrev pub subtypeClass : ℕ
-subtypeClass = 4
-
-abbrev pub truthKind : ℕ
-truthKind = 2
+    cond (within text (cellAt elements e firstColumn) (cellAt elements e sizeColumn)) (take (cellAt elements e sizeColumn) (drop (cellAt elements e firstColumn) text)) []
 
 -- "The word after the number is `constant` or `subtype`, or `piece` with `-` for the name of an item that claims none."
-unfoldable pub claimOf : List ℕ → List ℕ → ℕ → ℕ → List ℕ
-claimOf text elements class name =
-    cond (eqb class constantClass) (bytesOf " constant " ++ spelledOf text elements name)
-    (cond (eqb class subtypeClass) (bytesOf " subtype " ++ spelledOf text elements name) (bytesOf " piece -"))
+unfoldable pub claimText : List ℕ → List ℕ → ℕ → ℕ → List ℕ
+claimText text elements class name =
+    cond (eqb class constant) (bytesOf " constant " ++ spelledOf text elements name)
+    (cond (eqb class subtype) (bytesOf " subtype " ++ spelledOf text elements name) (bytesOf " piece -"))
 
 -- "states by their word": those of the states 0 to 9; any other is `range`, 10
 unfoldable pub stateWords : List String
@@ -56,46 +36,42 @@ unfoldable pub stateWord : ℕ → List ℕ
 stateWord s = bytesOf (getD stateWords s " range")
 
 -- "truths print true or false": a number, or a truth
-unfoldable pub foldedOf : ℕ → ℕ → List ℕ
-foldedOf kind word = cond (eqb kind truthKind) (cond (eqb word 0) (bytesOf "false") (bytesOf "true")) (signedOf word)
+unfoldable pub foldedText : ℕ → ℕ → List ℕ
+foldedText kind word = cond (eqb kind truthKind) (cond (eqb word 0) (bytesOf "false") (bytesOf "true")) (signedText word)
 
 -- "a subtype `value LOW to HIGH`": its high end
 unfoldable pub upperOf : ℕ → ℕ → ℕ → List ℕ
-upperOf class kind high = cond (eqb class subtypeClass) (bytesOf " to " ++ foldedOf kind high) []
+upperOf class kind high = cond (eqb class subtype) (bytesOf " to " ++ foldedText kind high) []
 
 -- "`value` and the number, `true` or `false`, or for a subtype `value LOW to HIGH`"
-unfoldable pub valueOf : ℕ → ℕ → ℕ → ℕ → List ℕ
-valueOf class kind low high = bytesOf " value " ++ (foldedOf kind low ++ upperOf class kind high)
+unfoldable pub valueText : ℕ → ℕ → ℕ → ℕ → List ℕ
+valueText class kind low high = bytesOf " value " ++ (foldedText kind low ++ upperOf class kind high)
 
 -- "After the name": the value, or the state's word
 unfoldable pub resultOf : List ℕ → ℕ → List ℕ
 resultOf items i =
-    cond (eqb (wordAt items i state) 0) (valueOf (wordAt items i class) (wordAt items i kind) (wordAt items i low) (wordAt items i high))
-    (stateWord (wordAt items i state))
+    cond (eqb (wordAt items i column.state) 0) (valueText (wordAt items i column.class) (wordAt items i column.kind) (wordAt items i column.low) (wordAt items i column.high))
+    (stateWord (wordAt items i column.state))
 
 -- an item's line, "its number being its piece's"
 unfoldable pub itemOf : List ℕ → List ℕ → List ℕ → ℕ → List ℕ
 itemOf text elements items i =
-    decimalOf i ++ (claimOf text elements (wordAt items i class) (wordAt items i name) ++ (resultOf items i ++ (lineFeed ∷ [])))
+    decimalOf i ++ (claimText text elements (wordAt items i column.class) (wordAt items i column.name) ++ (resultOf items i ++ (lineFeed ∷ [])))
 
 -- "A line for each item, in order": a heading or a closing has none
 unfoldable pub lineOf : List ℕ → List ℕ → List ℕ → ℕ → List ℕ
-lineOf text elements items i = cond (isItem (wordAt items i class)) (itemOf text elements items i) []
-
--- where a survey's answer has whether it is whole
-abbrev pub whole : ℕ
-whole = 4
+lineOf text elements items i = cond (isItem (wordAt items i column.class)) (itemOf text elements items i) []
 
 -- "pieces 6 whole no": the first line
-unfoldable pub wholeOf : ℕ → List ℕ
-wholeOf w = cond (eqb w 1) (bytesOf " whole yes\n") (bytesOf " whole no\n")
+unfoldable pub wholeText : ℕ → List ℕ
+wholeText w = cond (eqb w 1) (bytesOf " whole yes\n") (bytesOf " whole no\n")
 
 unfoldable pub headOf : ℕ → ℕ → List ℕ
-headOf pieces w = bytesOf "pieces " ++ (decimalOf pieces ++ wholeOf w)
+headOf pieces w = bytesOf "pieces " ++ (decimalOf pieces ++ wholeText w)
 
 -- the lines by their numbers: the head, and then a record's, if it is an item's
 unfoldable pub listedLine : List ℕ → List ℕ → List ℕ → List ℕ → ℕ → List ℕ
-listedLine text elements items answer zero = headOf (getD answer count 0) (getD answer whole 0)
+listedLine text elements items answer zero = headOf (getD answer counted 0) (getD answer whole 0)
 listedLine text elements items answer (suc i) = lineOf text elements items i
 
 -- those of any answer, and how many there are: no more records are listed than the table has
@@ -103,7 +79,7 @@ unfoldable pub surveyLine : List ℕ → List ℕ → List ℕ → List ℕ → 
 surveyLine text elements items answer = lineBy answer (listedLine text elements items answer)
 
 unfoldable pub surveyLines : List ℕ → List ℕ → ℕ
-surveyLines items answer = linesBy answer (suc (min (getD answer count 0) (length items / recordWords)))
+surveyLines items answer = linesBy answer (suc (min (getD answer counted 0) (length items / recordWords)))
 
 -- the listing: all of them
 unfoldable pub surveyListing : List ℕ → List ℕ → List ℕ → List ℕ → List ℕ

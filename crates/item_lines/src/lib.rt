@@ -6,17 +6,31 @@ use puts::Filled;
 use refused_line::COUNT;
 use refused_line::PLACE;
 use refused_line::REFUSAL;
+use refused_line::WHOLE;
 ghost use mathlib.Core.Path.{_≡_};
 ghost use lib.ListN.{length};
 ghost use Rattle.puts.specs.Puts.{Wrote};
 ghost use Rattle.puts.specs.Lines.{Part};
-ghost use Rattle.item_lines.specs.Lines.{spelledOf, claimOf, stateWord, foldedOf, upperOf, valueOf, resultOf, itemOf, lineOf, wholeOf, headOf, surveyLine, surveyLines};
+ghost use Rattle.item_lines.specs.Lines.{spelledOf, claimText, stateWord, foldedText, upperOf, valueText, resultOf, itemOf, lineOf, wholeText, headOf, surveyLine, surveyLines};
 
-// The kind of a truth.
-const TRUTH: u64 = 2;
+// The states, by the words of a record.
+const BROKEN: u64 = states::BROKEN as u64;
 
-// Where a survey's answer has whether it is whole.
-const WHOLE: usize = 4;
+const DOUBLED: u64 = states::DOUBLED as u64;
+
+const UNFOLDED: u64 = states::UNFOLDED as u64;
+
+const UNKNOWN: u64 = states::UNKNOWN as u64;
+
+const LEANS: u64 = states::LEANS as u64;
+
+const KIND: u64 = states::KIND as u64;
+
+const DIVISOR: u64 = states::DIVISOR as u64;
+
+const EXPONENT: u64 = states::EXPONENT as u64;
+
+const SIZE: u64 = states::SIZE as u64;
 
 // "Names print as spelled": the bytes of an element, none where the tables point outside.
 pub fn put_name(text: &[u8], elements: &[u64], name: u64, out: &mut [u8], at: usize) -> usize
@@ -42,7 +56,7 @@ fn put_claim(
     out: &mut [u8],
     at: usize,
 ) -> usize
-    ensures { λ r. ⌜ Wrote (now (out .entry)) at (claimOf (now (text .entry)) (now (elements .entry)) class name) (now (out .exit)) r ⌝ }
+    ensures { λ r. ⌜ Wrote (now (out .entry)) at (claimText (now (text .entry)) (now (elements .entry)) class name) (now (out .exit)) r ⌝ }
 {
     if class == pieces::CONSTANT {
         let w = puts::put_bytes(b" constant ", out, at);
@@ -61,24 +75,24 @@ pub fn put_state(state: u64, out: &mut [u8], at: usize) -> usize
 {
     match state {
         0 => puts::put_none(out, at),
-        1 => puts::put_bytes(b" broken", out, at),
-        2 => puts::put_bytes(b" doubled", out, at),
-        3 => puts::put_bytes(b" unfolded", out, at),
-        4 => puts::put_bytes(b" unknown", out, at),
-        5 => puts::put_bytes(b" leans", out, at),
-        6 => puts::put_bytes(b" kind", out, at),
-        7 => puts::put_bytes(b" divisor", out, at),
-        8 => puts::put_bytes(b" exponent", out, at),
-        9 => puts::put_bytes(b" size", out, at),
+        BROKEN => puts::put_bytes(b" broken", out, at),
+        DOUBLED => puts::put_bytes(b" doubled", out, at),
+        UNFOLDED => puts::put_bytes(b" unfolded", out, at),
+        UNKNOWN => puts::put_bytes(b" unknown", out, at),
+        LEANS => puts::put_bytes(b" leans", out, at),
+        KIND => puts::put_bytes(b" kind", out, at),
+        DIVISOR => puts::put_bytes(b" divisor", out, at),
+        EXPONENT => puts::put_bytes(b" exponent", out, at),
+        SIZE => puts::put_bytes(b" size", out, at),
         _ => puts::put_bytes(b" range", out, at),
     }
 }
 
 // A number or, of kind 2, a truth.
 fn put_folded(kind: u64, word: u64, out: &mut [u8], at: usize) -> usize
-    ensures { λ r. ⌜ Wrote (now (out .entry)) at (foldedOf kind word) (now (out .exit)) r ⌝ }
+    ensures { λ r. ⌜ Wrote (now (out .entry)) at (foldedText kind word) (now (out .exit)) r ⌝ }
 {
-    if kind != TRUTH {
+    if kind != integers::KIND_TRUTH {
         return puts::put_signed(word, out, at);
     }
     if word == 0 {
@@ -99,7 +113,7 @@ fn put_upper(class: u64, kind: u64, high: u64, out: &mut [u8], at: usize) -> usi
 }
 
 fn put_value(class: u64, kind: u64, low: u64, high: u64, out: &mut [u8], at: usize) -> usize
-    ensures { λ r. ⌜ Wrote (now (out .entry)) at (valueOf class kind low high) (now (out .exit)) r ⌝ }
+    ensures { λ r. ⌜ Wrote (now (out .entry)) at (valueText class kind low high) (now (out .exit)) r ⌝ }
 {
     let a = puts::put_bytes(b" value ", out, at);
     let b = put_folded(kind, low, out, a);
@@ -165,7 +179,7 @@ pub fn put_line(
 }
 
 fn put_whole(whole: u64, out: &mut [u8], at: usize) -> usize
-    ensures { λ r. ⌜ Wrote (now (out .entry)) at (wholeOf whole) (now (out .exit)) r ⌝ }
+    ensures { λ r. ⌜ Wrote (now (out .entry)) at (wholeText whole) (now (out .exit)) r ⌝ }
 {
     if whole == 1 {
         return puts::put_bytes(b" whole yes\n", out, at);

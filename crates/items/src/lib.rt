@@ -1,8 +1,8 @@
 // The items of a package, folded from the first to the last: each finds those above it done. Every public function takes any tables.
-use expressions::FIRST;
-use expressions::ROW_NUMBERS;
-use expressions::ROWS;
 use folding::Outcome;
+use form_numbers::FIRST;
+use form_numbers::ROW_NUMBERS;
+use form_numbers::ROWS;
 use pieces::RECORD_WORDS;
 use places::ElementNumber;
 use values::Value;
@@ -75,7 +75,7 @@ fn is_doubled(text: &[u8], elements: &[u64], twins: &[u64], items: &[u64], i: us
     names::language(
         text,
         elements,
-        records::word(items, i, pieces::NAME) as usize,
+        ElementNumber(records::word(items, i, pieces::NAME) as usize),
     )
         != 0
 }

@@ -9,7 +9,8 @@ use Rattle.element_reading.specs.declared.Reading.{Reading}
 use Rattle.element_reading.specs.declared.Reading.the-variants as R
 use Rattle.refusals.specs.Refusals.{strictNumber, strictPlace}
 use Rattle.refusals.specs.declared.StrictRefusal.{StrictRefusal}
-use Rattle.strict_reading.specs.Permitted.{Permitted}
+use Rattle.strict_reading.specs.Permitted as strict
+use Rattle.survey_reading.specs.Permitted as survey
 use Rattle.strict_reading.specs.declared.Strict.{Strict}
 use Rattle.strict_reading.specs.declared.Strict.the-variants as S
 use Rattle.verdict.specs.declared.Verdict.{Verdict}
@@ -17,11 +18,12 @@ use Rattle.verdict.specs.declared.Verdict.the-variants.{Passes, NotSupported}
 use Rattle.refusals.specs.Refusals.{surveyNumber, surveyPlace}
 use Rattle.refusals.specs.declared.SurveyRefusal.{SurveyRefusal}
 use Rattle.survey_reading.specs.declared.Summary.{Summary}
-use Rattle.survey_reading.specs.declared.Outcome.the-variants as O
+use Rattle.survey_reading.specs.declared.Ended.the-variants as O
 use Rattle.survey_reading.specs.declared.Survey.{Survey}
 use Rattle.records.specs.Tallies.{oneIf}
-use Rattle.kawhiluhe.specs.Numbers.{elementNumbers, strictNumbers, StrictPermitted, pairNumber, earlierNumber, laterNumber, surveyNumbers}
+use Rattle.kawhiluhe.specs.Numbers.{elementNumbers, strictNumbers, StrictPermitted, pairNumber, earlierNumber, laterNumber, surveyNumbers, SurveyPermitted}
 use Rattle.kawhiluhe.specs.declared.Judged.{Judged}
+use Rattle.kawhiluhe.specs.declared.Surveyed.{Surveyed}
 
 pub elements-read : (r : Reading) (e : ElementNumber) → r ≡ R.Read e → record { refusal = 0; place = 0; elements = e .0 } ≡ elementNumbers r
 elements-read r e h = sym (ap elementNumbers h)
@@ -30,7 +32,7 @@ pub elements-refused : (r : Reading) (x : Refusal) (n p : ℕ) → r ≡ R.Refus
     → record { refusal = n; place = p; elements = 0 } ≡ elementNumbers r
 elements-refused r x n p h e f = rw (h, e, f)
 
-pub strict-permits : (text : List ℕ) (ew tw : ℕ) (a : Strict) (j : Judged) (e t : List ℕ) → j ≡ strictNumbers a → Permitted text ew tw a e t → StrictPermitted text ew tw j e t
+pub strict-permits : (text : List ℕ) (ew tw : ℕ) (a : Strict) (j : Judged) (e t : List ℕ) → j ≡ strictNumbers a → strict.Permitted text ew tw a e t → StrictPermitted text ew tw j e t
 strict-permits text ew tw a j e t p q = (a, (p, q))
 
 pub strict-passes : (x : Strict) (rows : ℕ) (v : Verdict) (n : Judged) → x ≡ S.Read rows v → v ≡ Passes
@@ -53,3 +55,6 @@ survey-done x s f w a b d h e₁ e₂ e₃ e₄ e₅ = rw (h, e₁, e₂, e₃, 
 pub survey-refused : (x : Survey) (r : SurveyRefusal) (n p : ℕ) → x .outcome ≡ O.Refused r → n ≡ surveyNumber r → p ≡ surveyPlace r
     → record { refusal = n; place = p; pieces = 0; frame = 0; whole = 0; pair = 0; earlier = 0; later = 0; tally = x .tally .counts } ≡ surveyNumbers x
 survey-refused x r n p h e f = rw (h, e, f)
+
+pub survey-permits : (text : List ℕ) (ew iw : ℕ) (a : Survey) (y : Surveyed) (e i : List ℕ) → y ≡ surveyNumbers a → survey.Permitted text ew iw a e i → SurveyPermitted text ew iw y e i
+survey-permits text ew iw a y e i p q = (a, (p, q))

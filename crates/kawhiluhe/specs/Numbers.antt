@@ -8,14 +8,15 @@ use Rattle.element_reading.specs.declared.Reading.the-variants as R
 use Rattle.refusals.specs.Refusals.{strictNumber, strictPlace}
 use Rattle.strict_reading.specs.declared.Strict.{Strict}
 use Rattle.strict_reading.specs.declared.Strict.the-variants as S
-use Rattle.strict_reading.specs.Permitted.{Permitted}
+use Rattle.strict_reading.specs.Permitted as strict
+use Rattle.survey_reading.specs.Permitted as survey
 use Rattle.verdict.specs.declared.Verdict.the-variants.{Passes, NotSupported}
 use Rattle.records.specs.Tallies.{oneIf}
 use Rattle.pairs.specs.declared.Pair.{Pair}
 use Rattle.pairs.specs.declared.Pair.the-variants.{Both, Neither}
 use Rattle.refusals.specs.Refusals.{surveyNumber, surveyPlace}
-use Rattle.survey_reading.specs.declared.Outcome.{Outcome}
-use Rattle.survey_reading.specs.declared.Outcome.the-variants.{Done, Refused}
+use Rattle.survey_reading.specs.declared.Ended.{Ended}
+use Rattle.survey_reading.specs.declared.Ended.the-variants.{Done, Refused}
 use Rattle.survey_reading.specs.declared.Survey.{Survey}
 use Rattle.lookup.specs.declared.Found.{Found}
 use Rattle.lookup.specs.declared.Found.the-variants.{At, Nothing}
@@ -36,7 +37,7 @@ strictNumbers (S.Refused r) = record { refusal = strictNumber r; place = strictP
 
 -- what it may answer in these numbers, and leave in the two lent tables
 abbrev pub StrictPermitted : List ℕ → ℕ → ℕ → Judged → (elements tree : List ℕ) → Type 0
-StrictPermitted text elementWords treeWords j elements tree = (a : Strict) × ((j ≡ strictNumbers a) × Permitted text elementWords treeWords a elements tree)
+StrictPermitted text elementWords treeWords j elements tree = (a : Strict) × ((j ≡ strictNumbers a) × strict.Permitted text elementWords treeWords a elements tree)
 
 -- whether there is a pair, its earlier piece and its later one
 abbrev pub pairNumber : Pair → ℕ
@@ -52,7 +53,7 @@ laterNumber (Both i j) = j
 laterNumber Neither = 0
 
 -- the survey's: a refusal and its place, or pieces, frame, whole and pair; and the tally, which is all zeros on a refusal
-abbrev pub outcomeNumbers : Outcome → List ℕ → Surveyed
+abbrev pub outcomeNumbers : Ended → List ℕ → Surveyed
 outcomeNumbers (Done s) counts = record {
   refusal = 0;
   place = 0;
@@ -69,6 +70,9 @@ outcomeNumbers (Refused r) counts =
 
 abbrev pub surveyNumbers : Survey → Surveyed
 surveyNumbers x = outcomeNumbers (x .outcome) (x .tally .counts)
+
+abbrev pub SurveyPermitted : List ℕ → ℕ → ℕ → Surveyed → (elements items : List ℕ) → Type 0
+SurveyPermitted text elementWords itemWords y elements items = (a : Survey) × ((y ≡ surveyNumbers a) × survey.Permitted text elementWords itemWords a elements items)
 
 -- the record's number, or another number where there is none
 abbrev pub foundNumber : Found → ℕ → ℕ

@@ -2,6 +2,7 @@
 use Prim.Native.Nat.{ℕ}
 use mathlib.Core.List.{List, [], _∷_}
 use lib.ListN.{getD}
+use Rattle.states.specs.States as state
 use Rattle.kawhiluhe.specs.declared.Elements.{Elements}
 use Rattle.kawhiluhe.specs.declared.Judged.{Judged}
 use Rattle.kawhiluhe.specs.declared.Surveyed.{Surveyed}
@@ -17,7 +18,8 @@ judgedWords x = x .refusal ∷ x .place ∷ x .rows ∷ x .passes ∷ x .row ∷
 -- the eleven counts of a tally, by their states
 unfoldable pub countsOf : List ℕ → List ℕ
 countsOf t =
-    getD t 0 0 ∷ getD t 1 0 ∷ getD t 2 0 ∷ getD t 3 0 ∷ getD t 4 0 ∷ getD t 5 0 ∷ getD t 6 0 ∷ getD t 7 0 ∷ getD t 8 0 ∷ getD t 9 0 ∷ getD t 10 0 ∷ []
+    getD t 0 0 ∷ getD t state.broken 0 ∷ getD t state.doubled 0 ∷ getD t state.unfolded 0 ∷ getD t state.unknown 0 ∷ getD t state.leans 0 ∷ getD t state.kind 0
+    ∷ getD t state.divisor 0 ∷ getD t state.exponent 0 ∷ getD t state.size 0 ∷ getD t state.range 0 ∷ []
 
 -- the survey's
 unfoldable pub surveyedWords : Surveyed → List ℕ

@@ -7,17 +7,17 @@ use lookup::Item;
 use pairs::Pair;
 use pieces::RECORD_WORDS;
 use puts::Filled;
+use states::STATES;
 use strict_reading::Strict;
-use survey_reading::Outcome;
+use survey_reading::Ended;
 use survey_reading::Survey;
 use verdict::Verdict;
 ghost use mathlib.Core.Path.{_≡_};
 ghost use Prim.Native.Nat.{_/_};
 ghost use lib.ListN.{length};
 ghost use Rattle.element_reading.specs.Reading.{readingOf, tableOf};
-ghost use Rattle.survey_reading.specs.Survey.{surveyOf, elementsAfter as surveyElements, itemsAfter};
 ghost use Rattle.lookup.specs.Lookup.{foundOf};
-ghost use Rattle.lookup.specs.Structs.{wordsOf};
+ghost use Rattle.lookup.specs.Structs.{structWords};
 ghost use Rattle.pieces.specs.Records.{recordWords};
 ghost use Rattle.records.specs.Tallies.{oneIf};
 ghost use Rattle.puts.specs.Lines.{Part};
@@ -26,7 +26,16 @@ ghost use Rattle.record_lines.specs.Lines.{recordLine, recordLines};
 ghost use Rattle.tree_lines.specs.Lines.{treeLine, treeLines};
 ghost use Rattle.element_lines.specs.Lines.{elementLine, elementLines};
 ghost use Rattle.kawhiluhe.specs.Words.{elementWords, judgedWords, surveyedWords};
-ghost use Rattle.kawhiluhe.specs.Numbers.{elementNumbers, strictNumbers, StrictPermitted, pairNumber, earlierNumber, laterNumber, surveyNumbers, foundNumber};
+ghost use Rattle.kawhiluhe.specs.Numbers.{elementNumbers, strictNumbers, StrictPermitted, pairNumber, earlierNumber, laterNumber, surveyNumbers, SurveyPermitted, foundNumber};
+
+// How many words each answer has; a survey's end with its tally.
+const ELEMENT_WORDS: usize = 3;
+
+const JUDGED_WORDS: usize = 5;
+
+const BESIDE_TALLY: usize = 8;
+
+const SURVEYED_WORDS: usize = BESIDE_TALLY + STATES;
 
 // The element reader's answer.
 #[repr(C)]
@@ -58,7 +67,7 @@ pub struct Surveyed {
     pub pair: u64,
     pub earlier: u64,
     pub later: u64,
-    pub tally: [u64; 11],
+    pub tally: [u64; STATES],
 }
 
 fn element_numbers(r: Reading) -> Elements
@@ -147,7 +156,7 @@ fn survey_numbers(x: Survey) -> Surveyed
     let outcome = x.outcome;
     let tally = x.tally.counts;
     match outcome {
-        Outcome::Done(s) => {
+        Ended::Done(s) => {
             let pair = s.pair;
             Surveyed {
                 refusal: 0,
@@ -161,7 +170,7 @@ fn survey_numbers(x: Survey) -> Surveyed
                 tally: tally,
             }
         }
-        Outcome::Refused(r) => Surveyed {
+        Ended::Refused(r) => Surveyed {
             refusal: refusals::survey_number(r),
             place: refusals::survey_place(r) as u64,
             pieces: 0,
@@ -204,9 +213,7 @@ pub extern "C" fn kawhiluhe_strict(text: &[u8], elements: &mut [u64], tree: &mut
 // The survey of a package: its elements, and a record of eight words to each piece.
 #[no_mangle]
 pub extern "C" fn kawhiluhe_survey(text: &[u8], elements: &mut [u64], items: &mut [u64]) -> Surveyed
-    ensures { λ r. ⌜ r ≡ surveyNumbers (surveyOf (now (text .entry)) (length (now (elements .entry))) (length (now (items .entry)))) ⌝ }
-    ensures { λ r. ⌜ now (elements .exit) ≡ surveyElements (now (text .entry)) (length (now (elements .entry))) (length (now (items .entry))) ⌝ }
-    ensures { λ r. ⌜ now (items .exit) ≡ itemsAfter (now (text .entry)) (length (now (elements .entry))) (length (now (items .entry))) ⌝ }
+    ensures { λ r. ⌜ SurveyPermitted (now (text .entry)) (length (now (elements .entry))) (length (now (items .entry))) r (now (elements .exit)) (now (items .exit)) ⌝ }
 {
     survey_numbers(survey_reading::read_survey(text, elements, items))
 }
@@ -228,7 +235,7 @@ pub extern "C" fn kawhiluhe_lookup_items<'a>(
     name: &'a [u8],
     items: &'a [Item],
 ) -> u64
-    ensures { λ r. ⌜ r ≡ foundNumber (foundOf (now (text .entry)) (now (elements .entry)) (now (name .entry)) (wordsOf (now (items .entry)))) (length (now (items .entry))) ⌝ }
+    ensures { λ r. ⌜ r ≡ foundNumber (foundOf (now (text .entry)) (now (elements .entry)) (now (name .entry)) (structWords (now (items .entry)))) (length (now (items .entry))) ⌝ }
 {
     let found = lookup::lookup_items(text, elements, name, items);
     let none = items.len() as u64;
@@ -236,20 +243,20 @@ pub extern "C" fn kawhiluhe_lookup_items<'a>(
 }
 
 // The words of an answer, one after the other, as the functions below are lent them.
-pub fn element_words(x: Elements) -> [u64; 3]
+pub fn element_words(x: Elements) -> [u64; ELEMENT_WORDS]
     ensures { λ r. ⌜ r ≡ elementWords x ⌝ }
 {
     [x.refusal, x.place, x.elements]
 }
 
-pub fn judged_words(x: Judged) -> [u64; 5]
+pub fn judged_words(x: Judged) -> [u64; JUDGED_WORDS]
     ensures { λ r. ⌜ r ≡ judgedWords x ⌝ }
 {
     [x.refusal, x.place, x.rows, x.passes, x.row]
 }
 
 // The tally's eleven counts stand after the eight other words.
-pub fn surveyed_words(x: Surveyed) -> [u64; 19]
+pub fn surveyed_words(x: Surveyed) -> [u64; SURVEYED_WORDS]
     ensures { λ r. ⌜ r ≡ surveyedWords x ⌝ }
 {
     let t = x.tally;
@@ -263,16 +270,16 @@ pub fn surveyed_words(x: Surveyed) -> [u64; 19]
         x.earlier,
         x.later,
         t[0],
-        t[1],
-        t[2],
-        t[3],
-        t[4],
-        t[5],
-        t[6],
-        t[7],
-        t[8],
-        t[9],
-        t[10],
+        t[states::BROKEN as usize],
+        t[states::DOUBLED as usize],
+        t[states::UNFOLDED as usize],
+        t[states::UNKNOWN as usize],
+        t[states::LEANS as usize],
+        t[states::KIND as usize],
+        t[states::DIVISOR as usize],
+        t[states::EXPONENT as usize],
+        t[states::SIZE as usize],
+        t[states::RANGE as usize],
     ]
 }
 

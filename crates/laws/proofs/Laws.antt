@@ -5,7 +5,8 @@ use mathlib.Core.List.{List, [], _∷_}
 use Prim.Native.Nat.{ℕ, zero, suc, min}
 use native.Mathlib.Nat.{zero-min, min-zero, suc-min-suc}
 use native.Mathlib.Omega.{arith}
-use lib.ListN.{length, take}
+use lib.Dec.{T}
+use lib.ListN.{length, take, getD, replicate}
 
 -- where two constructors would be one, anything holds
 pub clash : {A : Type 0} → _≡_ {A = ℕ} 0 1 → A
@@ -30,3 +31,14 @@ pub cut : (k : ℕ) (l : List ℕ) → take (min k (length l)) l ≡ take k l
 cut zero l = rw (zero-min (length l))
 cut (suc k) [] = rw (min-zero (suc k))
 cut (suc k) (x ∷ l) = rw (suc-min-suc k (length l)) (ap (λ (m : List ℕ). x ∷ m) (cut k l))
+
+-- what is so is true
+pub is-true : (b : Bool) → T b → b ≡ true
+is-true true h = refl
+is-true false h = absurd h
+
+-- a table of zeros has nothing but zeros, and past its end nothing else is read
+pub zeros-at : (n k : ℕ) → _≡_ {A = ℕ} (getD (replicate n 0) k 0) 0
+zeros-at zero k = refl
+zeros-at (suc n) zero = refl
+zeros-at (suc n) (suc k) = zeros-at n k

@@ -4,7 +4,7 @@ use mathlib.Core.Path.{refl, ap, sym, _∙_}
 use mathlib.Core.List.{List}
 use Rattle.strict_reading.specs.declared.Strict.{Strict}
 use Rattle.survey_reading.specs.declared.Survey.{Survey}
-use Rattle.survey_reading.specs.Survey.{surveyOf, elementsAfter, itemsAfter}
+use Rattle.survey_reading.specs.code.Survey.{surveyOf, elementsAfter, itemsAfter}
 use Rattle.survey_reading.proofs.Permits as survey
 use Rattle.strict_reading.proofs.Promises as strict
 use Rattle.item_lines.specs.Lines.{surveyListing}

@@ -4,8 +4,8 @@ use Prim.Native.Nat.{ℕ, _-_, _*_}
 use mathlib.Core.Path.{_≡_, refl, ap, sym, _∙_}
 use mathlib.Core.List.{List, [], _∷_, _++_}
 use lib.ListN.{length, replicate}
-use Rattle.places.specs.Places.{rowWords, cellAt}
-use Rattle.pieces.specs.Records.{recordWords, marking}
+use Rattle.places.specs.Places.{rowWords, cellAt, kindsOf}
+use Rattle.pieces.specs.Records.{recordWords, recording, nameOf, piecesIn}
 use Rattle.element_reading.specs.Rows.{rowsOf}
 use Rattle.element_reading.specs.Table.{cells}
 use Rattle.element_reading.specs.Reading.{readingOf, tableOf, tableBy}
@@ -14,20 +14,21 @@ use Rattle.element_reading.specs.declared.Reading.the-variants.{Read}
 use Rattle.same_names.specs.Alike.{agree, spelledSame, sameName}
 use Rattle.records.specs.Records.{wordAt, itemState}
 use Rattle.records.specs.Tallies.{inState, countsFrom, tallyOf}
-use Rattle.records.specs.Frames.{allItems, nameAgrees, frameGood, wholeOf}
-use Rattle.names.specs.Names.{share, sharedPair}
-use Rattle.pairs.specs.Pairs.{laterOf, pairFrom}
+use Rattle.records.specs.Frames.{nameAgrees, goodIn, frameGood, wholeOf}
+use Rattle.pieces.specs.Frames.{lastFramed, framedFrom, frameOf}
+use Rattle.names.specs.code.Names.{share, sharedPair}
+use Rattle.pairs.specs.code.Pairs.{laterOf, pairFrom}
 use Rattle.meaning.specs.Elements.{piecesOf}
-use Rattle.meaning.specs.Items.{recordsOf}
+use Rattle.meaning.specs.code.PieceValues.{recordsOf}
 use Rattle.survey_reading.specs.declared.Survey.{Survey}
-use Rattle.survey_reading.specs.Survey.{itemTable, summedOf, summary, byMarking, byReading, surveyOf, left, elementsAfter, itemsAfter}
+use Rattle.survey_reading.specs.code.Survey.{itemTable, summedOf, summary, byRecording, byReading, surveyOf, left, elementsAfter, itemsAfter}
 use Rattle.survey_reading.proofs.Permits.{permits}
 use Rattle.words.specs.Words.{bytesOf}
-use Rattle.puts.specs.Decimals.{digitsOf, decimalOf, signedOf, fieldOf, fieldsOf}
+use Rattle.puts.specs.Decimals.{digitsOf, decimalOf, signedText, fieldOf, fieldsOf}
 use Rattle.puts.specs.Lines.{linesFrom}
 use Rattle.refused_line.specs.Refused.{lineBy, linesBy}
 use Rattle.item_lines.specs.Lines as item
-use Rattle.item_lines.specs.Lines.{spelledOf, claimOf, stateWords, stateWord, foldedOf, upperOf, valueOf, resultOf, itemOf, lineOf, surveyLine, surveyLines, surveyListing}
+use Rattle.item_lines.specs.Lines.{spelledOf, claimText, stateWords, stateWord, foldedText, upperOf, valueText, resultOf, itemOf, lineOf, surveyLine, surveyLines, surveyListing}
 use Rattle.record_lines.specs.Lines as record-lines
 use Rattle.record_lines.specs.Lines.{recordListing}
 use Rattle.element_lines.specs.Lines as element-lines
@@ -94,17 +95,18 @@ item-table-is =
     ∙ ap (λ (n : ℕ). gasItems ++ replicate (itemRoom - recordWords * n) 0) pieces-are
 
 -- the answer
-survey-by : surveyOf gas elementRoom itemRoom ≡ summary gas (tableOf gas elementRoom) (itemTable gas itemRoom) 6
-unfolding surveyOf marking
+survey-by : surveyOf gas elementRoom itemRoom ≡ summary gas (tableOf gas elementRoom) 38 (itemTable gas itemRoom) 6
+unfolding surveyOf recording
 survey-by =
     ap (λ (r : Reading). byReading r gas (tableOf gas elementRoom) itemRoom) reading-is
-    ∙ ap (λ (n : ℕ). byMarking (marking n itemRoom) gas (tableOf gas elementRoom) (itemTable gas itemRoom)) pieces-are
+    ∙ ap (λ (n : ℕ). byRecording (recording n itemRoom) gas (tableOf gas elementRoom) (length (rowsOf gas)) (itemTable gas itemRoom)) pieces-are
+    ∙ ap (λ (k : ℕ). summary gas (tableOf gas elementRoom) k (itemTable gas itemRoom) 6) count-is
 
-survey-is : surveyOf gas elementRoom itemRoom ≡ summary gas gasElements gasTable 6
+survey-is : surveyOf gas elementRoom itemRoom ≡ summary gas gasElements 38 gasTable 6
 survey-is =
     survey-by
-    ∙ ap (λ (t : List ℕ). summary gas t (itemTable gas itemRoom) 6) table-is
-    ∙ ap (λ (t : List ℕ). summary gas gasElements t 6) item-table-is
+    ∙ ap (λ (t : List ℕ). summary gas t 38 (itemTable gas itemRoom) 6) table-is
+    ∙ ap (λ (t : List ℕ). summary gas gasElements 38 t 6) item-table-is
 
 elements-left : elementsAfter gas elementRoom itemRoom ≡ gasElements
 unfolding elementsAfter summary summedOf
@@ -118,12 +120,12 @@ items-left = ap (λ (x : Survey). left (x .outcome) itemRoom (itemTable gas item
 gasAnswer : List ℕ
 gasAnswer = 0 ∷ 0 ∷ 6 ∷ 1 ∷ 0 ∷ 0 ∷ 0 ∷ 0 ∷ 2 ∷ 1 ∷ 0 ∷ 0 ∷ 0 ∷ 1 ∷ 0 ∷ 0 ∷ 0 ∷ 0 ∷ 0 ∷ []
 
-answer-is : surveyedWords (surveyNumbers (summary gas gasElements gasTable 6)) ≡ gasAnswer
-unfolding surveyedWords countsOf summary summedOf gasAnswer gasElements gasTable gasRows gasItems computing agree spelledSame sameName wordAt itemState inState countsFrom tallyOf allItems nameAgrees frameGood wholeOf share sharedPair laterOf pairFrom cellAt
+answer-is : surveyedWords (surveyNumbers (summary gas gasElements 38 gasTable 6)) ≡ gasAnswer
+unfolding surveyedWords countsOf summary summedOf gasAnswer gasElements gasTable gasRows gasItems computing agree spelledSame sameName wordAt itemState inState countsFrom tallyOf lastFramed framedFrom frameOf nameOf piecesIn kindsOf nameAgrees goodIn frameGood wholeOf share sharedPair laterOf pairFrom cellAt
 answer-is = refl
 
 lines-are : surveyListing gas gasElements gasTable gasAnswer ≡ gasListing
-unfolding gasAnswer gasElements gasTable gasRows gasItems wordAt cellAt digitsOf decimalOf signedOf linesFrom lineBy linesBy spelledOf claimOf stateWords stateWord foldedOf upperOf valueOf resultOf itemOf lineOf item.wholeOf item.headOf item.listedLine surveyLine surveyLines surveyListing bytesOf
+unfolding gasAnswer gasElements gasTable gasRows gasItems wordAt cellAt digitsOf decimalOf signedText linesFrom lineBy linesBy spelledOf claimText stateWords stateWord foldedText upperOf valueText resultOf itemOf lineOf item.wholeText item.headOf item.listedLine surveyLine surveyLines surveyListing bytesOf
 lines-are = refl
 
 pub sample : Sample
@@ -147,7 +149,7 @@ sample = (
 )
 
 record-lines-are : recordListing gasTable gasAnswer ≡ gasRecords
-unfolding gasAnswer gasTable gasItems digitsOf decimalOf signedOf fieldOf fieldsOf linesFrom lineBy linesBy record-lines.frameOf record-lines.wholeOf record-lines.headOf record-lines.firstOf record-lines.numbersAt record-lines.recordOf record-lines.tallyOf record-lines.bothOf record-lines.pairOf record-lines.recordsListed record-lines.lastOf record-lines.listedLine record-lines.recordLine record-lines.recordLines recordListing bytesOf
+unfolding gasAnswer gasTable gasItems digitsOf decimalOf signedText fieldOf fieldsOf linesFrom lineBy linesBy record-lines.frameText record-lines.wholeText record-lines.headOf record-lines.firstOf record-lines.numbersAt record-lines.recordFields record-lines.tallyText record-lines.bothOf record-lines.pairText record-lines.recordsListed record-lines.lastOf record-lines.listedLine record-lines.recordLine record-lines.recordLines recordListing bytesOf
 record-lines-are = refl
 
 pub sample-records : SampleRecords
@@ -170,7 +172,7 @@ sample-records = (
 )
 
 element-lines-are : elementListing gasElements (0 ∷ 0 ∷ 38 ∷ []) ≡ gasElementLines
-unfolding gasElements gasRows cellAt digitsOf decimalOf signedOf fieldOf linesFrom lineBy linesBy element-lines.kindWords element-lines.kindWord element-lines.placesOf element-lines.elementOf element-lines.headOf element-lines.listedLine element-lines.elementLine element-lines.elementLines elementListing bytesOf
+unfolding gasElements gasRows cellAt digitsOf decimalOf signedText fieldOf linesFrom lineBy linesBy element-lines.kindWords element-lines.kindWord element-lines.placesOf element-lines.elementOf element-lines.headOf element-lines.listedLine element-lines.elementLine element-lines.elementLines elementListing bytesOf
 element-lines-are = refl
 
 pub sample-elements : SampleElements

@@ -14,10 +14,10 @@ use lib.ListN.{length, getD, length-append, length-take, length-drop}
 use Rattle.words.specs.Words.{bytesOf}
 use Rattle.places.specs.Places.{cellAt, within}
 use Rattle.records.specs.Records.{wordAt, isItem}
-use Rattle.puts.specs.Decimals.{digitsOf, decimalOf, signedOf}
-use Rattle.refused_line.specs.Refused.{refusal, place, count, placeOf, refusedOf, lineBy}
+use Rattle.puts.specs.Decimals.{digitsOf, decimalOf, signedText}
+use Rattle.refused_line.specs.Refused.{refusal, place, counted, placeText, refusedOf, lineBy}
 use Rattle.listings.specs.Written.{besideText, LinesFit}
-use Rattle.item_lines.specs.Lines.{spelledOf, claimOf, stateWord, stateWords, foldedOf, upperOf, valueOf, resultOf, itemOf, lineOf, wholeOf, headOf, listedLine, surveyLine}
+use Rattle.item_lines.specs.Lines.{spelledOf, claimText, stateWord, stateWords, foldedText, upperOf, valueText, resultOf, itemOf, lineOf, wholeText, headOf, listedLine, surveyLine}
 
 -- a choice is no longer than the longer
 either : (b : Bool) (x y : List ℕ) {n : ℕ} → length x ≤ n → length y ≤ n → length (cond b x y) ≤ n
@@ -44,8 +44,8 @@ decimal-size : (n : ℕ) → n ≤ 2 ^ 64 → length (decimalOf n) ≤ 20
 unfolding decimalOf
 decimal-size n h = digits-size n 19 n (omega arith)
 
-signed-size : (w : ℕ) → w < 2 ^ 64 → length (signedOf w) ≤ 21
-unfolding signedOf
+signed-size : (w : ℕ) → w < 2 ^ 64 → length (signedText w) ≤ 21
+unfolding signedText
 signed-size w h =
     either (ltb w 9223372036854775808) _ _ (le-trans (decimal-size w (omega arith)) (omega arith))
     (let e = decimal-size (18446744073709551616 - w) (omega arith) in omega arith)
@@ -56,8 +56,8 @@ spelled-size s els e =
     either (within s (cellAt els e 1) (cellAt els e 2)) _ _
     (simp (length-take, length-drop) (omega arith)) (omega arith)
 
-claim-size : (s els : List ℕ) (class e : ℕ) → length (claimOf s els class e) ≤ length s + 10
-unfolding claimOf bytesOf
+claim-size : (s els : List ℕ) (class e : ℕ) → length (claimText s els class e) ≤ length s + 10
+unfolding claimText bytesOf
 claim-size s els class e =
     let n = spelled-size s els e in
     either (eqb class 3) _ _ (omega arith) (either (eqb class 4) _ _ (omega arith) (omega arith))
@@ -76,18 +76,18 @@ state-size : (state : ℕ) → length (stateWord state) ≤ 9
 unfolding stateWord stateWords bytesOf
 state-size state = short-at 9 stateWords state " range" (tt, (tt, (tt, (tt, (tt, (tt, (tt, (tt, (tt, (tt, tt)))))))))) tt
 
-folded-size : (kind word : ℕ) → word < 2 ^ 64 → length (foldedOf kind word) ≤ 21
-unfolding foldedOf bytesOf
+folded-size : (kind word : ℕ) → word < 2 ^ 64 → length (foldedText kind word) ≤ 21
+unfolding foldedText bytesOf
 folded-size kind word h = either (eqb kind 2) _ _ (either (eqb word 0) _ _ (omega arith) (omega arith)) (signed-size word h)
 
 upper-size : (class kind high : ℕ) → high < 2 ^ 64 → length (upperOf class kind high) ≤ 25
 unfolding upperOf bytesOf
 upper-size class kind high h = let n = folded-size kind high h in either (eqb class 4) _ _ (omega arith) (omega arith)
 
-value-size : (class kind low high : ℕ) → low < 2 ^ 64 → high < 2 ^ 64 → length (valueOf class kind low high) ≤ 53
-unfolding valueOf bytesOf
+value-size : (class kind low high : ℕ) → low < 2 ^ 64 → high < 2 ^ 64 → length (valueText class kind low high) ≤ 53
+unfolding valueText bytesOf
 value-size class kind low high h k =
-    two (bytesOf " value ") (foldedOf kind low ++ upperOf class kind high) {m = 7} {n = 46} (omega arith) (two (foldedOf kind low) (upperOf class kind high) (folded-size kind low h) (upper-size class kind high k) (omega arith)) (omega arith)
+    two (bytesOf " value ") (foldedText kind low ++ upperOf class kind high) {m = 7} {n = 46} (omega arith) (two (foldedText kind low) (upperOf class kind high) (folded-size kind low h) (upper-size class kind high k) (omega arith)) (omega arith)
 
 below : (b : Bool) {x y n : ℕ} → x < n → y < n → cond b x y < n
 below true h k = h
@@ -107,7 +107,7 @@ module _ (items : List ℕ) (words : (k : ℕ) → getD items k 0 < 2 ^ 64) wher
   item-size : (s els : List ℕ) (i : ℕ) → i < 2 ^ 64 → length (itemOf s els items i) ≤ length s + besideText
   unfolding itemOf
   item-size s els i h =
-      let a = claimOf s els (wordAt items i 0) (wordAt items i 3) in
+      let a = claimText s els (wordAt items i 0) (wordAt items i 3) in
       let b = resultOf items i ++ (10 ∷ []) in
       two (decimalOf i) (a ++ b) (decimal-size i (omega arith))
       (two a b {k = length s + 64} (claim-size s els (wordAt items i 0) (wordAt items i 3))
@@ -117,18 +117,18 @@ module _ (items : List ℕ) (words : (k : ℕ) → getD items k 0 < 2 ^ 64) wher
   unfolding lineOf
   line-size s els i h = either (isItem (wordAt items i 0)) _ _ (item-size s els i h) (omega arith)
 
-whole-size : (w : ℕ) → length (wholeOf w) ≤ 11
-unfolding wholeOf bytesOf
+whole-size : (w : ℕ) → length (wholeText w) ≤ 11
+unfolding wholeText bytesOf
 whole-size w = either (eqb w 1) _ _ (omega arith) (omega arith)
 
 head-size : (n w : ℕ) → n < 2 ^ 64 → length (headOf n w) ≤ 38
 unfolding headOf bytesOf
 head-size n w h =
-    two (bytesOf "pieces ") (decimalOf n ++ wholeOf w) {m = 7} {n = 31} (omega arith)
-    (two (decimalOf n) (wholeOf w) (decimal-size n (omega arith)) (whole-size w) (omega arith)) (omega arith)
+    two (bytesOf "pieces ") (decimalOf n ++ wholeText w) {m = 7} {n = 31} (omega arith)
+    (two (decimalOf n) (wholeText w) (decimal-size n (omega arith)) (whole-size w) (omega arith)) (omega arith)
 
-place-size : (n : ℕ) → n < 2 ^ 64 → length (placeOf n) ≤ 25
-unfolding placeOf bytesOf
+place-size : (n : ℕ) → n < 2 ^ 64 → length (placeText n) ≤ 25
+unfolding placeText bytesOf
 place-size n h =
     two (bytesOf " at ") (decimalOf n ++ (10 ∷ [])) {m = 4} {n = 21} (omega arith)
     (two (decimalOf n) (10 ∷ []) {n = 1} (decimal-size n (omega arith)) (omega arith) (omega arith)) (omega arith)
@@ -136,13 +136,13 @@ place-size n h =
 refused-size : (n at : ℕ) → n < 2 ^ 64 → at < 2 ^ 64 → length (refusedOf n at) ≤ 53
 unfolding refusedOf bytesOf
 refused-size n at h k =
-    two (bytesOf "refused ") (decimalOf n ++ placeOf at) {m = 8} {n = 45} (omega arith)
-    (two (decimalOf n) (placeOf at) (decimal-size n (omega arith)) (place-size at k) (omega arith)) (omega arith)
+    two (bytesOf "refused ") (decimalOf n ++ placeText at) {m = 8} {n = 45} (omega arith)
+    (two (decimalOf n) (placeText at) (decimal-size n (omega arith)) (place-size at k) (omega arith)) (omega arith)
 
 listed-size : (s els items answer : List ℕ) (i : ℕ) → i < 2 ^ 64 → ((k : ℕ) → getD items k 0 < 2 ^ 64) → ((k : ℕ) → getD answer k 0 < 2 ^ 64)
     → length (listedLine s els items answer i) ≤ length s + besideText
 unfolding listedLine
-listed-size s els items answer zero h w a = le-trans (head-size (getD answer count 0) (getD answer 4 0) (a count)) (omega arith)
+listed-size s els items answer zero h w a = le-trans (head-size (getD answer counted 0) (getD answer 4 0) (a counted)) (omega arith)
 listed-size s els items answer (suc i) h w a = line-size items w s els i (omega arith)
 
 -- the longest line: the text's bytes, if they are all a name's, and some more

@@ -12,7 +12,7 @@ use Rattle.element_reading.specs.Reading.{readingOf, tableOf, tableBy}
 use Rattle.element_reading.specs.declared.Reading.{Reading}
 use Rattle.element_reading.specs.declared.Reading.the-variants.{Read}
 use Rattle.forms.specs.Words.{rowNumbers}
-use Rattle.tree.specs.Answers.{terminalsOf}
+use Rattle.tree.specs.code.Answers.{terminalsOf}
 use Rattle.verdict.specs.code.Judging.{verdictFrom, formsIn, verdictOf}
 use Rattle.verdict.specs.declared.Verdict.the-variants.{Passes}
 use Rattle.refusals.specs.declared.StrictRefusal.the-variants.{NoFile}
@@ -20,10 +20,10 @@ use Rattle.strict_reading.specs.declared.Strict.{Strict}
 use Rattle.strict_reading.specs.declared.Strict.the-variants as strict
 use Rattle.strict_reading.specs.code.Strict.{unreadableFrom, treeTable, fileOf, elementsAs, byReading, strictOf, elementsAfter, treeAs, treeByReading, treeAfter}
 use Rattle.strict_reading.proofs.Promises.{is-permitted}
-use Rattle.puts.specs.Decimals.{digitsOf, decimalOf, signedOf, fieldOf, fieldsOf}
+use Rattle.puts.specs.Decimals.{digitsOf, decimalOf, signedText, fieldOf, fieldsOf}
 use Rattle.puts.specs.Lines.{linesFrom}
-use Rattle.refused_line.specs.Refused.{lineBy, linesBy, placeOf, refusedOf}
-use Rattle.tree_lines.specs.Lines.{failsOf, verdictOf as verdictLine, headOf, numbersAt, rowOf, listedLine, treeLine, treeLines, treeListing}
+use Rattle.refused_line.specs.Refused.{lineBy, linesBy, placeText, refusedOf}
+use Rattle.tree_lines.specs.Lines.{failsOf, verdictText as verdictLine, headOf, numbersAt, rowText, listedLine, treeLine, treeLines, treeListing}
 use Rattle.kawhiluhe.specs.Numbers.{strictNumbers}
 use Rattle.kawhiluhe.specs.Words.{judgedWords}
 use Rattle.edges.specs.Incident.{gas}
@@ -44,7 +44,7 @@ gas-strict =
     ∙ ap (λ (t : List ℕ). elementsAs gas t 38 treeRoom) gas-is.table-is ∙ gas-answer
 
 refused-line-is : (tree : List ℕ) → treeListing tree (5 ∷ 15 ∷ 0 ∷ 0 ∷ 0 ∷ []) ≡ bytesOf "refused 5 at 15\n"
-unfolding treeListing treeLine treeLines lineBy linesBy linesFrom refusedOf placeOf decimalOf digitsOf bytesOf
+unfolding treeListing treeLine treeLines lineBy linesBy linesFrom refusedOf placeText decimalOf digitsOf bytesOf
 refused-line-is tree = refl
 
 pub sample-refused : SampleRefused
@@ -121,7 +121,7 @@ strict-is =
     ∙ ap (λ (t : List ℕ). elementsAs small t 12 treeRoom) table-is ∙ answer-is
 
 lines-are : treeListing smallTable (0 ∷ 0 ∷ 4 ∷ 1 ∷ 0 ∷ []) ≡ smallTreeLines
-unfolding smallTable smallTree treeListing treeLine treeLines listedLine rowOf numbersAt headOf verdictLine failsOf lineBy linesBy linesFrom fieldsOf fieldOf signedOf decimalOf digitsOf bytesOf
+unfolding smallTable smallTree treeListing treeLine treeLines listedLine rowText numbersAt headOf verdictLine failsOf lineBy linesBy linesFrom fieldsOf fieldOf signedText decimalOf digitsOf bytesOf
 lines-are = refl
 
 pub sample-tree : SampleTree

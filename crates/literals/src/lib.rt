@@ -1,10 +1,12 @@
 // The value of an integer literal, in time linear in its bytes. Every public function takes any bytes.
 use classes::Run;
+use classes::TEN;
 use integers::Folded;
 ghost use mathlib.Core.Path.{_≡_};
 ghost use Prim.Native.Nat.{_+_, _*_, _^_, _≤_, _<_, min};
 ghost use lib.IntN.{pos};
 ghost use lib.ListN.{drop};
+ghost use Rattle.classes.specs.Bytes.{leastBase, greatestBase};
 ghost use Rattle.numbers.specs.Numbers.{digitIn, spelled, leading};
 ghost use Rattle.integers.specs.Integers.{largest, beyond, sizedOf};
 ghost use Rattle.literals.specs.Literals.{exponentOf, numberIn, literalOf};
@@ -14,9 +16,14 @@ const LARGEST: u64 = integers::LARGEST as u64;
 
 const BEYOND: u64 = LARGEST + 1;
 
+// "base 2 to 16"
+const LEAST_BASE: u64 = numbers::LEAST_BASE as u64;
+
+const GREATEST_BASE: u64 = classes::GREATEST_BASE as u64;
+
 // One digit more, where the first number beyond the largest stands for any from there on.
 fn with_digit(base: u8, v: u64, b: u8) -> u64
-    requires { ⌜ (2 ≤ base) × (base ≤ 16) × (v ≤ beyond) ⌝ }
+    requires { ⌜ (leastBase ≤ base) × (base ≤ greatestBase) × (v ≤ beyond) ⌝ }
     ensures { λ r. ⌜ r ≡ min beyond (digitIn base v b) ⌝ }
 {
     if b == b'_' {
@@ -31,7 +38,7 @@ fn with_digit(base: u8, v: u64, b: u8) -> u64
 
 // The number that digits and underscores spell, or the first number beyond the largest where it is larger.
 fn capped(base: u8, s: &[u8]) -> u64
-    requires { ⌜ (2 ≤ base) × (base ≤ 16) ⌝ }
+    requires { ⌜ (leastBase ≤ base) × (base ≤ greatestBase) ⌝ }
     ensures { λ r. ⌜ r ≡ min beyond (spelled base 0 (now (s .entry))) ⌝ }
 {
     let mut v: u64 = 0;
@@ -44,7 +51,7 @@ fn capped(base: u8, s: &[u8]) -> u64
 }
 
 fn leading_value(base: u8, s: &[u8]) -> u64
-    requires { ⌜ (2 ≤ base) × (base ≤ 16) ⌝ }
+    requires { ⌜ (leastBase ≤ base) × (base ≤ greatestBase) ⌝ }
     ensures { λ r. ⌜ r ≡ min beyond (leading base (now (s .entry))) ⌝ }
 {
     let n = classes::run_length(Run::Below(base), s);
@@ -59,15 +66,15 @@ fn exponent_at(s: &[u8], at: usize) -> u64
     }
     let n = at + 1;
     if classes::byte_or(s, n) == b'+' {
-        let m = at + 2;
-        return leading_value(10, &s[m..]);
+        let m = at + numbers::SIGNED_HEAD;
+        return leading_value(TEN, &s[m..]);
     }
-    leading_value(10, &s[n..])
+    leading_value(TEN, &s[n..])
 }
 
 // m times the base to the e. A number other than 0 grows past the largest in at most 31 turns.
 fn scaled(m: u64, base: u8, e: u64) -> Folded
-    requires { ⌜ (m ≤ largest) × (2 ≤ base) × (base ≤ 16) ⌝ }
+    requires { ⌜ (m ≤ largest) × (leastBase ≤ base) × (base ≤ greatestBase) ⌝ }
     ensures { λ r. ⌜ r ≡ sizedOf (pos (m * base ^ e)) ⌝ }
 {
     if m == 0 {
@@ -87,7 +94,7 @@ fn scaled(m: u64, base: u8, e: u64) -> Folded
 }
 
 fn number_in(base: u8, closing: usize, s: &[u8]) -> Folded
-    requires { ⌜ (2 ≤ base) × (base ≤ 16) × (closing ≤ 1) ⌝ }
+    requires { ⌜ (leastBase ≤ base) × (base ≤ greatestBase) × (closing ≤ 1) ⌝ }
     ensures { λ r. ⌜ r ≡ sizedOf (pos (numberIn base closing (now (s .entry)))) ⌝ }
 {
     let m = leading_value(base, s);
@@ -103,16 +110,16 @@ fn number_in(base: u8, closing: usize, s: &[u8]) -> Folded
 pub fn literal(s: &[u8]) -> Folded
     ensures { λ r. ⌜ r ≡ literalOf (now (s .entry)) ⌝ }
 {
-    let n = classes::run_length(Run::Below(10), s);
+    let n = classes::run_length(Run::Below(TEN), s);
     if classes::byte_or(s, n) != b'#' {
-        return number_in(10, 0, s);
+        return number_in(TEN, 0, s);
     }
-    let base = leading_value(10, s);
-    if base < 2 {
-        return number_in(10, 0, s);
+    let base = leading_value(TEN, s);
+    if base < LEAST_BASE {
+        return number_in(TEN, 0, s);
     }
-    if 16 < base {
-        return number_in(10, 0, s);
+    if GREATEST_BASE < base {
+        return number_in(TEN, 0, s);
     }
     let m = n + 1;
     number_in(base as u8, 1, &s[m..])

@@ -15,7 +15,7 @@ use Rattle.same_names.specs.Alike.{byKind}
 use Rattle.same_names.specs.Spelling.{spelt, spelledAs}
 use Rattle.records.specs.Records.{wordAt, isClaim}
 use Rattle.lookup.specs.Lookup.{isNamed, claimsName, foundFrom, foundOf}
-use Rattle.lookup.specs.Finds.{recordsIn, classIn, nameElement, kindIn, firstByte, sizeIn, Inside, Spells, Claims, NoneOf, Finds}
+use Rattle.lookup.specs.Finds.{recordsHeld, classIn, nameElement, kindIn, firstByte, sizeIn, Inside, Spells, Claims, NoneOf, Finds}
 use Rattle.lookup.specs.Promises.{OneAnswer, OutsideClaimsNothing, ByNameElement, FoundExactly}
 use Rattle.lookup.specs.declared.Found.{Found}
 use Rattle.lookup.specs.declared.Found.the-variants.{At, Nothing}
@@ -106,14 +106,14 @@ module _ (text elements name items : List ℕ) where
       go true e r = (omega arith, omega arith, claims-so i e, λ j l h c. omega arith)
       go false e r = further i m (foundFrom test (suc i) m) e r
 
-  ahead-finds : (f : Found) → Ahead 0 (recordsIn items) f → Finds text elements name items f
+  ahead-finds : (f : Found) → Ahead 0 (recordsHeld items) f → Finds text elements name items f
   unfolding Finds
   ahead-finds (At k) (a, b, c, n) = (omega arith, c, λ j l. n j (omega arith) (omega arith))
   ahead-finds Nothing n = λ j l. n j (omega arith) (omega arith)
 
   pub finds-found : Finds text elements name items (foundOf text elements name items)
   unfolding foundOf
-  finds-found = ahead-finds (foundFrom test 0 (recordsIn items)) (ahead 0 (recordsIn items))
+  finds-found = ahead-finds (foundFrom test 0 (recordsHeld items)) (ahead 0 (recordsHeld items))
 
 pub one-answer : OneAnswer
 unfolding Finds

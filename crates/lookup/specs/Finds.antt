@@ -6,7 +6,7 @@ use mathlib.Core.Logic.{_⊎_}
 use mathlib.Core.Bool.{true, false}
 use mathlib.Core.List.{List}
 use lib.ListN.{length, take, drop}
-use Rattle.places.specs.Places.{rowsIn, cellAt}
+use Rattle.places.specs.Places.{kindColumn, firstColumn, sizeColumn, rowsIn, cellAt}
 use Rattle.same_names.specs.Spelling.{spelt}
 use Rattle.pieces.specs.Records.{recordWords}
 use Rattle.records.specs.Records.{wordAt, isClaim}
@@ -16,8 +16,8 @@ use Rattle.lookup.specs.declared.Found.{Found}
 use Rattle.lookup.specs.declared.Found.the-variants.{At, Nothing}
 
 -- how many records there are; of record i, its class and its name element
-abbrev pub recordsIn : List ℕ → ℕ
-recordsIn items = length items / recordWords
+abbrev pub recordsHeld : List ℕ → ℕ
+recordsHeld items = length items / recordWords
 
 abbrev pub classIn : List ℕ → ℕ → ℕ
 classIn items i = wordAt items i column.class
@@ -27,13 +27,13 @@ nameElement items i = wordAt items i column.name
 
 -- element e of the table: "kind, first byte and length"
 abbrev pub kindIn : List ℕ → ℕ → ℕ
-kindIn elements e = cellAt elements e 0
+kindIn elements e = cellAt elements e kindColumn
 
 abbrev pub firstByte : List ℕ → ℕ → ℕ
-firstByte elements e = cellAt elements e 1
+firstByte elements e = cellAt elements e firstColumn
 
 abbrev pub sizeIn : List ℕ → ℕ → ℕ
-sizeIn elements e = cellAt elements e 2
+sizeIn elements e = cellAt elements e sizeColumn
 
 -- it has a row, and its bytes stand in the text
 abbrev pub Inside : List ℕ → List ℕ → ℕ → Type 0
@@ -56,5 +56,5 @@ NoneOf text elements name items n = (j : ℕ) → j < n → Claims text elements
 
 -- what a lookup may answer: "the first item that claims it, or none"
 unfoldable pub Finds : List ℕ → List ℕ → List ℕ → List ℕ → Found → Type 0
-Finds text elements name items (At k) = (k < recordsIn items) × Claims text elements name items k × NoneOf text elements name items k
-Finds text elements name items Nothing = NoneOf text elements name items (recordsIn items)
+Finds text elements name items (At k) = (k < recordsHeld items) × Claims text elements name items k × NoneOf text elements name items k
+Finds text elements name items Nothing = NoneOf text elements name items (recordsHeld items)

@@ -5,7 +5,7 @@ use mathlib.Core.Logic.{_⊎_, _↔_}
 use mathlib.Core.List.{List}
 use lib.ListN.{length}
 use Rattle.places.specs.Places.{rowsIn}
-use Rattle.lookup.specs.Finds.{recordsIn, classIn, nameElement, firstByte, sizeIn, Claims, Finds}
+use Rattle.lookup.specs.Finds.{recordsHeld, classIn, nameElement, firstByte, sizeIn, Claims, Finds}
 use Rattle.lookup.specs.Lookup.{foundOf}
 use Rattle.lookup.specs.declared.Found.{Found}
 
@@ -23,7 +23,7 @@ OutsideClaimsNothing =
 -- Of a record's numbers, class and name element alone count: where these agree, so does the answer, whatever first element and count point at.
 abbrev pub ByNameElement : Type 0
 ByNameElement =
-    (text elements name items others : List ℕ) → recordsIn items ≡ recordsIn others
+    (text elements name items others : List ℕ) → recordsHeld items ≡ recordsHeld others
     → ((i : ℕ) → (classIn items i ≡ classIn others i) × (nameElement items i ≡ nameElement others i))
     → (x : Found) → Finds text elements name items x → Finds text elements name others x
 

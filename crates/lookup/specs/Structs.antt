@@ -7,9 +7,9 @@ use Rattle.lookup.specs.Lookup.{isNamed}
 use Rattle.lookup.specs.declared.Item.{Item}
 
 -- the words of item structs, record after record
-unfoldable pub wordsOf : List Item → List ℕ
-wordsOf [] = []
-wordsOf (x ∷ xs) = x .class ∷ x .first ∷ x .count ∷ x .name ∷ x .state ∷ x .kind ∷ x .low ∷ x .high ∷ wordsOf xs
+unfoldable pub structWords : List Item → List ℕ
+structWords [] = []
+structWords (x ∷ xs) = x .class ∷ x .first ∷ x .count ∷ x .name ∷ x .state ∷ x .kind ∷ x .low ∷ x .high ∷ structWords xs
 
 -- a record that there isn't
 abbrev pub noItem : Item

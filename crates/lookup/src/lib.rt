@@ -6,7 +6,7 @@ ghost use Prim.Native.Nat.{_<_};
 ghost use lib.ListN.{length, getD};
 ghost use Rattle.lookup.specs.Lookup.{isNamed, claimsName};
 ghost use Rattle.lookup.specs.Finds.{Finds};
-ghost use Rattle.lookup.specs.Structs.{noItem, claimsBy, wordsOf};
+ghost use Rattle.lookup.specs.Structs.{noItem, claimsBy, structWords};
 
 // One record of the item table.
 #[repr(C)]
@@ -26,15 +26,15 @@ pub enum Found {
     Nothing,
 }
 
-fn named(text: &[u8], elements: &[u64], e: usize, name: &[u8]) -> bool
-    ensures { λ r. ⌜ r ≡ isNamed (now (text .entry)) (now (elements .entry)) e (now (name .entry)) ⌝ }
+fn named(text: &[u8], elements: &[u64], e: ElementNumber, name: &[u8]) -> bool
+    ensures { λ r. ⌜ r ≡ isNamed (now (text .entry)) (now (elements .entry)) (e .0) (now (name .entry)) ⌝ }
 {
-    let k = places::kind_of(elements, ElementNumber(e));
+    let k = places::kind_of(elements, e);
     if k == places::IDENTIFIER {
-        return same_names::spelled_as(true, text, elements, ElementNumber(e), name);
+        return same_names::spelled_as(true, text, elements, e, name);
     }
     if k == places::EXTENDED {
-        return same_names::spelled_as(false, text, elements, ElementNumber(e), name);
+        return same_names::spelled_as(false, text, elements, e, name);
     }
     false
 }
@@ -46,7 +46,7 @@ fn claims(text: &[u8], elements: &[u64], name: &[u8], items: &[u64], i: usize) -
         return named(
             text,
             elements,
-            records::word(items, i, pieces::NAME) as usize,
+            ElementNumber(records::word(items, i, pieces::NAME) as usize),
             name,
         );
     }
@@ -80,7 +80,7 @@ fn claims_by<'a>(text: &'a [u8], elements: &'a [u64], name: &'a [u8], item: Item
     ensures { λ r. ⌜ r ≡ claimsBy (now (text .entry)) (now (elements .entry)) (now (name .entry)) item ⌝ }
 {
     if records::is_claim(item.class) {
-        return named(text, elements, item.name as usize, name);
+        return named(text, elements, ElementNumber(item.name as usize), name);
     }
     false
 }
@@ -92,7 +92,7 @@ pub fn lookup_items<'a>(
     name: &'a [u8],
     items: &'a [Item],
 ) -> Found
-    ensures { λ r. ⌜ Finds (now (text .entry)) (now (elements .entry)) (now (name .entry)) (wordsOf (now (items .entry))) r ⌝ }
+    ensures { λ r. ⌜ Finds (now (text .entry)) (now (elements .entry)) (now (name .entry)) (structWords (now (items .entry))) r ⌝ }
 {
     let mut k: usize = 0;
     while k < items.len() {

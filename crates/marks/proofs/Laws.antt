@@ -14,7 +14,7 @@ use Rattle.integers.specs.declared.Arithmetic.the-variants.{Add}
 use Rattle.folding.specs.declared.Relation.the-variants.{Equal}
 use Rattle.folding.specs.declared.Operator.the-variants as O
 use Rattle.folding.specs.declared.Outcome.{Outcome}
-use Rattle.folding.specs.Outcomes.{operatorSort}
+use Rattle.folding.specs.code.Outcomes.{operatorSort}
 use Rattle.values.specs.declared.Value.{Value}
 use Rattle.values.specs.declared.Value.the-variants.{Number, Truth, Range, Truths, Without}
 use Rattle.values.specs.Words.{stateOf, valueKind, lowOf, highOf, leanOf}
@@ -22,7 +22,7 @@ use Rattle.values.specs.code.Used.{usedConstant, usedSubtype, usedValue}
 use Rattle.values.proofs.Laws.{number-word}
 use Rattle.states.specs.States as state
 use Rattle.pieces.specs.Classes.{constant, subtype}
-use Rattle.marks.specs.Marks.{withoutOf, besideMark, valueIn, constantOf, subtypeOf, firstBound, insideOf, rangeUnder, boundsIn, rangedOf, markSort}
+use Rattle.marks.specs.code.Marks.{withoutOf, besideMark, valueIn, constantOf, subtypeOf, firstBound, insideOf, rangeUnder, boundsIn, rangedOf, markSort}
 use Rattle.marks.proofs.Sound.{Keeps, small, SoundFolded, SoundOutcome, Sound, sort-sound, settle-sound, mark-sound}
 
 -- ---- what stands in a record

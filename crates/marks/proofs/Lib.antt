@@ -1,4 +1,3 @@
 pub mod Steps
 pub mod Sound
 pub mod Laws
-pub mod Promises

@@ -25,9 +25,10 @@ use Rattle.folding.specs.declared.Sign.the-variants as G
 use Rattle.folding.specs.declared.Sort.{Sort}
 use Rattle.folding.specs.declared.Sort.the-variants as S
 use Rattle.folding.specs.declared.Outcome.{Outcome}
-use Rattle.folding.specs.Operators.{decides, logicOf, onWholes, onTruths, afterWhole, afterTruth, besideTruth, binaryOf, unaryOf}
-use Rattle.folding.specs.Outcomes.{wrongSort, operatorSort, signSort, combinedOf, signedOf, settle}
-use Rattle.operands.specs.Leaves.{wrongLeaf, literalLeaf}
+use Rattle.folding.specs.Operators.{decides, logicOf}
+use Rattle.folding.specs.code.Folding.{onWholes, onTruths, afterWhole, afterTruth, besideTruth, binaryOf, unaryOf}
+use Rattle.folding.specs.code.Outcomes.{wrongSort, operatorSort, signSort, combinedOf, signedOf, settle}
+use Rattle.operands.specs.code.Leaves.{wrongLeaf, literalLeaf}
 use Rattle.operands.proofs.Literal.{literal-sized}
 use Rattle.values.specs.declared.Value.{Value}
 use Rattle.values.specs.declared.Value.the-variants.{Number, Truth, Range, Truths, Without}
@@ -36,7 +37,7 @@ use Rattle.values.specs.Words.{leanOf}
 use Rattle.states.specs.States as state
 use Rattle.names.specs.Language.{name-natural, name-positive, name-boolean, name-true, name-false}
 use Rattle.integers.specs.declared.Kind.{Kind}
-use Rattle.marks.specs.Marks.{operandOf, markSort}
+use Rattle.marks.specs.code.Marks.{operandOf, markSort}
 
 -- what is kept: of each number, of a state in a sort, of one that stops a folding and of one that an item ends in
 pub record Keeps : Type 1 where

@@ -16,7 +16,7 @@ use Rattle.values.proofs.Value as Val
 use Rattle.values.specs.declared.Value.{Value}
 use Rattle.values.specs.declared.Value.the-variants.{Number, Truth, Range, Truths, Without}
 use Rattle.states.specs.States as state
-use Rattle.marks.specs.Marks.{withoutOf, heldBy, valueIn, besideMark, constantOf, insideOf, rangeUnder, directed, firstBound, boundsIn, rangedOf}
+use Rattle.marks.specs.code.Marks.{withoutOf, heldBy, valueIn, besideMark, constantOf, insideOf, rangeUnder, directed, firstBound, boundsIn, rangedOf}
 
 -- ---- a number in its mark's range
 

@@ -13,7 +13,7 @@ use operands::whole_leaf;
 use operands::wrong_leaf;
 use values::Value;
 ghost use mathlib.Core.Path.{_≡_};
-ghost use Rattle.marks.specs.Marks.{operandOf, markSort, withoutOf, heldBy, besideMark, constantOf, subtypeOf, firstBound, insideOf, rangeUnder, rangedOf};
+ghost use Rattle.marks.specs.code.Marks.{operandOf, markSort, withoutOf, heldBy, besideMark, constantOf, subtypeOf, firstBound, insideOf, rangeUnder, rangedOf};
 
 // A name used in an expression.
 pub fn operand(v: Value) -> Outcome

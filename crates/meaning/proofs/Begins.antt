@@ -9,26 +9,28 @@ use borrow.Author.Tests.{eq-eqb, ltb-true, ltb-false}
 use lib.Dec.{T, eqb, ltb, eqb→eq}
 use lib.ListN.{length}
 use Rattle.laws.proofs.Laws.{clash}
-use Rattle.grammars.specs.Grammar.{Sym, tok}
-use Rattle.grammars.specs.Actions.{Reads, eat, acts, grow}
+use Rattle.grammars.specs.code.Grammar.{Sym, tok}
+use Rattle.grammars.specs.code.Actions.{Reads, eat, acts, grow}
 use Rattle.grammars.proofs.Check.{below, below-at, imp, imp-at}
 use Rattle.grammars.proofs.Theory.{or-cases}
-use Rattle.forms.specs.Kinds.{numberOf, identifier, other, terminalOf}
-use Rattle.forms.specs.Kinds as kind
-use Rattle.forms.specs.Names.{constant, subtype, nameNumber, opens}
-use Rattle.forms.specs.Rules.{forms, body, ruleOf}
-use Rattle.forms.specs.Tree.{Row, State, Refusal, does, start}
-use Rattle.forms.specs.Items.{ItemReading}
+use Rattle.forms.specs.code.Kinds.{numberOf, identifier, other, terminalOf}
+use Rattle.forms.specs.code.Kinds as kind
+use Rattle.forms.specs.code.Names.{constant, subtype, nameNumber, opens}
+use Rattle.forms.specs.code.Rules.{forms, body, ruleOf}
+use Rattle.forms.specs.Tree.{Row}
+use Rattle.forms.specs.code.Frames.{State, Refusal, does, start}
+use Rattle.forms.specs.code.ItemReading.{ItemReading}
 use Rattle.form_table.proofs.Tables.{picksAt, kind-past}
-use Rattle.pieces.specs.Kinds.{word-constant, word-subtype, isName, isHeading, isClosing, endsAt, claimOf, claimMark, markOf}
-use Rattle.pieces.specs.declared.Mark.{Mark}
+use Rattle.pieces.specs.Kinds.{word-constant, word-subtype, isName, isHeading, isClosing, endsAt, claimOf, claimClass, pieceClass}
+use Rattle.pieces.specs.declared.PieceClass.{PieceClass}
 use Rattle.one_tree.specs.Trees.{IsConstant, IsSubtype}
-use Rattle.tree.specs.Answers.{terminalsIn}
-use Rattle.tree.specs.Items.{unlike}
+use Rattle.tree.specs.code.Answers.{terminalsIn}
+use Rattle.tree.specs.code.PieceRows.{unlike}
 use Rattle.meaning.specs.Elements.{Piece, at, kinds}
 use Rattle.meaning.specs.Names.{classOf}
 use Rattle.meaning.specs.Forms.{Tree}
 use Rattle.meaning.proofs.Readings.{constant-reading, subtype-reading}
+use Rattle.forms.proofs.Shapes.{only}
 
 -- ---- kinds by what they are to the forms
 
@@ -69,11 +71,6 @@ two-kinds [] a b v e = let z : _≡_ {A = ℕ} 0 1 = cc in clash z
 two-kinds (k ∷ []) a b v e = let z : _≡_ {A = ℕ} 0 1 = cc in clash z
 two-kinds (k ∷ j ∷ l) a b v e = (k, j, l, refl, cc, cc)
 
--- of rules only one is an item's
-only : (n q : ℕ) → T (below (forms .count) (λ p. imp (eqb (forms .lhs p) n) (eqb p q))) → (p : ℕ) → p < forms .count → forms .lhs p ≡ n → p ≡ q
-only n q h p l e =
-    eqb→eq p q (imp-at (eqb (forms .lhs p) n) (eqb p q) (below-at (forms .count) (λ p. imp (eqb (forms .lhs p) n) (eqb p q)) h p l) (subst T (sym (eq-eqb (forms .lhs p) n e)) tt))
-
 read-two : (a b k : ℕ) {α : List Sym} {s t : State} {w : List ℕ} → Reads State Refusal forms (does unlike) (opens ∷ tok a ∷ tok b ∷ α) k s w t → (v : List ℕ) × (w ≡ a ∷ (b ∷ v))
 read-two a b k (acts e (eat (eat {w = v} r))) = (v, refl)
 
@@ -103,13 +100,13 @@ no-closing : (k : ℕ) (l : List ℕ) → eqb k 61 ≡ false → isClosing (k �
 unfolding isClosing endsAt
 no-closing k l e = rw e
 
-claimed : (k j : ℕ) (l : List ℕ) → (j ≡ 1) ⊎ (j ≡ 2) → claimMark (k ∷ (j ∷ l)) ≡ claimOf k
-unfolding claimMark
+claimed : (k j : ℕ) (l : List ℕ) → (j ≡ 1) ⊎ (j ≡ 2) → claimClass (k ∷ (j ∷ l)) ≡ claimOf k
+unfolding claimClass
 claimed k j l (inl e) = rw e
 claimed k j l (inr e) = rw e
 
-class-by : (k j : ℕ) (l : List ℕ) → eqb k 98 ≡ false → eqb k 61 ≡ false → (j ≡ 1) ⊎ (j ≡ 2) → markOf (k ∷ (j ∷ l)) ≡ claimOf k
-unfolding markOf
+class-by : (k j : ℕ) (l : List ℕ) → eqb k 98 ≡ false → eqb k 61 ≡ false → (j ≡ 1) ⊎ (j ≡ 2) → pieceClass (k ∷ (j ∷ l)) ≡ claimOf k
+unfolding pieceClass
 class-by k j l a b h = rw (no-heading k (j ∷ l) a, no-closing k (j ∷ l) b) (claimed k j l h)
 
 -- the first kind of a piece, and its class
@@ -126,13 +123,13 @@ pub constant-begins : (p : Piece) (s : State) → ItemReading constant unlike (t
 constant-begins p s r =
     let t = constant-two p s r in
     let e = t .3 ∙ ap (λ (k : ℕ). k ∷ (t .1 ∷ t .2)) (is-constant-word (t .0) (t .4)) in
-    record { first = first-kind p 53 (t .1 ∷ t .2) e; classed = ap (λ (ks : List ℕ). markOf ks .class) e ∙ ap (λ (m : Mark). m .class) (class-by 53 (t .1) (t .2) refl refl (is-name-kind (t .1) (t .5))) }
+    record { first = first-kind p 53 (t .1 ∷ t .2) e; classed = ap (λ (ks : List ℕ). pieceClass ks .class) e ∙ ap (λ (m : PieceClass). m .class) (class-by 53 (t .1) (t .2) refl refl (is-name-kind (t .1) (t .5))) }
 
 pub subtype-begins : (p : Piece) (s : State) → ItemReading subtype unlike (terminalsIn (kinds p)) s → Begun p word-subtype 4
 subtype-begins p s r =
     let t = subtype-two p s r in
     let e = t .3 ∙ ap (λ (k : ℕ). k ∷ (t .1 ∷ t .2)) (is-subtype-word (t .0) (t .4)) in
-    record { first = first-kind p 129 (t .1 ∷ t .2) e; classed = ap (λ (ks : List ℕ). markOf ks .class) e ∙ ap (λ (m : Mark). m .class) (class-by 129 (t .1) (t .2) refl refl (is-name-kind (t .1) (t .5))) }
+    record { first = first-kind p 129 (t .1 ∷ t .2) e; classed = ap (λ (ks : List ℕ). pieceClass ks .class) e ∙ ap (λ (m : PieceClass). m .class) (class-by 129 (t .1) (t .2) refl refl (is-name-kind (t .1) (t .5))) }
 
 -- so by its tree
 pub constant-tree-begins : (p : Piece) (l : List Row) → Tree IsConstant p l → Begun p word-constant 3

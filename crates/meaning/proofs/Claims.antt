@@ -11,9 +11,9 @@ use lib.ListN.{length, getD, take, drop, List·getD-eq-default}
 use lib.Seq.{split-at}
 use Rattle.same_names.specs.Alike.{sameName}
 use Rattle.element_reading.specs.Rows.{rowsOf}
-use Rattle.pieces.specs.Kinds.{mark, isName, isHeading, behindWord, hasName, endsAt, isClosing, claimMark, markOf}
+use Rattle.pieces.specs.Kinds.{classAt, isName, isHeading, behindWord, hasName, endsAt, isClosing, claimClass, pieceClass}
 use Rattle.pieces.specs.Records.{nameOf}
-use Rattle.pieces.specs.declared.Mark.{Mark}
+use Rattle.pieces.specs.declared.PieceClass.{PieceClass}
 use Rattle.records.specs.Records.{wordAt, isClaim}
 use Rattle.names.specs.code.Links.{recordsIn, firstFrom, claimsElement, linkOf, filled, linksTable}
 use Rattle.names.proofs.Tables.{filled-length, filled-at, filled-past}
@@ -30,9 +30,9 @@ use Rattle.meaning.proofs.Words.{pieceAt, doneAt, itemTable, pieces-at,
 
 -- ---- a piece that claims a name has it at its second element
 
-abbrev marked : Bool → Bool → Bool → Bool → Bool → ℕ → Mark
+abbrev marked : Bool → Bool → Bool → Bool → Bool → ℕ → PieceClass
 marked heading closing named constant subtype place =
-    cond heading (mark 1 1) (cond closing (mark 2 place) (cond named (cond constant (mark 3 1) (cond subtype (mark 4 1) (mark 5 0))) (mark 5 0)))
+    cond heading (classAt 1 1) (cond closing (classAt 2 place) (cond named (cond constant (classAt 3 1) (cond subtype (classAt 4 1) (classAt 5 0))) (classAt 5 0)))
 
 marked-claim : (heading closing named constant subtype : Bool) (place : ℕ) → isClaim (marked heading closing named constant subtype place .class) ≡ true
     → (marked heading closing named constant subtype place .place ≡ 1) × (named ≡ true)
@@ -43,12 +43,12 @@ marked-claim false false true false true n h = (refl, refl)
 marked-claim false false true false false n h = absurd (false≢true h)
 marked-claim false false false d e n h = absurd (false≢true h)
 
-claim-opens : (ks : List ℕ) → isClaim (markOf ks .class) ≡ true → (markOf ks .place ≡ 1) × (isName (getD ks 1 0) ≡ true)
-unfolding markOf claimMark
+claim-opens : (ks : List ℕ) → isClaim (pieceClass ks .class) ≡ true → (pieceClass ks .place ≡ 1) × (isName (getD ks 1 0) ≡ true)
+unfolding pieceClass claimClass
 claim-opens ks h =
     marked-claim (isHeading ks) (isClosing ks) (isName (getD ks 1 0)) (eqb (getD ks 0 0) 53) (eqb (getD ks 0 0) 129) (cond (hasName ks) (behindWord ks) 0) h
 
-pub claim-place : (ks : List ℕ) → isClaim (markOf ks .class) ≡ true → (markOf ks .place ≡ 1) × (1 < length ks)
+pub claim-place : (ks : List ℕ) → isClaim (pieceClass ks .class) ≡ true → (pieceClass ks .place ≡ 1) × (1 < length ks)
 claim-place ks h = (claim-opens ks h .0, long ks (claim-opens ks h .1))
   where
     long : (ks : List ℕ) → isName (getD ks 1 0) ≡ true → 1 < length ks
@@ -67,7 +67,7 @@ claim-name p h = ap isName (sym (kinds-at p 1)) ∙ claim-opens (kinds p) h .1
 
 -- an empty piece claims nothing, and nothing claims what is no element
 empty-claim : isClaim (classOf []) ≡ false
-unfolding kinds markOf isHeading isClosing endsAt hasName behindWord claimMark
+unfolding kinds pieceClass isHeading isClosing endsAt hasName behindWord claimClass
 empty-claim = refl
 
 pub none-claims : (x : Element) → claims x [] ≡ false
@@ -140,7 +140,7 @@ module _ (s : List ℕ) (z y : ℕ) (ds : List Done) (cuts : piecesDone ds ≡ p
       inside : j < length ds
       inside = claims-inside j h
 
-      place : (markOf (kinds (doneAt ds j .piece)) .place ≡ 1) × (1 < length (kinds (doneAt ds j .piece)))
+      place : (pieceClass (kinds (doneAt ds j .piece)) .place ≡ 1) × (1 < length (kinds (doneAt ds j .piece)))
       place = claim-place (kinds (doneAt ds j .piece)) (ap (λ (p : Piece). isClaim (classOf p)) (piece-is j) ∙ h)
 
       long : 1 < length (doneAt ds j .piece)

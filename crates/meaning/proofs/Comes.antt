@@ -9,11 +9,11 @@ use lib.Dec.{eqb}
 use Rattle.laws.proofs.Laws.{clash}
 use Rattle.forms.specs.Tree.{Row}
 use Rattle.pieces.specs.Kinds.{anyDown}
-use Rattle.tree.specs.Items.{unlike, rowsOfPiece}
+use Rattle.tree.specs.code.PieceRows.{unlike, rowsOfPiece}
 use Rattle.tree.proofs.Items.{constant-read, subtype-read}
 use Rattle.folding.specs.declared.Sort.{Sort}
 use Rattle.folding.specs.declared.Sort.the-variants as S
-use Rattle.marks.specs.Marks.{constantOf}
+use Rattle.marks.specs.code.Marks.{constantOf}
 use Rattle.marks.proofs.Sound.{late}
 use Rattle.values.specs.Words.{stateOf}
 use Rattle.values.specs.declared.Value.{Value}
@@ -25,8 +25,9 @@ use Rattle.meaning.specs.Forms.{Item, ranged, HasForm, is-constant, is-s
 use Rattle.meaning.specs.States.{ItemMeets, Met, broken, doubled, by-form, Least, NoneMet}
 use Rattle.meaning.specs.Values.{Gives}
 use Rattle.meaning.specs.Meaning.{Comes, stands, gives, Come, none, more}
-use Rattle.meaning.specs.Items.{valued, bounded, marked, formed, unlessDoubled, valueOf, doneOf, donesFrom}
-use Rattle.meaning.specs.Promises.{Fits, ComesExactly, ComeExactly, ClassByForm}
+use Rattle.meaning.specs.code.PieceValues.{valued, bounded, marked, formed, unlessDoubled, valueOf, doneOf, donesFrom}
+use Rattle.meaning.specs.Forms.{Fits}
+use Rattle.meaning.specs.code.Promises.{ComesExactly, ComeExactly, ClassByForm}
 use Rattle.meaning.proofs.States.{Late, use-late, marked-late}
 use Rattle.meaning.proofs.Least.{Exact}
 use Rattle.meaning.proofs.Later.{Later, Ends}

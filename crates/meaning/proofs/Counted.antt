@@ -13,8 +13,9 @@ use Rattle.records.specs.Tallies.{oneIf, inState, countsFrom, tallyOf}
 use Rattle.values.specs.Words as words
 use Rattle.meaning.specs.Elements.{Piece, piecesOf}
 use Rattle.meaning.specs.Names.{classOf, Done}
-use Rattle.meaning.specs.Items.{valueOf, doneOf, donesFrom, donesOf, itemValueWords, recordOf, recordsFrom, recordsOf}
-use Rattle.meaning.specs.Promises.{itemsAmong, sum}
+use Rattle.meaning.specs.code.PieceValues.{valueOf, doneOf, donesFrom, donesOf, recordsOf}
+use Rattle.meaning.specs.Records.{itemValueWords, recordOf, recordsFrom}
+use Rattle.meaning.specs.code.Promises.{itemsAmong, sum}
 use Rattle.meaning.proofs.Records.{word-at-record}
 
 -- ---- a state among m from k on

@@ -26,7 +26,7 @@ unfolding kindsEach kinds
 join true x ps = refl
 join false x ps = front x ps
 
-pub cut-kinds : (l : List Element) → kindsEach (cut closes opens l) ≡ by-kinds.piecesOf (kinds l)
+pub cut-kinds : (l : List Element) → kindsEach (cut closes opens l) ≡ by-kinds.kindPieces (kinds l)
 unfolding kindsEach kinds cut
 cut-kinds [] = refl
 cut-kinds (x ∷ []) = refl

@@ -7,14 +7,14 @@ use native.Mathlib.Omega.{arith}
 use borrow.Author.Tests.{eq-eqb, eqb-true}
 use lib.Dec.{eqb, eqb→eq}
 use lib.ListN.{getD}
-use Rattle.forms.specs.Kinds.{numberOf, terminalOf}
-use Rattle.forms.specs.Kinds as kind
+use Rattle.forms.specs.code.Kinds.{numberOf, terminalOf}
+use Rattle.forms.specs.code.Kinds as kind
 use Rattle.forms.specs.Lines.{Item}
 use Rattle.forms.specs.Tree.{Row}
 use Rattle.one_tree.specs.Trees.{IsSubtype}
 use Rattle.one_tree.proofs.Alone.{one-direction}
 use Rattle.pieces.specs.Kinds.{word-downto, anyDown}
-use Rattle.tree.specs.Answers.{terminalsIn}
+use Rattle.tree.specs.code.Answers.{terminalsIn}
 use Rattle.meaning.specs.Elements.{Piece, kinds}
 use Rattle.meaning.specs.Forms.{toForms, Goes, to, downto}
 use Rattle.meaning.proofs.Readings.{to-forms}

@@ -14,19 +14,19 @@ use Rattle.same_names.specs.Spelling.{spelt, spelledAs}
 use Rattle.same_names.proofs.Sameness.{same-flips}
 use Rattle.element_reading.specs.Rows.{rowsOf}
 use Rattle.element_reading.proofs.Promises.{stand-in-order}
-use Rattle.pieces.specs.Kinds.{markOf}
+use Rattle.pieces.specs.Kinds.{pieceClass}
 use Rattle.pieces.specs.Records.{nameOf}
-use Rattle.pairs.specs.Pairs.{laterOf, pairFrom}
+use Rattle.pairs.specs.code.Pairs.{laterOf, pairFrom}
 use Rattle.pairs.specs.declared.Pair.{Pair}
 use Rattle.pairs.specs.declared.Pair.the-variants.{Neither}
 use Rattle.records.specs.Records.{wordAt, isClaim}
 use Rattle.records.specs.Tallies.{oneIf}
 use Rattle.names.specs.Language.{languageNames, languageOf}
-use Rattle.names.specs.Names.{share, sharedPair}
+use Rattle.names.specs.code.Names.{share, sharedPair}
 use Rattle.names.specs.code.Links.{recordsIn, claimsElement, another, twinOf, twinsTable}
 use Rattle.names.proofs.Firsts.{any-found, any-at}
 use Rattle.names.proofs.Tables.{filled-at}
-use Rattle.operands.specs.Operands.{bytesAt}
+use Rattle.operands.specs.code.Operands.{bytesAt}
 use Rattle.items.specs.code.Items.{doubledIn}
 use Rattle.pieces.specs.Columns as column
 use Rattle.meaning.specs.Elements.{Element, Piece, at, kinds, piecesOf}
@@ -37,6 +37,7 @@ use Rattle.meaning.proofs.Records.{piecesDone, pieces-length, word-past
 use Rattle.meaning.proofs.Places.{tableOf, elements}
 use Rattle.meaning.proofs.Words.{pieceAt, doneAt, itemTable, pieces-at, class-at, name-at}
 use Rattle.meaning.proofs.Claims.{none-claims, same-beside, dones-length, claim-at, claims-inside, name-element, claims-element, records-room}
+use Rattle.meaning.proofs.Claimed.{doubled-one}
 use Rattle.meaning.proofs.Sameness.{both-ways, number-same, own-claimed, claimed-class}
 
 -- ---- how many claims a name has
@@ -179,6 +180,7 @@ unfolding doubledIn
 doubled-in s z y ds cuts few cs v also i =
     ap (λ (b : Bool). b && (not (eqb (getD (twinsTable s (tableOf s z) (itemTable ds y) 1024) i 0) 0) || not (eqb (languageOf s (tableOf s z) (wordAt (itemTable cs v) i column.name)) 0))) (claim-at s z v cs also i)
     ∙ same-beside (isClaim (classOf (pieceAt (piecesOf s) i))) _ _ (λ c. twins-doubled s z y ds cuts few i c cs v also)
+    ∙ sym (doubled-one (piecesOf s) (pieceAt (piecesOf s) i))
 
 -- ---- sharing does not depend on what the pieces come to
 
@@ -205,7 +207,7 @@ module _ (ds cs : List Done) (y v : ℕ) (one : piecesDone ds ≡ piecesDone cs)
       go true e =
           let h = ltb-true j (length ds) e in
           name-at ds y j h
-          ∙ ap₂ (λ (ps : List Piece) (p : Piece). nameOf (total (take j ps)) (markOf (kinds p) .place)) one (same-piece j)
+          ∙ ap₂ (λ (ps : List Piece) (p : Piece). nameOf (total (take j ps)) (pieceClass (kinds p) .place)) one (same-piece j)
           ∙ sym (name-at cs v j (omega (arith, same-length)))
       go false e = let h = ltb-false j (length ds) e in word-past ds y j 3 h ∙ sym (word-past cs v j 3 (omega (arith, same-length)))
 

@@ -16,7 +16,8 @@ use Rattle.integers.specs.Integers.{sizedOf, arithmeticOf}
 use Rattle.integers.specs.declared.Folded.{Folded}
 use Rattle.integers.specs.declared.Folded.the-variants.{Whole, Truth, Stopped}
 use Rattle.literals.specs.Literals.{literalOf}
-use Rattle.folding.specs.Operators.{relationOf, placeOf, logicOf, decides, binaryOf, unaryOf}
+use Rattle.folding.specs.Operators.{relationOf, truthPlace, logicOf, decides}
+use Rattle.folding.specs.code.Folding.{binaryOf, unaryOf}
 use Rattle.folding.specs.declared.Logic as L
 use Rattle.folding.specs.declared.Operator.{Operator}
 use Rattle.folding.specs.declared.Operator.the-variants.{Arithmetic, Relation, Logic, Join}
@@ -25,10 +26,12 @@ use Rattle.folding.specs.declared.Sign.the-variants.{Plus, Minus, Absolute, Not
 use Rattle.folding.specs.declared.Sort.{Sort}
 use Rattle.folding.specs.declared.Sort.the-variants as S
 use Rattle.folding.specs.declared.Outcome.{Outcome}
-use Rattle.operands.specs.Operands.{operatorOf, signOf, literalBy}
-use Rattle.marks.specs.Marks.{operandOf}
+use Rattle.operands.specs.Operands.{operatorOf, signOf}
+use Rattle.operands.specs.code.Operands.{literalBy}
+use Rattle.marks.specs.code.Marks.{operandOf}
 use Rattle.marks.proofs.Sound.{late}
-use Rattle.expressions.specs.Expressions.{behind, outcomeIn}
+use Rattle.forms.specs.Tree.{behind}
+use Rattle.expressions.specs.code.Expressions.{outcomeIn}
 use Rattle.values.specs.declared.Value.{Value}
 use Rattle.values.specs.declared.Value.the-variants as value
 use Rattle.integers.specs.declared.Kind.the-variants as K
@@ -37,7 +40,7 @@ use Rattle.meaning.specs.Forms.{Expression, name, literal, unfolded, una
 use Rattle.meaning.specs.States as met
 use Rattle.meaning.specs.States.{Kind, integer, truth, expressionKind, Meets, NoneMet}
 use Rattle.meaning.specs.Values.{skips, Folds, number-used, truth-used, spelled, stops, plus, minus, absolute, opposite, left-stops, skipped, right-stops, right-stops-too, computed, related, truths-related, connected}
-use Rattle.meaning.specs.Items.{valued}
+use Rattle.meaning.specs.code.PieceValues.{valued}
 use Rattle.meaning.proofs.Sound.{SoundUse}
 use Rattle.meaning.proofs.Least.{Exact, out, row-name, row-called, row-attribute, row-literal, row-unary, row-binary, behind-less, exact-in}
 use Rattle.meaning.proofs.Later.{Fit, operand-fit, literal-by-fit, outcome-fit}

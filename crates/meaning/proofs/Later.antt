@@ -24,19 +24,22 @@ use Rattle.folding.specs.declared.Sign.the-variants as G
 use Rattle.folding.specs.declared.Sort.{Sort}
 use Rattle.folding.specs.declared.Sort.the-variants as S
 use Rattle.folding.specs.declared.Outcome.{Outcome}
-use Rattle.folding.specs.Operators.{decides, logicOf, afterTruth, binaryOf, unaryOf}
-use Rattle.folding.specs.Outcomes.{wrongSort, operatorSort, signSort, combinedOf, signedOf, settle}
-use Rattle.operands.specs.Leaves.{wrongLeaf, literalLeaf}
+use Rattle.folding.specs.Operators.{decides, logicOf}
+use Rattle.folding.specs.code.Folding.{afterTruth, binaryOf, unaryOf}
+use Rattle.folding.specs.code.Outcomes.{wrongSort, operatorSort, signSort, combinedOf, signedOf, settle}
+use Rattle.operands.specs.code.Leaves.{wrongLeaf, literalLeaf}
 use Rattle.operands.proofs.Literal.{literal-sized}
-use Rattle.operands.specs.Operands.{operatorOf, signOf, literalBy}
-use Rattle.marks.specs.Marks.{operandOf, markSort, heldBy, valueIn, constantOf, subtypeOf, insideOf, directed, boundsIn, rangedOf}
-use Rattle.expressions.specs.Expressions.{behind, rowOutcome, outcomeIn}
+use Rattle.operands.specs.Operands.{operatorOf, signOf}
+use Rattle.operands.specs.code.Operands.{literalBy}
+use Rattle.marks.specs.code.Marks.{operandOf, markSort, heldBy, valueIn, constantOf, subtypeOf, insideOf, directed, boundsIn, rangedOf}
+use Rattle.forms.specs.Tree.{behind}
+use Rattle.expressions.specs.code.Expressions.{rowOutcome, outcomeIn}
 use Rattle.values.specs.declared.Value.{Value}
 use Rattle.values.specs.declared.Value.the-variants.{Number, Truth, Range, Truths, Without}
 use Rattle.states.specs.States as state
 use Rattle.integers.specs.declared.Kind.the-variants as K
 use Rattle.meaning.specs.Elements.{Element, Piece, at}
-use Rattle.meaning.specs.Items.{valued}
+use Rattle.meaning.specs.code.PieceValues.{valued}
 
 -- a value, or one of the states 7 to 10
 abbrev pub Later : Value → Type 0

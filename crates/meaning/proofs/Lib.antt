@@ -27,4 +27,5 @@ pub mod Promises
 pub mod Comes
 pub mod Trees
 pub mod Together
+pub mod Frames
 pub mod Claimed

@@ -17,10 +17,10 @@ use Rattle.folding.specs.declared.Operator.the-variants as O
 use Rattle.folding.specs.declared.Sort.{Sort}
 use Rattle.folding.specs.declared.Sort.the-variants as S
 use Rattle.folding.specs.declared.Outcome.{Outcome}
-use Rattle.folding.specs.Outcomes.{operatorSort, settle}
-use Rattle.marks.specs.Marks.{markSort, valueIn, constantOf, subtypeOf, boundsIn, rangedOf}
+use Rattle.folding.specs.code.Outcomes.{operatorSort, settle}
+use Rattle.marks.specs.code.Marks.{markSort, valueIn, constantOf, subtypeOf, boundsIn, rangedOf}
 use Rattle.marks.proofs.Sound.{late, Sound}
-use Rattle.expressions.specs.Expressions.{behind}
+use Rattle.forms.specs.Tree.{behind}
 use Rattle.values.specs.declared.Value.{Value}
 use Rattle.values.specs.declared.Value.the-variants.{Number, Truth, Range, Truths, Without}
 use Rattle.integers.specs.declared.Kind.the-variants as K
@@ -29,7 +29,7 @@ use Rattle.meaning.specs.Forms.{Expression, Is, Item, constant, subtype,
 use Rattle.meaning.specs.States.{Kind, integer, truth, neither, expressionKind, Meets, markOf, Least, NoneMet}
 use Rattle.meaning.specs.States.{ItemMeets, mark-without, number-as-type, truth-as-type, value, truth-in-range, integer-in-boolean, range-on-boolean, first, first-truth, second, second-truth}
 use Rattle.meaning.specs.Values.{Folds, Gives, value-stops, first-stops, second-stops, number-held, truth-held, same-range, boolean, upward, downward}
-use Rattle.meaning.specs.Items.{valued}
+use Rattle.meaning.specs.code.PieceValues.{valued}
 use Rattle.meaning.proofs.Sound.{SoundUse}
 use Rattle.meaning.proofs.Least.{Among, mixed, noTruth, Exact, exact-via, operator-exact, valued-exact, one-least, truth-of, truth-met, mixed-of, mixed-met}
 use Rattle.meaning.proofs.Folding.{OfKind, folds-sound, folds-complete, folded-kind}

@@ -14,7 +14,7 @@ use Rattle.same_names.specs.Spelling.{spelt}
 use Rattle.same_names.proofs.Spelling.{unlike}
 use Rattle.element_reading.specs.Rows.{rowsOf}
 use Rattle.element_reading.specs.Table.{cells}
-use Rattle.operands.specs.Operands.{bytesAt}
+use Rattle.operands.specs.code.Operands.{bytesAt}
 use Rattle.element_reading.proofs.Promises.{stand-in-order}
 use Rattle.meaning.specs.Elements.{elementsOf, at}
 use Rattle.meaning.specs.Sameness.{sameAs}

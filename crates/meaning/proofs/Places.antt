@@ -14,9 +14,9 @@ use Rattle.element_reading.proofs.TableLaws.{length-cells}
 use Rattle.places.specs.Places.{kindsOf}
 use Rattle.pieces.specs.Kinds as by-kinds
 use Rattle.records.specs.Records.{wordAt}
-use Rattle.operands.specs.Operands.{literalBy, literalIn}
-use Rattle.tree.specs.Answers.{wordsOf}
-use Rattle.tree.specs.Items.{rowsOfPiece, pieceWords, itemsIn, itemRows}
+use Rattle.operands.specs.code.Operands.{literalBy, literalIn}
+use Rattle.forms.specs.Words.{wordsOf}
+use Rattle.tree.specs.code.PieceRows.{rowsOfPiece, pieceWords, itemsIn, itemRows}
 use Rattle.tree.proofs.Items as by-rows
 use Rattle.tree.proofs.Items.{item-rows-at, item-rows-size}
 use Rattle.expressions.specs.Folds.{elementIn, literalAt, kindInPiece}
@@ -111,12 +111,12 @@ module _ (s : List ℕ) (z : ℕ) (before after : List Piece) (p : Piece) (split
 
   -- the rows of the piece, in the row table of the text
   module _ (count : ℕ) (whole : count ≡ length (rowsOf s)) (few : length (rowsOf s) ≤ 8192) where
-    pieces-read : by-kinds.piecesOf (kindsOf (itemsIn (tableOf s z) count 40960) (tableOf s z)) ≡ kindsEach before ++ kinds p ∷ kindsEach after
+    pieces-read : by-kinds.kindPieces (kindsOf (itemsIn (tableOf s z) count 40960) (tableOf s z)) ≡ kindsEach before ++ kinds p ∷ kindsEach after
     unfolding piecesOf
     pieces-read =
         let e : itemsIn (tableOf s z) count 40960 ≡ length (rowsOf s) = omega (arith, table-length s z) in
-        ap (λ (k : ℕ). by-kinds.piecesOf (kindsOf k (tableOf s z))) e
-        ∙ ap (λ (ks : List ℕ). by-kinds.piecesOf ks) (kinds-of s (rowsOf s) (replicate z 0))
+        ap (λ (k : ℕ). by-kinds.kindPieces (kindsOf k (tableOf s z))) e
+        ∙ ap (λ (ks : List ℕ). by-kinds.kindPieces ks) (kinds-of s (rowsOf s) (replicate z 0))
         ∙ sym (cut-kinds (elements s))
         ∙ ap kindsEach (sym split)
         ∙ each-split before p after

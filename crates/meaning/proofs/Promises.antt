@@ -9,9 +9,9 @@ use native.Mathlib.Omega.{arith}
 use borrow.Author.Tests.{eqb-true, eqb-false}
 use lib.Dec.{eqb}
 use lib.ListN.{getD}
-use Rattle.forms.specs.Names.{constant, subtype}
+use Rattle.forms.specs.code.Names.{constant, subtype}
 use Rattle.forms.specs.Tree.{Row}
-use Rattle.tree.specs.Items.{unlike, rowsOfPiece}
+use Rattle.tree.specs.code.PieceRows.{unlike, rowsOfPiece}
 use Rattle.tree.proofs.Items.{Rows, constant-rows, subtype-rows, other-rows}
 use Rattle.values.specs.Words.{stateOf}
 use Rattle.values.specs.declared.Value.{Value}
@@ -19,8 +19,9 @@ use Rattle.values.specs.declared.Value.the-variants.{Number, Truth, Range, Trut
 use Rattle.meaning.specs.Elements.{Piece, at, kinds}
 use Rattle.meaning.specs.Names.{classOf, ownDoubled, Done, useOf}
 use Rattle.meaning.specs.Forms.{Item, HasForm, is-constant, is-subtype, is-ranged}
-use Rattle.meaning.specs.Items.{formed, unlessDoubled, valueOf}
-use Rattle.meaning.specs.Promises.{Fits, BrokenExactly, DoubledExactly, LaterElse, StatesKnown, AllCounted}
+use Rattle.meaning.specs.code.PieceValues.{formed, unlessDoubled, valueOf}
+use Rattle.meaning.specs.Forms.{Fits}
+use Rattle.meaning.specs.code.Promises.{BrokenExactly, DoubledExactly, LaterElse, StatesKnown, AllCounted}
 use Rattle.marks.proofs.Sound.{Between}
 use Rattle.meaning.proofs.States.{Late, marked-late}
 use Rattle.meaning.proofs.Counted.{all-counted-by}

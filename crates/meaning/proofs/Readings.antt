@@ -4,14 +4,15 @@ use mathlib.Core.Path.{_≡_, refl, sym, ap₂, subst}
 use mathlib.Core.Logic.{_↔_}
 use mathlib.Core.List.{List, [], _∷_}
 use Prim.Native.Nat.{ℕ}
-use Rattle.forms.specs.Names.{constant, subtype}
-use Rattle.forms.specs.Tree.{Row, State, rowsOf}
-use Rattle.forms.specs.Items.{ItemReading}
+use Rattle.forms.specs.code.Names.{constant, subtype}
+use Rattle.forms.specs.Tree.{Row}
+use Rattle.forms.specs.code.Frames.{State, rowsOf}
+use Rattle.forms.specs.code.ItemReading.{ItemReading}
 use Rattle.one_tree.specs.Trees.{IsConstant, IsSubtype, Shallow}
 use Rattle.one_tree.proofs.Elements.{form-kind}
 use Rattle.one_tree.proofs.Alone.{constant-alone, subtype-alone}
-use Rattle.tree.specs.Answers.{terminalsIn}
-use Rattle.tree.specs.Items.{unlike}
+use Rattle.tree.specs.code.Answers.{terminalsIn}
+use Rattle.tree.specs.code.PieceRows.{unlike}
 use Rattle.meaning.specs.Elements.{Piece, kinds}
 use Rattle.meaning.specs.Forms.{toForms, Tree}
 

@@ -9,7 +9,7 @@ use borrow.Author.Tests.{lt-ltb}
 use lib.Dec.{ltb}
 use lib.ListN.{length, getD, set, replicate, length-append}
 use lib.Seq.{sets}
-use Rattle.pieces.specs.Kinds.{markOf}
+use Rattle.pieces.specs.Kinds.{pieceClass}
 use Rattle.pieces.specs.Records as marks
 use Rattle.records.specs.Records.{wordAt, isItem}
 use Rattle.values.specs.declared.Value.{Value}
@@ -20,7 +20,8 @@ use Rattle.pieces.specs.Columns as column
 use Rattle.meaning.specs.Elements.{Piece, kinds}
 use Rattle.meaning.proofs.Cutting.{kindsEach, total, kinds-length}
 use Rattle.meaning.specs.Names.{Done, classOf}
-use Rattle.meaning.specs.Items.{itemValueWords, recordOf, recordsFrom}
+use Rattle.meaning.specs.Records.{itemValueWords, recordOf, recordsFrom}
+use Rattle.laws.proofs.Laws.{zeros-at}
 
 -- a piece that waits: the four last words of its record are zeros
 abbrev pub pending : Piece → Done
@@ -55,7 +56,7 @@ words-four false v = refl
 
 pub record-length : (from : ℕ) (d : Done) → length (recordOf from d) ≡ recordWords
 unfolding recordOf
-record-length from d = omega (arith, words-four (isItem (markOf (kinds (d .piece)) .class)) (d .value))
+record-length from d = omega (arith, words-four (isItem (pieceClass (kinds (d .piece)) .class)) (d .value))
 
 pub records-length : (from : ℕ) (ds : List Done) → length (recordsFrom from ds) ≡ recordWords * length ds
 unfolding recordsFrom
@@ -80,11 +81,6 @@ getD-behind : (l m : List ℕ) (i k : ℕ) → k ≡ length l + i → getD (l ++
 getD-behind [] m i k e = let z : k ≡ i = omega arith in ap (λ (n : ℕ). getD m n 0) z
 getD-behind (x ∷ l) m i zero e = absurd (omega arith)
 getD-behind (x ∷ l) m i (suc k) e = getD-behind l m i k (omega arith)
-
-zeros-at : (y i : ℕ) → _≡_ {A = ℕ} (getD (replicate y 0) i 0) 0
-zeros-at zero i = refl
-zeros-at (suc y) zero = refl
-zeros-at (suc y) (suc i) = zeros-at y i
 
 -- the table split at a record
 split : (ds es : List Done) (d : Done) (rest : List ℕ) → recordsFrom 0 (ds ++ d ∷ es) ++ rest
@@ -124,8 +120,8 @@ pub marked-records : (from : ℕ) (ps : List Piece) → marks.pendingRecords fro
 unfolding marks.pendingRecords marks.pendingRecord recordsFrom recordOf pendings kindsEach
 marked-records from [] = refl
 marked-records from (p ∷ ps) =
-    ap (λ (n : ℕ). (markOf (kinds p) .class ∷ from ∷ n ∷ marks.nameOf from (markOf (kinds p) .place) ∷ 0 ∷ 0 ∷ 0 ∷ 0 ∷ []) ++ marks.pendingRecords (from + n) (kindsEach ps)) (kinds-length p)
-    ∙ ap₂ (λ (a b : List ℕ). (markOf (kinds p) .class ∷ from ∷ length p ∷ marks.nameOf from (markOf (kinds p) .place) ∷ a) ++ b) (waits (isItem (markOf (kinds p) .class))) (marked-records (from + length p) ps)
+    ap (λ (n : ℕ). (pieceClass (kinds p) .class ∷ from ∷ n ∷ marks.nameOf from (pieceClass (kinds p) .place) ∷ 0 ∷ 0 ∷ 0 ∷ 0 ∷ []) ++ marks.pendingRecords (from + n) (kindsEach ps)) (kinds-length p)
+    ∙ ap₂ (λ (a b : List ℕ). (pieceClass (kinds p) .class ∷ from ∷ length p ∷ marks.nameOf from (pieceClass (kinds p) .place) ∷ a) ++ b) (waits (isItem (pieceClass (kinds p) .class))) (marked-records (from + length p) ps)
   where
     waits : (b : Bool) → _≡_ {A = List ℕ} (0 ∷ 0 ∷ 0 ∷ 0 ∷ []) (itemValueWords b (Without 0))
     waits true = refl
@@ -144,8 +140,8 @@ module _ (ds es : List Done) (p : Piece) (v : Value) (rest : List ℕ) where
       ∙ sym (split ds es done rest)
     where
       same : (b : Bool) → b ≡ false
-          → _≡_ {A = List ℕ} (classOf p ∷ (0 + total (piecesDone ds)) ∷ length p ∷ marks.nameOf (0 + total (piecesDone ds)) (markOf (kinds p) .place) ∷ itemValueWords b (Without 0))
-          (classOf p ∷ (0 + total (piecesDone ds)) ∷ length p ∷ marks.nameOf (0 + total (piecesDone ds)) (markOf (kinds p) .place) ∷ itemValueWords b v)
+          → _≡_ {A = List ℕ} (classOf p ∷ (0 + total (piecesDone ds)) ∷ length p ∷ marks.nameOf (0 + total (piecesDone ds)) (pieceClass (kinds p) .place) ∷ itemValueWords b (Without 0))
+          (classOf p ∷ (0 + total (piecesDone ds)) ∷ length p ∷ marks.nameOf (0 + total (piecesDone ds)) (pieceClass (kinds p) .place) ∷ itemValueWords b v)
       same true e = let z : _≡_ {A = ℕ} 0 1 = cc in absurd (omega arith)
       same false e = refl
 
@@ -168,7 +164,7 @@ module _ (ds es : List Done) (p : Piece) (v : Value) (rest : List ℕ) where
       ∙ sym (split ds es done rest)
     where
       filled : (b : Bool) → b ≡ true → (l : List ℕ)
-          → _≡_ {A = List ℕ} (sets ((classOf p ∷ (0 + total (piecesDone ds)) ∷ length p ∷ marks.nameOf (0 + total (piecesDone ds)) (markOf (kinds p) .place) ∷ itemValueWords b (Without 0)) ++ l) 4 (valueWords v))
-          ((classOf p ∷ (0 + total (piecesDone ds)) ∷ length p ∷ marks.nameOf (0 + total (piecesDone ds)) (markOf (kinds p) .place) ∷ itemValueWords b v) ++ l)
+          → _≡_ {A = List ℕ} (sets ((classOf p ∷ (0 + total (piecesDone ds)) ∷ length p ∷ marks.nameOf (0 + total (piecesDone ds)) (pieceClass (kinds p) .place) ∷ itemValueWords b (Without 0)) ++ l) 4 (valueWords v))
+          ((classOf p ∷ (0 + total (piecesDone ds)) ∷ length p ∷ marks.nameOf (0 + total (piecesDone ds)) (pieceClass (kinds p) .place) ∷ itemValueWords b v) ++ l)
       filled true e l = refl
       filled false e l = let z : _≡_ {A = ℕ} 0 1 = cc in absurd (omega arith)

@@ -9,14 +9,16 @@ use lib.Dec.{eqb}
 use borrow.Author.Tests.{ne-eqb}
 use lib.ListN.{length, getD, take, drop, replicate, length-drop}
 use Rattle.laws.proofs.Laws.{clash}
-use Rattle.grammars.specs.Actions.{End, read, bad, stopped, spent}
-use Rattle.forms.specs.Names.{constant, subtype}
-use Rattle.forms.specs.Tree.{Row, State, Refusal, rowsOf}
-use Rattle.forms.specs.Reading.{readingFrom}
+use Rattle.grammars.specs.code.Actions.{End, read, bad, stopped, spent}
+use Rattle.forms.specs.code.Names.{constant, subtype}
+use Rattle.forms.specs.Tree.{Row}
+use Rattle.forms.specs.code.Frames.{State, Refusal, rowsOf}
+use Rattle.forms.specs.code.Reading.{readingFrom}
 use Rattle.forms.proofs.Items.{reads-items}
 use Rattle.forms.proofs.Positive.{Positive, all-positive, top-positive}
-use Rattle.tree.specs.Answers.{terminalsIn, wordsOf}
-use Rattle.tree.specs.Items.{unlike, readingBy, readingOfPiece, rowsRead, rowsOfPiece, pieceWords}
+use Rattle.tree.specs.code.Answers.{terminalsIn}
+use Rattle.forms.specs.Words.{wordsOf}
+use Rattle.tree.specs.code.PieceRows.{unlike, readingBy, readingOfPiece, rowsRead, rowsOfPiece, pieceWords}
 use Rattle.tree.proofs.Pieces.{rows-few}
 use Rattle.items.specs.code.Items.{rowsUntil}
 use Rattle.forms.specs.Words.{rowsIn}

@@ -9,22 +9,24 @@ use native.Mathlib.Omega.{arith}
 use borrow.Author.Tests.{eqb-true, eqb-false, ltb-true}
 use lib.Dec.{T, eqb, leb, ltb, eqb→eq, leb→le}
 use lib.ListN.{length, getD, take, drop, length-drop}
-use Rattle.laws.proofs.Laws.{clash}
+use Rattle.laws.proofs.Laws.{clash, is-true}
 use Rattle.grammars.proofs.Theory.{or-cases, and-left, and-right}
-use Rattle.forms.specs.Kinds.{numberOf, word-range, word-to, word-downto, semicolon}
-use Rattle.forms.specs.Names as form
-use Rattle.forms.specs.Lines.{Item, at, row, isIn, sort, sortOf, telling, operates, branches, Pattern, nothing, one, both, opt, seq, Fits, none, this, bare, inside, then, left, right, operand, line, rows, elements, itemsIn, ownItems, IsAmong, operatorOf, RowsFit}
+use Rattle.forms.specs.code.Kinds.{numberOf, word-range, word-to, word-downto, semicolon}
+use Rattle.forms.specs.code.Names as form
+use Rattle.forms.specs.Spellings.{isIn}
+use Rattle.forms.specs.Lines.{Item, at, row, sort, sortOf, telling, operates, branches, Pattern, nothing, one, both, opt, seq, Fits, none, this, bare, inside, then, left, right, operand, line, rows, elements, itemsIn, ownItems, IsAmong, operatorAt, RowsFit}
 use Rattle.forms.specs.code.Shapes.{e}
-use Rattle.forms.specs.Tree.{Row, State, rowsOf}
-use Rattle.forms.specs.Items.{ItemReading, itemRow, markRow}
+use Rattle.forms.specs.Tree.{Row}
+use Rattle.forms.specs.code.Frames.{State, rowsOf}
+use Rattle.forms.specs.code.ItemReading.{ItemReading, itemRow, markRow}
 use Rattle.forms.proofs.Shapes.{begin-with-mark}
 use Rattle.forms.proofs.Fitting.{constant-rows-fit, subtype-rows-fit}
 use Rattle.form_table.proofs.Tables.{terminal-small}
-use Rattle.expressions.specs.Expressions.{behind}
+use Rattle.forms.specs.Tree.{behind}
 use Rattle.meaning.specs.Elements.{Piece, kinds}
 use Rattle.meaning.specs.Elements as worded
-use Rattle.tree.specs.Answers.{terminalsIn}
-use Rattle.tree.specs.Items.{unlike}
+use Rattle.tree.specs.code.Answers.{terminalsIn}
+use Rattle.tree.specs.code.PieceRows.{unlike}
 use Rattle.meaning.specs.Forms.{Item as Item′, constant, subtype, ranged, Goes, to, downto, HasForm, is-constant, is-subtype, is-ranged}
 use Rattle.meaning.specs.Forms.{Expression, name, literal, unfolded, unary, binary, Is, is-name, is-called, is-attribute, is-literal, is-unary, is-binary}
 use Rattle.meaning.proofs.Readings.{to-forms, constant-reading, subtype-reading}
@@ -302,13 +304,9 @@ module _ (w : List ℕ) where
     form-between : (r : Row) → T (isExpression (sortOf w r)) → (24 ≤ r .form) × (r .form ≤ 29)
     form-between r h =
         let a = leb→le (24 * 128) (sortOf w r) (and-left (leb (24 * 128) (sortOf w r)) (ltb (sortOf w r) (30 * 128)) h) in
-        let b = ltb-true (sortOf w r) (30 * 128) (T-true (ltb (sortOf w r) (30 * 128)) (and-right (leb (24 * 128) (sortOf w r)) (ltb (sortOf w r) (30 * 128)) h)) in
+        let b = ltb-true (sortOf w r) (30 * 128) (is-true (ltb (sortOf w r) (30 * 128)) (and-right (leb (24 * 128) (sortOf w r)) (ltb (sortOf w r) (30 * 128)) h)) in
         let c = telling-small r in
         (omega arith, omega arith)
-      where
-        T-true : (b : Bool) → T b → b ≡ true
-        T-true true h = refl
-        T-true false h = absurd h
 
     abbrev SixForms : ℕ → Type 0
     SixForms n = (n ≡ 24) ⊎ ((n ≡ 25) ⊎ ((n ≡ 26) ⊎ ((n ≡ 27) ⊎ ((n ≡ 28) ⊎ (n ≡ 29)))))
@@ -333,18 +331,18 @@ module _ (w : List ℕ) where
     abbrev Some : Piece → List Row → Type 0
     Some p rs = (x : Expression) × Is p rs x
 
-    by-form : (p : Piece) (r : Row) (rs : List Row) → SixForms (r .form) → Fits w (operatorOf r) (line (r .form)) (ownItems w r rs)
+    by-form : (p : Piece) (r : Row) (rs : List Row) → SixForms (r .form) → Fits w (operatorAt r) (line (r .form)) (ownItems w r rs)
         → ((Headed rs) → Some p rs) → ((Headed (behind rs)) → Some p (behind rs)) → Some p (r ∷ rs)
     by-form p r rs (inl e) f g h = (name (worded.at p (r .first)), is-name e)
     by-form p r rs (inr (inl e)) f g h = (unfolded, is-called e)
     by-form p r rs (inr (inr (inl e))) f g h = (unfolded, is-attribute e)
     by-form p r rs (inr (inr (inr (inl e)))) f g h = (literal (worded.at p (r .first)), is-literal e)
     by-form p r rs (inr (inr (inr (inr (inl e))))) f g h =
-        let c = on-28 (subst (λ (n : ℕ). Fits w (operatorOf r) (line n) (ownItems w r rs)) e f) in
+        let c = on-28 (subst (λ (n : ℕ). Fits w (operatorAt r) (line n) (ownItems w r rs)) e f) in
         let x = g (one-behind (r .rows - 1) (r .first) (r .first + r .count) rs c) in
         (unary _ (x .0), is-unary e refl (x .1))
     by-form p r rs (inr (inr (inr (inr (inr e))))) f g h =
-        let c = on-29 (subst (λ (n : ℕ). Fits w (operatorOf r) (line n) (ownItems w r rs)) e f) in
+        let c = on-29 (subst (λ (n : ℕ). Fits w (operatorAt r) (line n) (ownItems w r rs)) e f) in
         let b = two-behind (r .rows - 1) (r .first) (r .first + r .count) rs c in
         let x = g (b .0) in
         let y = h (b .1) in
@@ -403,7 +401,7 @@ module _ (p : Piece) where
   ranged-form m s lo hi a r e t c q =
       let o = first-of w (length m) lo hi m a [] c in
       let u = subst (RowsFit w) (o .is) t in
-      let f = subst (λ (n : ℕ). Fits w (operatorOf (o .one)) (line n) (ownItems w (o .one) (o .others))) (ten (o .one) a (o .sorted) q) (u .1) in
+      let f = subst (λ (n : ℕ). Fits w (operatorAt (o .one)) (line n) (ownItems w (o .one) (o .others))) (ten (o .one) a (o .sorted) q) (u .1) in
       let d = on-10 w f in
       let g = goes-10 w f in
       let b = two-behind w (o .one .rows - 1) (o .one .first) (o .one .first + o .one .count) (o .others) d in
@@ -427,3 +425,29 @@ module _ (p : Piece) where
               let n = none-of w (length m) (d .0) (0 + length w) m (d .1) (omega arith) in
               (subtype _, is-subtype (subtype-reading p _ .1 (s, (r, e ∙ ap (λ (l : List Row). itemRow 5 (length w) m ∷ (markRow ∷ l)) n))))
           on (a, inr (b, (c, q))) = let d = behind-mark m (0 + length w) a (b ∷ []) c in ranged-form m s (d .0) (0 + length w) b r e (f .2 .2) (sym (d .1)) q
+
+  -- a subtype's third row, where it has one, is its range's
+  pub third-row : (s : State) → ItemReading form.subtype unlike w s → (item mark range : Row) (rs : List Row) → rowsOf s ≡ item ∷ mark ∷ range ∷ rs → range .form ≡ 10
+  third-row s r item mark range rs q = by (begin-with-mark .1 unlike w s r) (subtype-rows-fit unlike w s r .1)
+    where
+      by : (m : List Row) × (rowsOf s ≡ itemRow 5 (length w) m ∷ (markRow ∷ m)) → RowsFit w (rowsOf s) → range .form ≡ 10
+      by (m, e) t = on (on-5 w (subst (RowsFit w) e t .1))
+        where
+          third : m ≡ range ∷ rs
+          third = cc
+
+          on : (a : ℕ) × ((children (ownItems w (itemRow 5 (length w) m) (markRow ∷ m)) ≡ a ∷ []) ⊎ ((b : ℕ) × ((children (ownItems w (itemRow 5 (length w) m) (markRow ∷ m)) ≡ a ∷ (b ∷ [])) × (b ≡ sort 10 0))))
+              → range .form ≡ 10
+          on (a, inl c) =
+              let d = behind-mark m (0 + length w) a [] c in
+              let n = none-of w (length m) (d .0) (0 + length w) m (d .1) (omega arith) in
+              let y = third in
+              let z : _≡_ {A = ℕ} 0 1 = cc in
+              clash z
+          on (a, inr (b, (c, q))) =
+              let d = behind-mark m (0 + length w) a (b ∷ []) c in
+              let o = first-of w (length m) (d .0) (0 + length w) m b [] (sym (d .1)) in
+              let i = o .is in
+              let y = third in
+              let z : o .one ≡ range = cc in
+              ap (λ (x : Row). x .form) (sym z) ∙ ten (o .one) b (o .sorted) q

@@ -11,22 +11,24 @@ use lib.Dec.{eqb}
 use Rattle.laws.proofs.Laws.{clash}
 use Rattle.forms.specs.Tree.{Row}
 use Rattle.records.specs.Records.{isClaim}
-use Rattle.tree.specs.Items.{rowsOfPiece}
+use Rattle.tree.specs.code.PieceRows.{rowsOfPiece}
 use Rattle.folding.specs.declared.Outcome.{Outcome}
-use Rattle.operands.specs.Operands.{operatorOf, signOf, literalBy}
+use Rattle.operands.specs.Operands.{operatorOf, signOf}
+use Rattle.operands.specs.code.Operands.{literalBy}
 use Rattle.values.specs.Values.{languageValue}
 use Rattle.values.specs.Words.{leanOf}
 use Rattle.values.specs.declared.Value.{Value}
 use Rattle.values.specs.declared.Value.the-variants.{Without}
 use Rattle.marks.proofs.Sound.{Keeps, small, SoundOutcome, Sound, wrong-leaf-sound, literal-sound, combined-sound, signed-sound, operand-sound, lean-sound, language-sound, choose-sound}
 use Rattle.marks.proofs.Laws.{Constant, Subtype, Fits, fits-sound, constant-fits, subtype-fits, ranged-fits}
-use Rattle.expressions.specs.Expressions.{behind, rowOutcome, outcomeIn}
+use Rattle.forms.specs.Tree.{behind}
+use Rattle.expressions.specs.code.Expressions.{rowOutcome, outcomeIn}
 use Rattle.pieces.specs.Kinds.{anyDown}
 use Rattle.states.specs.States as state
 use Rattle.meaning.proofs.Claimed.{claims-class}
 use Rattle.meaning.specs.Elements.{Element, Piece, at, kinds}
 use Rattle.meaning.specs.Names.{classOf, language, claims, doubled, ownDoubled, Done, claimedAbove, firstAbove, useOf}
-use Rattle.meaning.specs.Items.{valued, bounded, formed, unlessDoubled, valueOf, doneOf}
+use Rattle.meaning.specs.code.PieceValues.{valued, bounded, formed, unlessDoubled, valueOf, doneOf}
 use Rattle.meaning.proofs.Good.{GoodDone, Good}
 
 -- ---- expressions, and what is kept of them

@@ -9,7 +9,7 @@ use lib.ListN.{length, length-append}
 use lib.Seq.{sets}
 use Rattle.element_reading.specs.Rows.{rowsOf}
 use Rattle.records.specs.Records.{wordAt, isItem}
-use Rattle.tree.specs.Items.{itemRows}
+use Rattle.tree.specs.code.PieceRows.{itemRows}
 use Rattle.values.specs.declared.Value.{Value}
 use Rattle.uses.specs.code.Uses.{useIn}
 use Rattle.items.specs.code.Items.{doubledIn, valueAt, completedAt, completedFrom, completed}
@@ -19,7 +19,8 @@ use Rattle.pieces.specs.Columns.{recordWords}
 use Rattle.meaning.specs.Elements.{Piece, at, piecesOf}
 use Rattle.meaning.proofs.Cutting.{total}
 use Rattle.meaning.specs.Names.{classOf, ownDoubled, Done, useOf}
-use Rattle.meaning.specs.Items.{recordOf, recordsFrom, valueOf, doneOf, donesFrom, donesOf, recordsOf}
+use Rattle.meaning.specs.Records.{recordOf, recordsFrom}
+use Rattle.meaning.specs.code.PieceValues.{valueOf, doneOf, donesFrom, donesOf, recordsOf}
 use Rattle.meaning.proofs.Records.{pending, pendings, piecesDone, pieces-pending, pieces-append, pieces-length, records-length, word-at-record, skip-record, complete-record}
 use Rattle.meaning.proofs.Good.{Good}
 use Rattle.meaning.proofs.Sound.{good-more}

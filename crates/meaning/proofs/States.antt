@@ -7,14 +7,14 @@ use lib.Dec.{eqb}
 use Rattle.forms.specs.Tree.{Row}
 use Rattle.values.specs.declared.Value.{Value}
 use Rattle.values.specs.declared.Value.the-variants.{Number, Truth, Range, Truths, Without}
-use Rattle.marks.specs.Marks.{constantOf}
+use Rattle.marks.specs.code.Marks.{constantOf}
 use Rattle.values.specs.Words.{leanOf}
 use Rattle.marks.proofs.Sound.{Between, late, Sound, choose-sound}
 use Rattle.marks.proofs.Laws.{Constant, Subtype, constant-fits}
 use Rattle.states.specs.States as state
 use Rattle.meaning.specs.Elements.{Element, Piece}
 use Rattle.meaning.specs.Names.{classOf, doubled, Done, claimedAbove, firstAbove, useOf}
-use Rattle.meaning.specs.Items.{valued, bounded, marked}
+use Rattle.meaning.specs.code.PieceValues.{valued, bounded, marked}
 use Rattle.meaning.proofs.Sound.{SoundUse, valued-sound, bounded-fits}
 
 abbrev pub Late : Value → Type 0

@@ -14,8 +14,9 @@ use Rattle.element_reading.specs.Table.{cells}
 use Rattle.element_reading.specs.Promises.{InOrder}
 use Rattle.element_reading.proofs.TableLaws.{length-cells}
 use Rattle.places.specs.Places.{kindsOf}
-use Rattle.operands.specs.Operands.{bytesAt}
+use Rattle.operands.specs.code.Operands.{bytesAt}
 use Rattle.meaning.specs.Elements.{Element, elementsOf, at, kinds}
+use Rattle.laws.proofs.Laws.{zeros-at}
 
 -- element e of a text and its element table
 unfoldable pub elementAt : List ℕ → List ℕ → ℕ → Element
@@ -26,11 +27,6 @@ unfoldable pub rowWord : List Row → ℕ → ℕ → ℕ
 rowWord [] e j = 0
 rowWord (r ∷ rs) zero j = getD (kindNumber (r .kind) ∷ r .first ∷ r .size ∷ []) j 0
 rowWord (r ∷ rs) (suc e) j = rowWord rs e j
-
-zeros-at : (z i : ℕ) → _≡_ {A = ℕ} (getD (replicate z 0) i 0) 0
-zeros-at zero i = refl
-zeros-at (suc z) zero = refl
-zeros-at (suc z) (suc i) = zeros-at z i
 
 in-row : (j : ℕ) (a b c : ℕ) (l : List ℕ) → j < 3 → getD (a ∷ b ∷ c ∷ l) j 0 ≡ getD (a ∷ b ∷ c ∷ []) j 0
 in-row zero a b c l h = refl

@@ -9,10 +9,10 @@ use borrow.Author.Tests.{eqb-true, eqb-false}
 use lib.Dec.{eqb}
 use lib.ListN.{getD}
 use Rattle.laws.proofs.Laws.{clash}
-use Rattle.forms.specs.Names.{constant, subtype}
+use Rattle.forms.specs.code.Names.{constant, subtype}
 use Rattle.forms.specs.Tree.{Row}
 use Rattle.pieces.specs.Kinds.{word-constant, word-subtype}
-use Rattle.tree.specs.Items.{unlike, rowsOfPiece}
+use Rattle.tree.specs.code.PieceRows.{unlike, rowsOfPiece}
 use Rattle.tree.proofs.Items.{Rows, constant-rows, subtype-rows, other-rows, constant-read, subtype-read}
 use Rattle.meaning.specs.Elements.{Piece, kinds}
 use Rattle.meaning.specs.Forms.{ItemTree}

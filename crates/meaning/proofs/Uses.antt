@@ -25,7 +25,8 @@ use Rattle.pieces.specs.Columns as column
 use Rattle.states.specs.States as state
 use Rattle.meaning.specs.Elements.{Element, Piece, at, piecesOf}
 use Rattle.meaning.specs.Names.{classOf, ownName, claims, language, claimsIn, doubled, Done, claimedAbove, firstAbove, useOf}
-use Rattle.meaning.specs.Items.{itemValueWords}
+use Rattle.meaning.specs.Records.{itemValueWords}
+use Rattle.meaning.proofs.Claimed.{doubled-one}
 use Rattle.meaning.proofs.Good.{GoodDone, Good}
 use Rattle.meaning.proofs.Records.{pending, piecesDone, pieces-append}
 use Rattle.meaning.proofs.Places.{tableOf, elements}
@@ -217,7 +218,7 @@ module _ (s : List ℕ) (z y : ℕ) (ds more : List Done) (cuts : piecesDone (ds
   found-use r true q =
       let p = doneAt ds (r .number) .piece in
       let c = claimed-class (at (elements s) e) p (r .claimed) in
-      good-at (piecesOf s) ds (r .number) (r .inside) good c .1 (both-so (isClaim (classOf p)) (doubled (piecesOf s) (ownName p)) c (sym (claimed-doubled (at (elements s) e) p (r .claimed) (piecesOf s)) ∙ q))
+      good-at (piecesOf s) ds (r .number) (r .inside) good c .1 (doubled-one (piecesOf s) p ∙ both-so (isClaim (classOf p)) (doubled (piecesOf s) (ownName p)) c (sym (claimed-doubled (at (elements s) e) p (r .claimed) (piecesOf s)) ∙ q))
     where
       both-so : (a b : Bool) → a ≡ true → b ≡ true → (a && b) ≡ true
       both-so true b h g = g

@@ -11,15 +11,15 @@ use lib.Seq.{drop-drop, getD-drop}
 use Rattle.element_reading.specs.Rows.{rowsOf}
 use Rattle.forms.specs.Tree.{Row}
 use Rattle.records.specs.Records.{wordAt}
-use Rattle.tree.specs.Answers.{wordsOf}
-use Rattle.tree.specs.Items.{rowsOfPiece, itemRows}
+use Rattle.forms.specs.Words.{wordsOf}
+use Rattle.tree.specs.code.PieceRows.{rowsOfPiece, itemRows}
 use Rattle.tree.proofs.Pieces.{rows-few}
-use Rattle.operands.specs.Operands.{literalBy}
-use Rattle.marks.specs.Marks.{operandOf}
+use Rattle.operands.specs.code.Operands.{literalBy}
+use Rattle.marks.specs.code.Marks.{operandOf}
 use Rattle.values.specs.declared.Value.{Value}
 use Rattle.values.specs.declared.Value.the-variants.{Without}
 use Rattle.uses.specs.code.Uses.{useIn}
-use Rattle.expressions.specs.Expressions.{behind}
+use Rattle.forms.specs.Tree.{behind}
 use Rattle.forms.specs.Words.{rowsIn}
 use Rattle.expressions.specs.Folds.{nameValue, nameIn, literalAt, kindInPiece, foldOf, expressionIn, elementIn}
 use Rattle.expressions.proofs.Expressions.{outcome-same}
@@ -29,13 +29,10 @@ use Rattle.states.specs.States as state
 use Rattle.meaning.specs.Elements.{Piece, at, kinds, piecesOf}
 use Rattle.meaning.proofs.Cutting.{total, kinds-length}
 use Rattle.meaning.specs.Names.{classOf, ownDoubled, Done, useOf}
-use Rattle.meaning.specs.Items.{valued, bounded, formed, unlessDoubled, valueOf}
+use Rattle.meaning.specs.code.PieceValues.{valued, bounded, formed, unlessDoubled, valueOf}
 use Rattle.meaning.proofs.Rows.{rows-back, words-part}
 use Rattle.meaning.proofs.Places.{tableOf, elements, piece-within, behindRows, rows-here, rows-held, goes-down, piece-element, kind-in, literal-at}
-
-words-size : (rs : List Row) → length (wordsOf rs) ≡ 5 * length rs
-words-size [] = refl
-words-size (r ∷ rs) = omega (arith, words-size rs)
+use Rattle.forms.proofs.Words.{words-size}
 
 -- the rows that words are, all of them
 rows-all : (rs : List Row) → length rs ≤ 8192 → rowsIn (min (length (wordsOf rs) / 5) 8192) (wordsOf rs) ≡ rs

@@ -6,6 +6,7 @@ use mathlib.Core.Logic.{_⊎_}
 use mathlib.Core.Bool.{Bool, true, false}
 use mathlib.Core.List.{List, [], _∷_}
 use lib.ListN.{getD}
+use Rattle.form_numbers.specs.Forms as form
 use Rattle.forms.specs.Spellings.{spelled}
 use Rattle.forms.specs.Lines as line
 use Rattle.forms.specs.Lines.{IsAmong, ownItems}
@@ -15,7 +16,7 @@ use Rattle.one_tree.specs.Trees.{IsConstant, IsSubtype, Shallow}
 use Rattle.folding.specs.declared.Operator.{Operator}
 use Rattle.folding.specs.declared.Sign.{Sign}
 use Rattle.operands.specs.Operands.{operatorOf, signOf}
-use Rattle.expressions.specs.Expressions.{behind}
+use Rattle.forms.specs.Tree.{behind}
 use Rattle.meaning.specs.Elements.{Element, Piece, at}
 
 -- ---- expressions and items
@@ -39,12 +40,12 @@ pub data Item : Type 0 where
 
 -- The rows, in a piece, begin with those of an expression: a left operand stands after its operator's row, a right one after the left one's subtree.
 pub data Is (p : Piece) : List Row → Expression → Type 0 where
-  is-name : {r : Row} {rs : List Row} → r .form ≡ 24 → Is p (r ∷ rs) (name (at p (r .first)))
-  is-called : {r : Row} {rs : List Row} → r .form ≡ 25 → Is p (r ∷ rs) unfolded
-  is-attribute : {r : Row} {rs : List Row} → r .form ≡ 26 → Is p (r ∷ rs) unfolded
-  is-literal : {r : Row} {rs : List Row} → r .form ≡ 27 → Is p (r ∷ rs) (literal (at p (r .first)))
-  is-unary : {r : Row} {rs : List Row} {o : Sign} {x : Expression} → r .form ≡ 28 → signOf (at p (r .operator) .kind) ≡ o → Is p rs x → Is p (r ∷ rs) (unary o x)
-  is-binary : {r : Row} {rs : List Row} {o : Operator} {x y : Expression} → r .form ≡ 29 → operatorOf (at p (r .operator) .kind) ≡ o → Is p rs x → Is p (behind rs) y
+  is-name : {r : Row} {rs : List Row} → r .form ≡ form.name → Is p (r ∷ rs) (name (at p (r .first)))
+  is-called : {r : Row} {rs : List Row} → r .form ≡ form.called → Is p (r ∷ rs) unfolded
+  is-attribute : {r : Row} {rs : List Row} → r .form ≡ form.attribute → Is p (r ∷ rs) unfolded
+  is-literal : {r : Row} {rs : List Row} → r .form ≡ form.literal → Is p (r ∷ rs) (literal (at p (r .first)))
+  is-unary : {r : Row} {rs : List Row} {o : Sign} {x : Expression} → r .form ≡ form.unary → signOf (at p (r .operator) .kind) ≡ o → Is p rs x → Is p (r ∷ rs) (unary o x)
+  is-binary : {r : Row} {rs : List Row} {o : Operator} {x y : Expression} → r .form ≡ form.binary → operatorOf (at p (r .operator) .kind) ≡ o → Is p rs x → Is p (behind rs) y
       → Is p (r ∷ rs) (binary o x y)
 
 -- what the elements of a piece are to the forms
@@ -71,3 +72,7 @@ pub data HasForm (p : Piece) : Item → Type 0 where
   is-subtype : {item mark : Row} → Tree IsSubtype p (item ∷ mark ∷ []) → HasForm p (subtype (at p (mark .first)))
   is-ranged : {item mark range : Row} {rs : List Row} {x y : Expression} {down : Bool} → Tree IsSubtype p (item ∷ mark ∷ range ∷ rs)
       → Goes (toForms p) (ownItems (toForms p) range rs) down → Is p rs x → Is p (behind rs) y → HasForm p (ranged (at p (mark .first)) x down y)
+
+-- "a constant or a subtype by the forms above"
+abbrev pub Fits : Piece → Type 0
+Fits p = (i : Item) × HasForm p i

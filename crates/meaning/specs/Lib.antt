@@ -6,5 +6,5 @@ pub mod States
 pub mod Values
 pub mod Meaning
 pub mod Together
-pub mod Items
-pub mod Promises
+pub mod Records
+pub mod code

@@ -1,10 +1,10 @@
 -- Which pieces claim a name, and what a name comes to where it is used (01, "Pieces, items, states"). Assumes nothing.
 use Prim.Native.Nat.{ℕ, _+_}
-use mathlib.Core.Bool.{Bool, true, false, cond, not, _&&_, _||_}
+use mathlib.Core.Bool.{Bool, true, false, cond, not, _||_}
 use mathlib.Core.List.{List, [], _∷_}
 use lib.Dec.{eqb, leb}
 use Rattle.same_names.specs.Spelling.{spelt}
-use Rattle.pieces.specs.Kinds.{markOf}
+use Rattle.pieces.specs.Kinds.{pieceClass}
 use Rattle.records.specs.Records.{isClaim}
 use Rattle.records.specs.Tallies.{oneIf}
 use Rattle.names.specs.Language.{languageNames, languageNumber}
@@ -19,7 +19,7 @@ use Rattle.meaning.specs.Sameness.{sameAs}
 
 -- the class of a piece
 abbrev pub classOf : Piece → ℕ
-classOf p = markOf (kinds p) .class
+classOf p = pieceClass (kinds p) .class
 
 -- "A piece claims a name if it begins with constant or subtype and then a name, broken or not": the names that it claims, none or one
 abbrev pub ownName : Piece → Element
@@ -46,11 +46,20 @@ claimsIn x [] = oneIf (not (eqb (language x) 0))
 claimsIn x (p ∷ ps) = oneIf (claims x p) + claimsIn x ps
 
 -- "its name has another claim anywhere, the language's included"
-abbrev pub doubled : List Piece → Element → Bool
-doubled all x = leb 2 (claimsIn x all)
+abbrev pub twice : ℕ
+twice = 2
 
+abbrev pub doubled : List Piece → Element → Bool
+doubled all x = leb twice (claimsIn x all)
+
+-- one of these names is
+abbrev pub anyDoubled : List Piece → List Element → Bool
+anyDoubled all [] = false
+anyDoubled all (x ∷ xs) = doubled all x || anyDoubled all xs
+
+-- "its name": one of those that the piece claims
 abbrev pub ownDoubled : List Piece → Piece → Bool
-ownDoubled all p = isClaim (classOf p) && doubled all (ownName p)
+ownDoubled all p = anyDoubled all (namesClaimed p)
 
 -- a piece, and what it comes to
 pub record Done : Type 0 where

@@ -3,26 +3,21 @@
 use Prim.Native.Nat.{ℕ, _+_, _-_, _≤_, _<_}
 use mathlib.Core.Path.{_≡_}
 use mathlib.Core.Logic.{_⊎_}
-use mathlib.Core.Bool.{Bool, true, _&&_}
+use mathlib.Core.Bool.{Bool, true, false, _&&_, _||_}
 use mathlib.Core.List.{List, [], _∷_}
 use lib.Dec.{eqb}
 use lib.ListN.{length, getD}
 use Rattle.pieces.specs.Kinds as pieces
-use Rattle.records.specs.Records.{isItem, isClaim}
+use Rattle.pieces.specs.Classes as class
+use Rattle.pieces.specs.Classes.{isEither}
+use Rattle.records.specs.Records.{isItem}
 use Rattle.records.specs.Tallies.{oneIf}
 use Rattle.pairs.specs.declared.Pair.{Pair}
 use Rattle.pairs.specs.declared.Pair.the-variants.{Both, Neither}
 use Rattle.values.specs.Words.{stateOf}
-use Rattle.meaning.specs.Elements.{Piece, at, kinds}
+use Rattle.meaning.specs.Elements.{Element, Piece, at, kinds}
 use Rattle.meaning.specs.Sameness.{sameAs}
-use Rattle.meaning.specs.Names.{classOf, ownName, claims, Done}
-
--- "class 1 to 5: heading, closing, .."
-abbrev pub heading : ℕ
-heading = 1
-
-abbrev pub closing : ℕ
-closing = 2
+use Rattle.meaning.specs.Names.{classOf, namesClaimed, claims, Done}
 
 -- a piece by its number, from 0
 abbrev pub pieceAt : List Piece → ℕ → Piece
@@ -30,7 +25,7 @@ pieceAt ps i = getD ps i []
 
 -- where the name of a piece stands in it, 0 where it has none
 abbrev pub namePlace : Piece → ℕ
-namePlace p = pieces.markOf (kinds p) .place
+namePlace p = pieces.pieceClass (kinds p) .place
 
 -- "a closing name agrees"
 abbrev pub Agrees : Piece → Piece → Type 0
@@ -38,14 +33,18 @@ Agrees h c = (namePlace c ≡ 0) ⊎ (sameAs (at h (namePlace h)) (at c (namePla
 
 -- "The frame is good when the first piece is a heading, the last a closing, no other is either, and a closing name agrees."
 pub record GoodFrame (ps : List Piece) : Type 0 where
-  pub first : classOf (pieceAt ps 0) ≡ heading
-  pub last : classOf (pieceAt ps (length ps - 1)) ≡ closing
-  pub others : (i : ℕ) → 1 ≤ i → i < length ps - 1 → isItem (classOf (pieceAt ps i)) ≡ true
+  pub first : classOf (pieceAt ps 0) ≡ class.heading
+  pub last : classOf (pieceAt ps (length ps - 1)) ≡ class.closing
+  pub others : (i : ℕ) → 1 ≤ i → i < length ps - 1 → isEither (classOf (pieceAt ps i)) ≡ false
   pub agrees : Agrees (pieceAt ps 0) (pieceAt ps (length ps - 1))
 
--- two pieces claim one name
+-- two pieces claim one name: one of these names is claimed by a piece
+abbrev pub claimsOneOf : List Element → Piece → Bool
+claimsOneOf [] p = false
+claimsOneOf (x ∷ xs) p = claims x p || claimsOneOf xs p
+
 abbrev pub shares : List Piece → ℕ → ℕ → Bool
-shares ps i j = isClaim (classOf (pieceAt ps i)) && claims (ownName (pieceAt ps i)) (pieceAt ps j)
+shares ps i j = claimsOneOf (namesClaimed (pieceAt ps i)) (pieceAt ps j)
 
 -- "the first pair of own items that share a name: smallest earlier piece, then smallest later"
 pub data FirstPair (ps : List Piece) : Pair → Type 0 where

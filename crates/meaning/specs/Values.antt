@@ -10,7 +10,7 @@ use Rattle.integers.specs.declared.Arithmetic.{Arithmetic}
 use Rattle.integers.specs.declared.Folded.{Folded}
 use Rattle.integers.specs.declared.Folded.the-variants.{Whole, Truth, Stopped}
 use Rattle.literals.specs.Literals.{literalOf}
-use Rattle.folding.specs.Operators.{relationOf, placeOf, logicOf, decides}
+use Rattle.folding.specs.Operators.{relationOf, truthPlace, logicOf, decides}
 use Rattle.folding.specs.declared.Relation.{Relation}
 use Rattle.folding.specs.declared.Logic.{Logic}
 use Rattle.folding.specs.declared.Operator.{Operator}
@@ -54,7 +54,7 @@ pub data Folds (used : Element → Value) : Expression → Folded → Type 0 whe
   related : {o : Relation} {x y : Expression} {a b : ℤ} → Folds used x (Whole a) → Folds used y (Whole b) → Folds used (binary (O.Relation o) x y) (Truth (relationOf o a b))
   -- all six relations hold on two truths, false below true (000, 9.2.3)
   truths-related : {o : Relation} {x y : Expression} {t u : Bool} → Folds used x (Truth t) → Folds used y (Truth u)
-      → Folds used (binary (O.Relation o) x y) (Truth (relationOf o (placeOf t) (placeOf u)))
+      → Folds used (binary (O.Relation o) x y) (Truth (relationOf o (truthPlace t) (truthPlace u)))
   connected : {o : Logic} {x y : Expression} {t u : Bool} → Folds used x (Truth t) → decides o t ≡ false → Folds used y (Truth u)
       → Folds used (binary (O.Logic o) x y) (Truth (logicOf o t u))
 

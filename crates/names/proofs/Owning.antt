@@ -10,7 +10,7 @@ use Rattle.same_names.specs.Alike.{sameName}
 use Rattle.same_names.proofs.Sameness.{same-flips, same-goes-on}
 use Rattle.records.specs.Records.{wordAt, isClaim}
 use Rattle.pieces.specs.Columns as column
-use Rattle.names.specs.Names.{share}
+use Rattle.names.specs.code.Names.{share}
 use Rattle.names.specs.code.Links.{recordsIn, claimsElement, linkOf, ownOf, filled}
 use Rattle.names.proofs.Tables.{filled-at}
 use Rattle.names.proofs.Firsts.{first-found, first-none, first-same}

@@ -9,10 +9,10 @@ use lib.Dec.{eqb}
 use lib.ListN.{length, getD}
 use borrow.Author.Tests.{eqb-true, eqb-false, eq-eqb, ne-eqb, not-true}
 use Rattle.laws.proofs.Laws.{both-left, both-right}
-use Rattle.pairs.specs.Pairs.{sameNumber, laterOf, pairFrom, pairOf}
+use Rattle.pairs.specs.code.Pairs.{sameNumber, laterOf, pairFrom, pairOf}
 use Rattle.pairs.specs.declared.Pair.{Pair}
 use Rattle.pairs.specs.declared.Pair.the-variants.{Both, Neither}
-use Rattle.names.specs.Names.{share, sharedPair}
+use Rattle.names.specs.code.Names.{share, sharedPair}
 use Rattle.names.specs.code.Links.{recordsIn, ownOf, another, twinOf, anyTwin, ownsTable}
 use Rattle.names.proofs.Firsts.{any-at}
 use Rattle.names.proofs.Tables.{filled-length, filled-at}

@@ -10,8 +10,8 @@ use lib.Dec.{ltb}
 use lib.ListN.{length, getD, set, replicate, length-replicate}
 use lib.Seq.{getD-set-same, getD-set-other, ext-getD}
 use borrow.Author.Tests.{ltb-true, lt-ltb, le-ltb}
-use Rattle.records.proofs.Counting.{zeros}
 use Rattle.names.specs.code.Links.{eachFrom, upTo, filled}
+use Rattle.laws.proofs.Laws.{zeros-at}
 
 each-length : (f : ℕ → ℕ) (i m : ℕ) → length (eachFrom f i m) ≡ m
 unfolding eachFrom
@@ -87,7 +87,7 @@ word-past f n k l = rw (le-ltb k n l)
 
 -- a table of zeros
 pub all-zero : (n : ℕ) (t : List ℕ) → t ≡ replicate n 0 → (k : ℕ) → getD t k 0 ≡ 0
-all-zero n t e k = rw e (zeros n k)
+all-zero n t e k = rw e (zeros-at n k)
 
 pub zeros-long : (n : ℕ) (t : List ℕ) → t ≡ replicate n 0 → length t ≡ n
 zeros-long n t e = rw e (length-replicate n 0)

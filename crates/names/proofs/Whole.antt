@@ -10,9 +10,9 @@ use Rattle.records.specs.Tallies.{oneIf}
 use Rattle.pieces.specs.Columns.{recordWords}
 use Rattle.places.specs.Sizes.{mostPieces}
 use Rattle.names.specs.code.Links.{recordsIn, linkOf, ownOf, twinOf, anyTwin, filled, linksTable, ownsTable, twinsTable}
-use Rattle.names.specs.code.Chains.{Chained, First, Marking}
+use Rattle.names.specs.code.Chains.{Chained, First, Flagging}
 use Rattle.names.proofs.Tables.{filled-same}
-use Rattle.names.proofs.Twins.{owns-first, marks-twins, marks-any}
+use Rattle.names.proofs.Twins.{owns-first, flags-twins, flags-any}
 
 pub links-whole : (text table items t : List ℕ) (count all rows m : ℕ) → all ≡ rowsIn table → rows ≡ min count all → t ≡ filled (linkOf text table items) rows m → t ≡ linksTable text table count items m
 unfolding linksTable
@@ -38,12 +38,12 @@ module _ (items : List ℕ) (n : ℕ) (e : n ≡ min (length items / recordWords
     owns-whole t m h =
         h ∙ filled-same (λ (k : ℕ). getD own k 0) (ownOf text table items) n m owned ∙ ap (λ (k : ℕ). filled (ownOf text table items) k m) records-all
 
-    module _ (marks : List ℕ) (any : Bool) (marked : Marking own n n marks any) where
+    module _ (flags : List ℕ) (any : Bool) (marked : Flagging own n n flags any) where
       pub answer-whole : any ≡ anyTwin text table items
-      answer-whole = marks-any text table items own n records-all owned marks any marked
+      answer-whole = flags-any text table items own n records-all owned flags any marked
 
-      pub twins-whole : (t : List ℕ) (m : ℕ) → t ≡ filled (λ (k : ℕ). getD marks k 0) n m → t ≡ twinsTable text table items m
+      pub twins-whole : (t : List ℕ) (m : ℕ) → t ≡ filled (λ (k : ℕ). getD flags k 0) n m → t ≡ twinsTable text table items m
       unfolding twinsTable
       twins-whole t m h =
-          h ∙ filled-same (λ (k : ℕ). getD marks k 0) (λ (k : ℕ). oneIf (twinOf text table items k)) n m (marks-twins text table items own n records-all owned marks any marked)
+          h ∙ filled-same (λ (k : ℕ). getD flags k 0) (λ (k : ℕ). oneIf (twinOf text table items k)) n m (flags-twins text table items own n records-all owned flags any marked)
           ∙ ap (λ (k : ℕ). filled (λ (k : ℕ). oneIf (twinOf text table items k)) k m) records-all

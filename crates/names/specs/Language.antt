@@ -3,28 +3,29 @@ use Prim.Native.Nat.{ℕ, suc}
 use mathlib.Core.Bool.{Bool, true, cond}
 use mathlib.Core.List.{List, [], _∷_}
 use lib.Dec.{eqb}
-use Rattle.places.specs.Places.{cellAt}
+use Rattle.places.specs.Places.{kindColumn, cellAt}
+use Rattle.words.specs.Words.{bytesOf}
 use Rattle.same_names.specs.Spelling.{spelledAs}
 use Rattle.places.specs.Kinds.{identifier}
 
 -- the six names, in bytes
 abbrev pub integerName : List ℕ
-integerName = 105 ∷ 110 ∷ 116 ∷ 101 ∷ 103 ∷ 101 ∷ 114 ∷ []
+integerName = bytesOf "integer"
 
 abbrev pub naturalName : List ℕ
-naturalName = 110 ∷ 97 ∷ 116 ∷ 117 ∷ 114 ∷ 97 ∷ 108 ∷ []
+naturalName = bytesOf "natural"
 
 abbrev pub positiveName : List ℕ
-positiveName = 112 ∷ 111 ∷ 115 ∷ 105 ∷ 116 ∷ 105 ∷ 118 ∷ 101 ∷ []
+positiveName = bytesOf "positive"
 
 abbrev pub booleanName : List ℕ
-booleanName = 98 ∷ 111 ∷ 111 ∷ 108 ∷ 101 ∷ 97 ∷ 110 ∷ []
+booleanName = bytesOf "boolean"
 
 abbrev pub trueName : List ℕ
-trueName = 116 ∷ 114 ∷ 117 ∷ 101 ∷ []
+trueName = bytesOf "true"
 
 abbrev pub falseName : List ℕ
-falseName = 102 ∷ 97 ∷ 108 ∷ 115 ∷ 101 ∷ []
+falseName = bytesOf "false"
 
 abbrev pub languageNames : List (List ℕ)
 languageNames = integerName ∷ naturalName ∷ positiveName ∷ booleanName ∷ trueName ∷ falseName ∷ []
@@ -55,4 +56,4 @@ languageNumber p k (w ∷ ws) = cond (p w) k (languageNumber p (suc k) ws)
 
 -- its number for a language's name, a basic identifier, case aside; 0 for any other element
 unfoldable pub languageOf : List ℕ → List ℕ → ℕ → ℕ
-languageOf text table e = cond (eqb (cellAt table e 0) identifier) (languageNumber (spelledAs true text table e) 1 languageNames) 0
+languageOf text table e = cond (eqb (cellAt table e kindColumn) identifier) (languageNumber (spelledAs true text table e) 1 languageNames) 0

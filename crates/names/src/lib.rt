@@ -1,6 +1,7 @@
 // Names resolved: each name used, to the first record that claims it. Names are hashed and chained once, so that a search compares few.
 // Every public function takes any text and tables.
 use pieces::RECORD_WORDS;
+use places::BytePlace;
 use places::ElementNumber;
 use places::MOST_PIECES;
 ghost use mathlib.Core.Path.{_≡_};
@@ -11,7 +12,7 @@ ghost use Rattle.places.specs.Sizes.{mostPieces};
 ghost use Rattle.same_names.specs.Spelling.{spelledAs};
 ghost use Rattle.names.specs.code.Links.{recordsIn, linkOf, ownOf, upTo, filled, linksTable, ownsTable, twinsTable, anyTwin};
 ghost use Rattle.names.specs.Language.{languageOf};
-ghost use Rattle.names.specs.code.Chains.{hashes, buckets, mixedWith, hashFrom, bucketOf, inBucket, Chained, First, Marking, sevenOf};
+ghost use Rattle.names.specs.code.Chains.{hashes, buckets, mixedWith, hashFrom, bucketOf, inBucket, Chained, First, Flagging, sevenOf};
 
 // How many chains the names are hashed into.
 const BUCKETS: usize = 1024;
@@ -36,6 +37,15 @@ pub const TRUE: u64 = 5;
 
 pub const FALSE: u64 = 6;
 
+// How many letters they have; natural and boolean have as many as integer.
+const TRUE_SIZE: u64 = 4;
+
+const FALSE_SIZE: u64 = 5;
+
+const INTEGER_SIZE: u64 = 7;
+
+const POSITIVE_SIZE: u64 = 8;
+
 fn mixed(h: u64, b: u8) -> u64
     requires { ⌜ h < hashes ⌝ }
     ensures { λ r. ⌜ (r ≡ mixedWith h b) × (r < hashes) ⌝ }
@@ -43,10 +53,11 @@ fn mixed(h: u64, b: u8) -> u64
     (h + (b as u64)) * MULTIPLIER % HASHES
 }
 
-fn hashed(text: &[u8], from: usize, n: usize, basic: bool) -> u64
-    requires { ⌜ from + n ≤ length (now text) ⌝ }
-    ensures { λ r. ⌜ (r ≡ hashFrom basic (now (text .entry)) from n 0) × (r < hashes) ⌝ }
+fn hashed(text: &[u8], first: BytePlace, n: usize, basic: bool) -> u64
+    requires { ⌜ first .0 + n ≤ length (now text) ⌝ }
+    ensures { λ r. ⌜ (r ≡ hashFrom basic (now (text .entry)) (first .0) n 0) × (r < hashes) ⌝ }
 {
+    let from = first.0;
     let mut h: u64 = 0;
     let mut i: usize = 0;
     while i < n {
@@ -57,14 +68,14 @@ fn hashed(text: &[u8], from: usize, n: usize, basic: bool) -> u64
 }
 
 // Which chain element e's name is of.
-fn bucket(text: &[u8], elements: &[u64], e: usize) -> usize
-    ensures { λ r. ⌜ (r ≡ bucketOf (now (text .entry)) (now (elements .entry)) e) × (r < buckets) ⌝ }
+fn bucket(text: &[u8], elements: &[u64], e: ElementNumber) -> usize
+    ensures { λ r. ⌜ (r ≡ bucketOf (now (text .entry)) (now (elements .entry)) (e .0)) × (r < buckets) ⌝ }
 {
-    let first = places::place_of(elements, ElementNumber(e));
-    let n = places::size_of(elements, ElementNumber(e));
+    let first = places::place_of(elements, e);
+    let n = places::size_of(elements, e);
     if places::stands(text, first, n) {
-        let kind = places::kind_of(elements, ElementNumber(e));
-        let h = hashed(text, first.0, n as usize, kind == places::IDENTIFIER);
+        let kind = places::kind_of(elements, e);
+        let h = hashed(text, first, n as usize, kind == places::IDENTIFIER);
         return (h / PER_CHAIN) as usize;
     }
     0
@@ -89,7 +100,7 @@ fn chain_names(
             let b = bucket(
                 text,
                 elements,
-                records::word(items, i, pieces::NAME) as usize,
+                ElementNumber(records::word(items, i, pieces::NAME) as usize),
             );
             next[i] = heads[b];
             heads[b] = (i + 1) as u64;
@@ -104,10 +115,10 @@ fn find(
     items: &[u64],
     heads: &[u64; BUCKETS],
     next: &[u64; MOST_PIECES],
-    e: usize,
+    e: ElementNumber,
 ) -> u64
     requires { ⌜ Chained (inBucket (now text) (now elements) (now items)) (recordsIn (now items)) 0 (now heads) (now next) ⌝ }
-    ensures { λ r. ⌜ r ≡ linkOf (now (text .entry)) (now (elements .entry)) (now (items .entry)) e ⌝ }
+    ensures { λ r. ⌜ r ≡ linkOf (now (text .entry)) (now (elements .entry)) (now (items .entry)) (e .0) ⌝ }
 {
     let mut h = heads[bucket(text, elements, e)];
     while h != 0 {
@@ -116,7 +127,7 @@ fn find(
             text,
             elements,
             ElementNumber(records::word(items, j, pieces::NAME) as usize),
-            ElementNumber(e),
+            e,
         ) {
             return h;
         }
@@ -133,13 +144,13 @@ fn link_at(
     rows: usize,
     heads: &[u64; BUCKETS],
     next: &[u64; MOST_PIECES],
-    e: usize,
+    e: ElementNumber,
 ) -> u64
     requires { ⌜ Chained (inBucket (now text) (now elements) (now items)) (recordsIn (now items)) 0 (now heads) (now next) ⌝ }
-    ensures { λ r. ⌜ r ≡ upTo (linkOf (now (text .entry)) (now (elements .entry)) (now (items .entry))) rows e ⌝ }
+    ensures { λ r. ⌜ r ≡ upTo (linkOf (now (text .entry)) (now (elements .entry)) (now (items .entry))) rows (e .0) ⌝ }
 {
-    if e < rows {
-        let kind = places::kind_of(elements, ElementNumber(e));
+    if e.0 < rows {
+        let kind = places::kind_of(elements, e);
         if (kind == places::IDENTIFIER) | (kind == places::EXTENDED) {
             return find(text, elements, items, heads, next, e);
         }
@@ -161,7 +172,7 @@ fn write_links(
 {
     let mut e: usize = 0;
     while e < links.len() {
-        links[e] = link_at(text, elements, items, rows, heads, next, e);
+        links[e] = link_at(text, elements, items, rows, heads, next, ElementNumber(e));
         e += 1;
     }
 }
@@ -185,7 +196,7 @@ fn own_link(
         if e < lent_tables::least(rows, links.len()) {
             return links[e];
         }
-        return find(text, elements, items, heads, next, e);
+        return find(text, elements, items, heads, next, ElementNumber(e));
     }
     0
 }
@@ -212,17 +223,17 @@ fn own_links(
 }
 
 // A record that is not the first to claim its name, and that first: each has a twin.
-fn mark_twins(own: &[u64; MOST_PIECES], n: usize, marks: &mut [u64; MOST_PIECES]) -> bool
-    requires { ⌜ (n ≤ mostPieces) × First (now own) n × (now marks ≡ replicate mostPieces 0) ⌝ }
-    ensures { λ r. ⌜ Marking (now (own .entry)) n n (now (marks .exit)) r ⌝ }
+fn find_twins(own: &[u64; MOST_PIECES], n: usize, flags: &mut [u64; MOST_PIECES]) -> bool
+    requires { ⌜ (n ≤ mostPieces) × First (now own) n × (now flags ≡ replicate mostPieces 0) ⌝ }
+    ensures { λ r. ⌜ Flagging (now (own .entry)) n n (now (flags .exit)) r ⌝ }
 {
     let mut any = false;
     let mut i: usize = 0;
     while i < n {
         let f = own[i];
         if (f != 0) & (f != (i as u64) + 1) {
-            marks[i] = 1;
-            marks[(f - 1) as usize] = 1;
+            flags[i] = 1;
+            flags[(f - 1) as usize] = 1;
             any = true;
         }
         i += 1;
@@ -283,18 +294,18 @@ pub fn link_names(
         links,
         &mut own,
     );
-    let mut marks = [0u64; MOST_PIECES];
-    let any = mark_twins(&own, n, &mut marks);
+    let mut flags = [0u64; MOST_PIECES];
+    let any = find_twins(&own, n, &mut flags);
     write_words(&own, n, owns);
-    write_words(&marks, n, twins);
+    write_words(&flags, n, twins);
     any
 }
 
 // The number, where element e is spelled as the name; else 0.
-fn told(text: &[u8], elements: &[u64], e: usize, name: &[u8], number: u64) -> u64
-    ensures { λ r. ⌜ r ≡ cond (spelledAs true (now (text .entry)) (now (elements .entry)) e (now (name .entry))) number 0 ⌝ }
+fn told(text: &[u8], elements: &[u64], e: ElementNumber, name: &[u8], number: u64) -> u64
+    ensures { λ r. ⌜ r ≡ cond (spelledAs true (now (text .entry)) (now (elements .entry)) (e .0) (now (name .entry))) number 0 ⌝ }
 {
-    if same_names::spelled_as(true, text, elements, ElementNumber(e), name) {
+    if same_names::spelled_as(true, text, elements, e, name) {
         number
     } else {
         0
@@ -302,31 +313,31 @@ fn told(text: &[u8], elements: &[u64], e: usize, name: &[u8], number: u64) -> u6
 }
 
 // The names of seven letters.
-fn seven(text: &[u8], elements: &[u64], e: usize) -> u64
-    ensures { λ r. ⌜ r ≡ sevenOf (spelledAs true (now (text .entry)) (now (elements .entry)) e) ⌝ }
+fn seven(text: &[u8], elements: &[u64], e: ElementNumber) -> u64
+    ensures { λ r. ⌜ r ≡ sevenOf (spelledAs true (now (text .entry)) (now (elements .entry)) (e .0)) ⌝ }
 {
-    if same_names::spelled_as(true, text, elements, ElementNumber(e), b"integer") {
+    if same_names::spelled_as(true, text, elements, e, b"integer") {
         return INTEGER;
     }
-    if same_names::spelled_as(true, text, elements, ElementNumber(e), b"natural") {
+    if same_names::spelled_as(true, text, elements, e, b"natural") {
         return NATURAL;
     }
     told(text, elements, e, b"boolean", BOOLEAN)
 }
 
 // The number of the language's name that an element is; 0 for any other element.
-pub fn language(text: &[u8], elements: &[u64], e: usize) -> u64
-    ensures { λ r. ⌜ r ≡ languageOf (now (text .entry)) (now (elements .entry)) e ⌝ }
+pub fn language(text: &[u8], elements: &[u64], e: ElementNumber) -> u64
+    ensures { λ r. ⌜ r ≡ languageOf (now (text .entry)) (now (elements .entry)) (e .0) ⌝ }
 {
-    if places::kind_of(elements, ElementNumber(e)) != places::IDENTIFIER {
+    if places::kind_of(elements, e) != places::IDENTIFIER {
         return 0;
     }
-    let size = places::size_of(elements, ElementNumber(e));
+    let size = places::size_of(elements, e);
     match size {
-        4 => told(text, elements, e, b"true", TRUE),
-        5 => told(text, elements, e, b"false", FALSE),
-        7 => seven(text, elements, e),
-        8 => told(text, elements, e, b"positive", POSITIVE),
+        TRUE_SIZE => told(text, elements, e, b"true", TRUE),
+        FALSE_SIZE => told(text, elements, e, b"false", FALSE),
+        INTEGER_SIZE => seven(text, elements, e),
+        POSITIVE_SIZE => told(text, elements, e, b"positive", POSITIVE),
         _ => 0,
     }
 }

@@ -10,7 +10,7 @@ use lib.Dec.{eqb, leb}
 use lib.ListN.{length, take, drop, getD, length-drop}
 use lib.Seq.{length-take-le}
 use Rattle.laws.proofs.Laws.{both-right}
-use Rattle.classes.specs.Bytes.{within, lower, isDigit}
+use Rattle.classes.specs.Bytes.{between, lower, isDigit}
 use Rattle.classes.specs.Runs.{run, inRun}
 use Rattle.classes.specs.declared.Run.the-variants.{Below}
 use Rattle.classes.proofs.Laws.{part-rest, run-le, byte-inside, digit-inside, by-test, run-some, digit-in-ten}
@@ -79,11 +79,11 @@ exponent-le either s =
     (λ e. omega (arith, run-le (Below 10) (drop (exponentHead either s) s), length-drop (exponentHead either s) s, digit-inside s (exponentHead either s) (both-right (eqb (lower (getD s 0 0)) 101) _ e)))
     (λ _. omega arith)
 
--- an exponent after n bytes stays within the text
+-- an exponent after n bytes stays between the text
 pub exponent-fits : (either : Bool) (s : List ℕ) (n r : ℕ) → n ≤ length s → r ≡ exponent either (take (length s - n) (drop n s)) → n + r ≤ length s
 exponent-fits either s n r h e = omega (arith, exponent-le either (drop n s), length-drop n s, e ∙ ap (exponent either) (part-rest s n))
 
--- a run after n bytes stays within the text
+-- a run after n bytes stays between the text
 pub run-fits : (k : ℕ) (s : List ℕ) (n r : ℕ) → n ≤ length s → r ≡ run (Below k) (take (length s - n) (drop n s)) → n + r ≤ length s
 run-fits k s n r h e = omega (arith, run-le (Below k) (drop n s), length-drop n s, e ∙ ap (run (Below k)) (part-rest s n))
 
@@ -181,7 +181,7 @@ module _ (s : List ℕ) (a : ℕ) (d : Bool) (p : a ≡ getD s 0 0) (i : d ≡ i
     unfolding number digits
     number-plain r x y e = simp (← p, ← i, not-false d z, ← h, ← q, ne-eqb b 35 x, ne-eqb b 46 y) (ap (λ (m : ℕ). Integer (n + m)) (rw (part-rest s n) at e))
 
--- a number has a byte at least, and stays within the text
+-- a number has a byte at least, and stays between the text
 abbrev pub NumberIn : ℕ → Number → Type 0
 NumberIn w (Integer n) = (1 ≤ n) × (n ≤ w)
 NumberIn w (Real n) = (1 ≤ n) × (n ≤ w)
@@ -189,7 +189,7 @@ NumberIn w Neither = Unit {0}
 
 based-in : (s : List ℕ) → digits s < length s → NumberIn (length s) (based s)
 unfolding based
-based-in s l = by-test (NumberIn (length s)) (within 2 16 (leading 10 s)) (λ _. go (belowBase (leading 10 s) (drop (digits s + 1) s)) refl) (λ _. tt)
+based-in s l = by-test (NumberIn (length s)) (between 2 16 (leading 10 s)) (λ _. go (belowBase (leading 10 s) (drop (digits s + 1) s)) refl) (λ _. tt)
   where
     go : (z : Size) → belowBase (leading 10 s) (drop (digits s + 1) s) ≡ z → NumberIn (length s) (integerPast (digits s + 1) z)
     go (Of k) e = (omega arith, omega (arith, below-le (leading 10 s) (drop (digits s + 1) s) k e, length-drop (digits s + 1) s))

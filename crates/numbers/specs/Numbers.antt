@@ -5,7 +5,7 @@ use mathlib.Core.Bool.{Bool, true, false, cond, _&&_, _||_}
 use mathlib.Core.List.{List, [], _∷_}
 use lib.Dec.{eqb}
 use lib.ListN.{getD, take, drop}
-use Rattle.classes.specs.Bytes.{within, lower, isDigit, digitValue}
+use Rattle.classes.specs.Bytes.{between, lower, isDigit, digitValue, ten, leastBase, greatestBase}
 use Rattle.classes.specs.Bytes as byte
 use Rattle.classes.specs.Runs.{run, inRun}
 use Rattle.classes.specs.declared.Run.the-variants.{Below}
@@ -14,16 +14,7 @@ use Rattle.numbers.specs.declared.Number.the-variants.{Integer, Real, Ne
 use Rattle.numbers.specs.declared.Size.{Size}
 use Rattle.numbers.specs.declared.Size.the-variants.{Of, Nothing}
 
--- digits are decimal, and "base 2 to 16"; a number that is no base
-abbrev pub ten : ℕ
-ten = 10
-
-abbrev pub leastBase : ℕ
-leastBase = 2
-
-abbrev pub greatestBase : ℕ
-greatestBase = 16
-
+-- a number that is no base
 abbrev pub aboveBases : ℕ
 aboveBases = 17
 
@@ -44,8 +35,11 @@ unfoldable pub leading : ℕ → List ℕ → ℕ
 leading base s = spelled base 0 (take (run (Below base) s) s)
 
 -- "then perhaps E, an optional plus and digits"; of a real literal, "its exponent of either sign". First E and a sign, then all of it
+abbrev pub signedHead : ℕ
+signedHead = 2
+
 unfoldable pub exponentHead : Bool → List ℕ → ℕ
-exponentHead either s = cond (eqb (getD s 1 0) byte.plus || either && eqb (getD s 1 0) byte.hyphen) 2 1
+exponentHead either s = cond (eqb (getD s 1 0) byte.plus || either && eqb (getD s 1 0) byte.hyphen) signedHead 1
 
 unfoldable pub exponent : Bool → List ℕ → ℕ
 exponent either s =
@@ -66,7 +60,7 @@ integerPast n Nothing = Neither
 
 -- the three ways that a number goes on after its digits: `#`, a point, or neither. In front of the `#` they spell the "base 2 to 16"
 unfoldable pub based : List ℕ → Number
-based s = cond (within leastBase greatestBase (leading ten s)) (integerPast (digits s + 1) (belowBase (leading ten s) (drop (digits s + 1) s))) Neither
+based s = cond (between leastBase greatestBase (leading ten s)) (integerPast (digits s + 1) (belowBase (leading ten s) (drop (digits s + 1) s))) Neither
 
 -- "decimal with a point and digits on both sides"
 unfoldable pub pointed : List ℕ → Number

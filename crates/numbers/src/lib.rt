@@ -1,19 +1,21 @@
 // How far an integer or real literal goes. Every function looks at the front of a line's rest, of any bytes.
+use classes::GREATEST_BASE;
 use classes::Run;
+use classes::TEN;
 ghost use mathlib.Core.Path.{_≡_};
 ghost use mathlib.Core.Bool.{true, false};
 ghost use Prim.Native.Nat.{_+_, _<_, min};
 ghost use lib.ListN.{length, drop};
-ghost use Rattle.numbers.specs.Numbers.{ten, aboveBases, digits, digitIn, spelled, exponentHead, exponent, belowBase, based, pointed, number};
+ghost use Rattle.classes.specs.Bytes.{ten};
+ghost use Rattle.numbers.specs.Numbers.{aboveBases, digits, digitIn, spelled, exponentHead, exponent, belowBase, based, pointed, number};
 
-// Digits are decimal; "base 2 to 16"; and a number that is no base.
-const TEN: u8 = 10;
+// "base 2 to 16"; and a number that is no base.
+pub const LEAST_BASE: u8 = 2;
 
-const LEAST_BASE: u8 = 2;
+const ABOVE_BASES: u8 = GREATEST_BASE + 1;
 
-const GREATEST_BASE: u8 = 16;
-
-const ABOVE_BASES: u8 = 17;
+// How many bytes an exponent's head has where a sign stands after its E.
+pub const SIGNED_HEAD: usize = 2;
 
 // A number's size in bytes, or none: no digit in front, or a `#` or a point with nothing fitting after it.
 pub enum Number {
@@ -65,7 +67,7 @@ fn exponent_head(s: &[u8], either: bool) -> usize
 {
     let b = classes::byte_or(s, 1);
     if (b == b'+') | (either & (b == b'-')) {
-        return 2;
+        return SIGNED_HEAD;
     }
     1
 }

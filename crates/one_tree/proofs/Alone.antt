@@ -10,23 +10,24 @@ use lib.Dec.{T, eqb, leb, leb→le}
 use lib.ListN.{getD}
 use borrow.Author.Tests.{lt-ltb}
 use Rattle.laws.proofs.Laws.{clash}
-use Rattle.grammars.specs.Grammar.{Sym, tok, nt, act, Gen}
-use Rattle.grammars.specs.Grammar as plainly
-use Rattle.grammars.specs.Actions.{go, Reads, done, eat, acts, grow}
+use Rattle.grammars.specs.code.Grammar.{Sym, tok, nt, act, Gen}
+use Rattle.grammars.specs.code.Grammar as plainly
+use Rattle.grammars.specs.code.Actions.{go, Reads, done, eat, acts, grow}
 use Rattle.grammars.proofs.Theory.{mem, and-left, and-right, and-both}
 use Rattle.grammars.proofs.Check.{below-at, imp, imp-at}
 use Rattle.grammars.proofs.Acting as acting
-use Rattle.forms.specs.Kinds.{numberOf, left-paren, right-paren, word-to, word-downto}
-use Rattle.forms.specs.Names.{constant, subtype, subtype-range, range, direction, nameNumbers}
-use Rattle.forms.specs.Rules.{forms, body}
+use Rattle.forms.specs.code.Kinds.{numberOf, left-paren, right-paren, word-to, word-downto}
+use Rattle.forms.specs.code.Names.{constant, subtype, subtype-range, range, direction, nameNumbers}
+use Rattle.forms.specs.code.Rules.{forms, body}
 use Rattle.forms.specs.code.Picks.{predict}
-use Rattle.forms.specs.Tree.{Row, State, Refusal, fresh, top, onTop, joined, marked, named, rowed, does, start, rowsOf}
+use Rattle.forms.specs.Tree.{Row}
+use Rattle.forms.specs.code.Frames.{State, Refusal, fresh, top, onTop, joined, marked, named, rowed, does, start, rowsOf}
 use Rattle.forms.specs.Open.{Role, opening, closing, neither, after}
-use Rattle.forms.specs.Items.{ItemReading}
+use Rattle.forms.specs.code.ItemReading.{ItemReading}
 use Rattle.forms.proofs.Opening.{sameRole, same-role, headRole, plain, head-append, plain-append, grown-role, counted, low-kept}
 use Rattle.forms.proofs.Items.{reached}
-use Rattle.one_tree.specs.Trees.{IsConstant, IsSubtype, openAfter, Shallow}
-use Rattle.one_tree.specs.Only.{TreeOf, ReadAlone, ConstantAlone, SubtypeAlone}
+use Rattle.one_tree.specs.Trees.{IsConstant, IsSubtype, parensAfter, Shallow}
+use Rattle.one_tree.specs.code.Only.{TreeOf, ReadAlone, ConstantAlone, SubtypeAlone}
 use Rattle.one_tree.proofs.Only.{constant-tree, subtype-tree}
 
 -- ---- parentheses
@@ -35,7 +36,7 @@ use Rattle.one_tree.proofs.Only.{constant-tree, subtype-tree}
 abbrev does-to : ℕ → Role
 does-to t = cond (eqb t (numberOf left-paren)) opening (cond (eqb t (numberOf right-paren)) closing neither)
 
-counts : (t d : ℕ) → after (does-to t) d ≡ openAfter t d
+counts : (t d : ℕ) → after (does-to t) d ≡ parensAfter t d
 counts t d = by (eqb t (numberOf left-paren)) (eqb t (numberOf right-paren))
   where
     by : (a b : Bool) → after (cond a opening (cond b closing neither)) d ≡ cond a (d + 1) (cond b (d - 1) d)
@@ -102,8 +103,8 @@ module _ (alike : ℕ → ℕ → Bool) where
       → Shallow d w
   shallow done f d c l = omega arith
   shallow (eat {a = a} {α = α} {w = w} {s = s} r) f d c l =
-      let e : after (headRole α) (s .depth) ≡ openAfter a d =
-      ap (λ (x : Role). after x (s .depth)) (sym (same-role (does-to a) (headRole α) (and-left (sameRole (does-to a) (headRole α)) (fine α) f))) ∙ counts a (s .depth) ∙ ap (openAfter a) c in
+      let e : after (headRole α) (s .depth) ≡ parensAfter a d =
+      ap (λ (x : Role). after x (s .depth)) (sym (same-role (does-to a) (headRole α) (and-left (sameRole (does-to a) (headRole α)) (fine α) f))) ∙ counts a (s .depth) ∙ ap (parensAfter a) c in
       (omega arith, subst (λ (x : ℕ). Shallow x w) e (shallow r (and-right (sameRole (does-to a) (headRole α)) (fine α) f) (after (headRole α) (s .depth)) refl l))
   shallow (acts {a = a} {k = k} {α = α} {s = s} {t = t} q r) f d c l =
       shallow r (and-right (plain α && not (eqb a 4)) (fine α) f) d
@@ -128,9 +129,9 @@ module _ (alike : ℕ → ℕ → Bool) where
       → (s′ : State) × Reads State Refusal forms (does alike) α k s w s′
   reads plainly.Gen.done f k s d c h = (s, done)
   reads (plainly.Gen.eat {a = a} {α = α} {w = w} g) f k s d c h =
-      let e : after (headRole α) (s .depth) ≡ openAfter a d =
-      ap (λ (x : Role). after x (s .depth)) (sym (same-role (does-to a) (headRole α) (and-left (sameRole (does-to a) (headRole α)) (fine α) f))) ∙ counts a (s .depth) ∙ ap (openAfter a) c in
-      let r = reads g (and-right (sameRole (does-to a) (headRole α)) (fine α) f) (suc k) s (openAfter a d) e (h .1) in
+      let e : after (headRole α) (s .depth) ≡ parensAfter a d =
+      ap (λ (x : Role). after x (s .depth)) (sym (same-role (does-to a) (headRole α) (and-left (sameRole (does-to a) (headRole α)) (fine α) f))) ∙ counts a (s .depth) ∙ ap (parensAfter a) c in
+      let r = reads g (and-right (sameRole (does-to a) (headRole α)) (fine α) f) (suc k) s (parensAfter a d) e (h .1) in
       (r .0, eat (r .1))
   reads (plainly.Gen.skip {a = a} {α = α} {w = w} g) f k s d c h =
       let p = and-left (plain α) (not (eqb a 4)) (and-left (plain α && not (eqb a 4)) (fine α) f) in

@@ -9,13 +9,14 @@ use lib.Dec.{T, eqb, ltb, eqb→eq, leb→le}
 use lib.ListN.{getD, length}
 use borrow.Author.Tests.{ne-eqb, ltb-true, ltb-false}
 use Rattle.spelled.proofs.Spelling.{spelling}
-use Rattle.grammars.specs.Grammar.{Sym}
+use Rattle.grammars.specs.code.Grammar.{Sym}
 use Rattle.grammars.proofs.Theory.{and-left, and-right}
 use Rattle.grammars.proofs.Check.{below-at}
-use Rattle.forms.specs.Kinds.{numberOf, other, terminalOf}
-use Rattle.forms.specs.Kinds as code
+use Rattle.forms.specs.code.Kinds.{numberOf, other, terminalOf}
+use Rattle.forms.specs.code.Kinds as code
 use Rattle.forms.specs.Spellings.{identifier}
 use Rattle.one_tree.specs.Elements.{told, placeAmong, formKind}
+use Rattle.laws.proofs.Laws.{is-true}
 
 -- the kinds, computed once
 abbrev counted : List ℕ
@@ -56,14 +57,10 @@ abbrev allBelow : List ℕ → Bool
 allBelow [] = true
 allBelow (j ∷ l) = ltb j kindCount && allBelow l
 
-T-true : (b : Bool) → T b → b ≡ true
-T-true true h = refl
-T-true false h = absurd h
-
 none-of : (l : List ℕ) (n k : ℕ) → T (allBelow l) → kindCount ≤ k → placeAmong n k l ≡ n + length l
 none-of [] n k h g = omega arith
 none-of (j ∷ l) n k h g =
-    let b = ltb-true j kindCount (T-true (ltb j kindCount) (and-left (ltb j kindCount) (allBelow l) h)) in
+    let b = ltb-true j kindCount (is-true (ltb j kindCount) (and-left (ltb j kindCount) (allBelow l) h)) in
     rw (ne-eqb k j (λ z. omega arith)) (none-of l (suc n) k (and-right (ltb j kindCount) (allBelow l) h) g ∙ omega arith)
 
 beyond : (k : ℕ) → kindCount ≤ k → kindBy counted k ≡ terminalOf k

@@ -8,15 +8,15 @@ use native.Mathlib.Omega.{arith}
 use lib.Dec.{T}
 use lib.ListN.{getD, drop, length, take, length-append}
 use Rattle.laws.proofs.Laws.{clash}
-use Rattle.grammars.specs.Grammar.{Sym, nt, act, Gen, done, eat, skip, grow}
+use Rattle.grammars.specs.code.Grammar.{Sym, nt, act, Gen, done, eat, skip, grow}
 use Rattle.grammars.proofs.Check.{imp}
 use Rattle.grammars.proofs.Room.{Nest, nest-grow, nest-other}
-use Rattle.forms.specs.Rules.{forms, body}
+use Rattle.forms.specs.code.Rules.{forms, body}
 use Rattle.forms.specs.Tree.{Row}
 use Rattle.forms.specs.Forest.{Forest}
 use Rattle.forms.specs.Forest as forest
 use Rattle.forms.specs.Operators.{EachRow}
-use Rattle.forms.specs.Lines.{Item, at, row, operates, branches, sort, Pattern, line, Fits, elements, sortOf, itemsIn, operatorOf, RowsFit}
+use Rattle.forms.specs.Lines.{Item, at, row, operates, branches, sort, Pattern, line, Fits, elements, sortOf, itemsIn, operatorAt, RowsFit}
 use Rattle.forms.proofs.Tests.{opening, closing, frames-nest}
 use Rattle.forms.proofs.Growing.{forest-append, forest-le}
 use Rattle.forms.proofs.Fitting.{take-all, take-less, behind-tree}
@@ -34,7 +34,7 @@ module _ (W : List ℕ) where
   fit-append (r ∷ l) m a b =
       let n = a .0 in (
         omega (arith, length-append l m),
-        subst (λ (x : List Row). Fits W (operatorOf r) (line (r .form)) (itemsIn W 0 (r .first) (r .first + r .count) x)) (sym (take-less (r .rows - 1) l m (omega arith))) (a .1),
+        subst (λ (x : List Row). Fits W (operatorAt r) (line (r .form)) (itemsIn W 0 (r .first) (r .first + r .count) x)) (sym (take-less (r .rows - 1) l m (omega arith))) (a .1),
         fit-append l m (a .2) b,
       )
 
@@ -78,7 +78,7 @@ module _ (W : List ℕ) where
         within = forest.Forest.tree {lo = lo} {r = r} (omega arith) (subst (λ (k : ℕ). Forest k stop i) (sym (c .first)) (subst (λ (k : ℕ). Forest lo k i) (sym (c .end)) (c .within))) (c .size) behind j;
         fits = (
           omega arith,
-          subst (λ (y : List Item). Fits W (operatorOf r) (line (r .form)) y)
+          subst (λ (y : List Item). Fits W (operatorAt r) (line (r .form)) y)
               (ap₂ (λ (u v : ℕ). itemsIn W 0 u v i) (sym (c .first)) (sym (c .end)) ∙ ap (itemsIn W 0 (r .first) stop) (sym taken)) (c .own),
           subst (RowsFit W) j (fit-append i a (c .fits) (s .fits)),
         );
@@ -126,7 +126,7 @@ module _ (W : List ℕ) where
         by true = tt
         by false = refl
 
-    operator-is : operatorOf (rowFor f q lo hi l) ≡ cond (operates f) q 0
+    operator-is : operatorAt (rowFor f q lo hi l) ≡ cond (operates f) q 0
     operator-is = by (operates f) (ok .0)
       where
         by : (o : Bool) → T (imp o (positive q)) → cond o (suc (cond o (q - 1) lo)) 0 ≡ cond o q 0

@@ -8,11 +8,13 @@ use lib.Dec.{ltb}
 use lib.ListN.{length, drop, getD}
 use lib.Seq.{drop-cons}
 use Rattle.laws.proofs.Laws.{clash}
-use Rattle.grammars.specs.Grammar.{Sym, tok}
-use Rattle.grammars.specs.Actions.{Step, go, stop, Reads, done, eat, acts, grow}
-use Rattle.forms.specs.Rules.{forms}
-use Rattle.forms.specs.Tree.{Row, State, Refusal, name-differs, too-deep, fresh, top, onTop, joined, marked, named, rowed, does, isNamed}
-use Rattle.forms.specs.Tree as strict
+use Rattle.grammars.specs.code.Grammar.{Sym, tok}
+use Rattle.grammars.specs.code.Actions.{Step, go, stop, Reads, done, eat, acts, grow}
+use Rattle.forms.specs.code.Rules.{forms}
+use Rattle.forms.specs.Tree.{Row}
+use Rattle.forms.specs.code.Frames.{State, Refusal, name-differs, too-deep, fresh, top, onTop, joined, marked, named, rowed, does, isNamed}
+use Rattle.forms.specs.code.Frames as strict
+use Rattle.forms.proofs.Steps.{named-frames, deeper-frames}
 
 -- a frame: its first element, its operator, its rows
 pub record Frame : Type 0 where
@@ -80,14 +82,6 @@ bared-put n k [] = refl
 bared-put n k (f ∷ fs) = refl
 
 module _ (alike : ℕ → ℕ → Bool) (k : ℕ) (s u : State) where
-  same-name : (b : Bool) → cond b (go s) (stop name-differs) ≡ go u → s .frames ≡ u .frames
-  same-name true e = let z : s ≡ u = cc in ap (λ (x : State). x .frames) z
-  same-name false e = let z : _≡_ {A = ℕ} 0 1 = cc in clash z
-
-  one-deeper : (b : Bool) → cond b (go (record { frames = s .frames; depth = s .depth + 1 })) (stop too-deep) ≡ go u → s .frames ≡ u .frames
-  one-deeper true e = let z : _≡_ {A = State} (record { frames = s .frames; depth = s .depth + 1 }) u = cc in ap (λ (x : State). x .frames) z
-  one-deeper false e = let z : _≡_ {A = ℕ} 0 1 = cc in clash z
-
   to : (fs : List Frame) (gs : List strict.Frame) → fs ≡ bared gs → gs ≡ u .frames → _≡_ {A = Step (List Frame) (Unit {0})} (go fs) (go (bared (u .frames)))
   to fs gs d e = ap go (d ∙ ap bared e)
 
@@ -101,8 +95,8 @@ module _ (alike : ℕ → ℕ → Bool) (k : ℕ) (s u : State) where
   free-act (suc (suc zero)) e =
       to (mark k (bared (s .frames))) (onTop (marked (k - 1)) (s .frames)) (bared-mark k (s .frames)) (of (record { frames = onTop (marked (k - 1)) (s .frames); depth = s .depth }) (cc))
   free-act (suc (suc (suc zero))) e = to (bared (s .frames)) (onTop (named k) (s .frames)) (bared-name k (s .frames)) (of (record { frames = onTop (named k) (s .frames); depth = s .depth }) (cc))
-  free-act (suc (suc (suc (suc zero)))) e = to (bared (s .frames)) (s .frames) refl (same-name (isNamed alike (top (s .frames) .name) (k - 1)) e)
-  free-act (suc (suc (suc (suc (suc zero))))) e = to (bared (s .frames)) (s .frames) refl (one-deeper (ltb (s .depth) 32) e)
+  free-act (suc (suc (suc (suc zero)))) e = to (bared (s .frames)) (s .frames) refl (named-frames s u (isNamed alike (top (s .frames) .name) (k - 1)) e)
+  free-act (suc (suc (suc (suc (suc zero))))) e = to (bared (s .frames)) (s .frames) refl (deeper-frames s u (ltb (s .depth) 32) e)
   free-act (suc (suc (suc (suc (suc (suc zero)))))) e = to (bared (s .frames)) (s .frames) refl (of (record { frames = s .frames; depth = s .depth - 1 }) (cc))
   free-act (suc (suc (suc (suc (suc (suc (suc n))))))) e =
       to (put n k (bared (s .frames))) (onTop (rowed n k) (s .frames)) (bared-put n k (s .frames)) (of (record { frames = onTop (rowed n k) (s .frames); depth = s .depth }) (cc))

@@ -6,12 +6,13 @@ use native.Mathlib.Omega.{arith}
 use lib.Dec.{T}
 use lib.ListN.{getD, length, take, length-append}
 use Rattle.laws.proofs.Laws.{clash}
-use Rattle.forms.specs.Kinds.{numberOf, left-paren, right-paren}
+use Rattle.forms.specs.code.Kinds.{numberOf, left-paren, right-paren}
 use Rattle.forms.specs.Tree.{Row}
 use Rattle.forms.specs.Forest.{Forest}
 use Rattle.forms.specs.Forest as forest
 use Rattle.forms.specs.Operators.{EachRow}
-use Rattle.forms.specs.Lines.{Item, at, row, isIn, Pattern, operand, expressions, anExpression, line, IsOf, Fits, elements, sortOf, itemsIn, operatorOf, RowsFit}
+use Rattle.forms.specs.Spellings.{isIn}
+use Rattle.forms.specs.Lines.{Item, at, row, Pattern, operand, expressions, anExpression, line, IsOf, Fits, elements, sortOf, itemsIn, operatorAt, RowsFit}
 use Rattle.forms.specs.Lines as lines
 use Rattle.forms.proofs.Growing.{forest-le}
 use Rattle.forms.proofs.Fitting.{take-all, take-less, behind-tree}
@@ -47,7 +48,7 @@ module _ (W : List ℕ) where
   fit-front (r ∷ l) m s h =
       let n = s .0 in (
         s .0,
-        subst (λ (x : List Row). Fits W (operatorOf r) (line (r .form)) (itemsIn W 0 (r .first) (r .first + r .count) x)) (take-less (r .rows - 1) l m (omega arith)) (h .1),
+        subst (λ (x : List Row). Fits W (operatorAt r) (line (r .form)) (itemsIn W 0 (r .first) (r .first + r .count) x)) (take-less (r .rows - 1) l m (omega arith)) (h .1),
         fit-front l m (s .1) (h .2),
       )
 
@@ -64,7 +65,7 @@ module _ (W : List ℕ) where
     pub columns : EachRow ElseFirst inside
     pub within : Forest lo hi inside
     pub fits : RowsFit W inside
-    pub own : Fits W (operatorOf r) (line (r .form)) (itemsIn W 0 lo hi inside)
+    pub own : Fits W (operatorAt r) (line (r .form)) (itemsIn W 0 lo hi inside)
     pub bound : hi ≤ length W
 
   -- elements and trees one after the other, from lo to hi, with their items
@@ -103,7 +104,7 @@ module _ (W : List ℕ) where
         columns = each-front ElseFirst i a cols;
         within = f;
         fits = fit-front i a (sized f) both;
-        own = subst (λ (x : List Row). Fits W (operatorOf r) (line (r .form)) (itemsIn W 0 (r .first) stop x)) taken (h .1);
+        own = subst (λ (x : List Row). Fits W (operatorAt r) (line (r .form)) (itemsIn W 0 (r .first) stop x)) taken (h .1);
         bound = omega arith;
       })
       (subst (λ (x : List Item). Nodes stop hi a x) (sym (behind-tree W r i a l stop hi d j)) (nodes g b (fit-back i a both) (each-back ElseFirst i a cols))) j))

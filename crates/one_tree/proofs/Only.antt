@@ -9,23 +9,25 @@ use native.Mathlib.Omega.{arith}
 use lib.Dec.{T, eqb, lit<}
 use lib.ListN.{getD, length, take, drop-of-length-le}
 use borrow.Author.Tests.{eq-eqb}
-use Rattle.grammars.specs.Grammar.{nt}
-use Rattle.grammars.specs.Actions.{Reads, done, End, read, bad, stopped, spent}
+use Rattle.grammars.specs.code.Grammar.{nt}
+use Rattle.grammars.specs.code.Actions.{Reads, done, End, read, bad, stopped, spent}
 use Rattle.grammars.proofs.Theory.{Fol, Mays, mem, or-left}
 use Rattle.grammars.proofs.Acting as acting
-use Rattle.forms.specs.Kinds.{numberOf, left-paren, right-paren}
-use Rattle.forms.specs.Names.{nameCount, nameNumber, file, constant, subtype}
-use Rattle.forms.specs.Rules.{forms}
+use Rattle.forms.specs.code.Kinds.{numberOf, left-paren, right-paren}
+use Rattle.forms.specs.code.Names.{nameCount, nameNumber, file, constant, subtype}
+use Rattle.forms.specs.code.Rules.{forms}
 use Rattle.forms.specs.code.Picks.{predict}
-use Rattle.forms.specs.Tree.{Row, State, Refusal, top, does, rowsOf, Reading}
-use Rattle.forms.specs.Tree as strict
-use Rattle.forms.specs.Reading.{readingOf}
-use Rattle.forms.specs.Lines.{isIn, Pattern, rows, anExpression, line, Fits, sortOf, operatorOf}
+use Rattle.forms.specs.Tree.{Row}
+use Rattle.forms.specs.code.Frames.{State, Refusal, top, does, rowsOf, Reading}
+use Rattle.forms.specs.code.Frames as strict
+use Rattle.forms.specs.code.Reading.{readingOf}
+use Rattle.forms.specs.Spellings.{isIn}
+use Rattle.forms.specs.Lines.{Pattern, rows, anExpression, line, Fits, sortOf, operatorAt}
 use Rattle.forms.proofs.Tests.{tables, forms-ll}
 use Rattle.forms.proofs.Meaning.{reads-files, no-file, always-answers}
 use Rattle.forms.proofs.Summaries.{Fit}
 use Rattle.one_tree.specs.Trees.{Stands, IsTree}
-use Rattle.one_tree.specs.Only.{TreeOf, FileTree, ConstantTree, SubtypeTree, OnlySuch, FilesHaveTrees, BeginAlike, ReadsTheTree, TreesAreRead}
+use Rattle.one_tree.specs.code.Only.{TreeOf, FileTree, ConstantTree, SubtypeTree, OnlySuch, FilesHaveTrees, BeginAlike, ReadsTheTree, TreesAreRead}
 use Rattle.one_tree.proofs.Free.{Frame, frame, free, Frees, bared, freed}
 use Rattle.one_tree.proofs.Parts.{parts, within, covers, enough}
 use Rattle.one_tree.proofs.Covers.{element, Holds, Parens, Lies, alone, covers-sound}
@@ -62,7 +64,7 @@ module _ (W : List ℕ) (t : List Frame) where
   trees-hold zero lo hi r inside c h = absurd (omega arith)
   trees-hold (suc N) lo hi r inside c h =
       row-holds W t r lo hi inside (c .first) (c .end) (c .size) (c .column)
-      (lay W (Holds W t parts) (Parens W t parts) N (trees-hold N) in-parens (operatorOf r) (line (r .form)) _ (c .own) (nodes W (c .within) (c .bound) (c .fits) (c .columns)) (omega arith))
+      (lay W (Holds W t parts) (Parens W t parts) N (trees-hold N) in-parens (operatorAt r) (line (r .form)) _ (c .own) (nodes W (c .within) (c .bound) (c .fits) (c .columns)) (omega arith))
 
 abbrev rowsIn : List Frame → List Row
 rowsIn [] = []

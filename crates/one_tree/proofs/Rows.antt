@@ -8,13 +8,14 @@ use native.Mathlib.Omega.{arith}
 use lib.Dec.{T, eqb, ltb, eqb→eq, ltb→lt, nltb→le}
 use lib.ListN.{getD, length, List·getD-eq-default}
 use borrow.Author.Tests.{eq-eqb}
-use Rattle.grammars.specs.Actions.{acts}
+use Rattle.grammars.specs.code.Actions.{acts}
 use Rattle.grammars.proofs.Theory.{and-left, and-right, or-cases, or-left, mem, mem-left, mem-right}
 use Rattle.grammars.proofs.Check.{below-at, every, every-at, imp, imp-at}
-use Rattle.forms.specs.Kinds.{left-paren, right-paren}
-use Rattle.forms.specs.Names.{closes}
+use Rattle.forms.specs.code.Kinds.{left-paren, right-paren}
+use Rattle.forms.specs.code.Names.{closes}
 use Rattle.forms.specs.Tree.{Row}
-use Rattle.forms.specs.Lines.{isIn, operates, branches, sort, Pattern, nothing, one, operand, both, either, many, anExpression, lines, line, telling, sortOf, operatorOf}
+use Rattle.forms.specs.Spellings.{isIn}
+use Rattle.forms.specs.Lines.{operates, branches, sort, Pattern, nothing, one, operand, both, either, many, anExpression, lines, line, telling, sortOf, operatorAt}
 use Rattle.forms.specs.code.Shapes.{e}
 use Rattle.one_tree.specs.Trees.{ElseFirst}
 use Rattle.one_tree.proofs.Free.{Frame, frame, rowOver, Frees}
@@ -87,11 +88,11 @@ module _ (W : List ℕ) (t : List Frame) where
 
   -- A row, the rows inside it laid as its line says.
   module _ (r : Row) (lo hi : ℕ) (inside : List Row) (first : r .first ≡ lo) (end : r .first + r .count ≡ hi) (size : r .rows ≡ length inside + 1) (column : ElseFirst r)
-      (laid : Lies W t parts (operatorOf r) (line (r .form)) lo hi inside) where
+      (laid : Lies W t parts (operatorAt r) (line (r .form)) lo hi inside) where
     abbrev k : ℕ
     k = telling W r
 
-    told : (i : ℕ) → suc i ≡ operatorOf r → (getD W i 0 ≡ k) × (i ≡ r .operator)
+    told : (i : ℕ) → suc i ≡ operatorAt r → (getD W i 0 ≡ k) × (i ≡ r .operator)
     told i d = by (operates (r .form)) d
       where
         by : (o : Bool) → suc i ≡ cond o (suc (r .operator)) 0 → (getD W i 0 ≡ cond o (getD W (r .operator) 0) (cond (branches (r .form)) (getD W (r .first) 0) 0)) × (i ≡ r .operator)
@@ -123,8 +124,8 @@ module _ (W : List ℕ) (t : List Frame) where
             λ a o z β fs st g.
             let st′ = st (subst T (sym d) tt) in
             let E = imp (p .exact) (not (operates (r .form))) in
-            covers-sound W t parts (operatorOf r) (branches (r .form)) k (r .operator) lo told opened enough fresh (not (operates (r .form))) (line (r .form) ∷ []) (p .reads) (puts (r .form) ∷ p .leaves) true
-            (and-right E A h) lo hi inside (alone W t parts (operatorOf r) (line (r .form)) lo hi inside laid) a o z β fs (refl, st′ .0, st′ .1, st′ .2) (λ n. st′ .1 ∙ sym (unmarked n))
+            covers-sound W t parts (operatorAt r) (branches (r .form)) k (r .operator) lo told opened enough fresh (not (operates (r .form))) (line (r .form) ∷ []) (p .reads) (puts (r .form) ∷ p .leaves) true
+            (and-right E A h) lo hi inside (alone W t parts (operatorAt r) (line (r .form)) lo hi inside laid) a o z β fs (refl, st′ .0, st′ .1, st′ .2) (λ n. st′ .1 ∙ sym (unmarked n))
             (λ o′ n. acts refl (subst (λ (y : List Frame). Frees W t (p .leaves ++ β) hi y) (rowed a o′ z fs (st′ .0) (st′ .2) (n tt)) (g (r .operator) (λ x. unmarked (imp-at (p .exact) (not (operates (r .form))) (and-left E A h) x) ∙ sym (st′ .1)))))
           where
             rowed : (a o : ℕ) (z : List Row) (fs : List Frame) → a ≡ lo → z ≡ [] → o ≡ r .operator
@@ -132,8 +133,8 @@ module _ (W : List ℕ) (t : List Frame) where
             rowed a o z fs e₁ e₂ e₃ = rw (e₁, e₂, e₃, row-over r lo hi (r .operator) inside first end size refl)
         by false d h =
             λ a o z β fs st g.
-            covers-sound W t parts (operatorOf r) (branches (r .form)) k (r .operator) lo told opened enough before (not (operates (r .form))) (line (r .form) ∷ []) (p .reads) (puts (r .form) ∷ closes ∷ p .leaves) true
-            h lo hi inside (alone W t parts (operatorOf r) (line (r .form)) lo hi inside laid) lo lo [] β (frame a o z ∷ fs) (refl, refl, refl, refl) (λ n. sym (unmarked n))
+            covers-sound W t parts (operatorAt r) (branches (r .form)) k (r .operator) lo told opened enough before (not (operates (r .form))) (line (r .form) ∷ []) (p .reads) (puts (r .form) ∷ closes ∷ p .leaves) true
+            h lo hi inside (alone W t parts (operatorAt r) (line (r .form)) lo hi inside laid) lo lo [] β (frame a o z ∷ fs) (refl, refl, refl, refl) (λ n. sym (unmarked n))
             (λ o′ n. acts refl (acts refl (subst (λ (y : Row). Frees W t (p .leaves ++ β) hi (frame a o (z ++ (y ∷ inside)) ∷ fs)) (sym (row-over r lo hi o′ inside first end size (n tt))) (g o (λ _. refl)))))
 
     rows-hold : (ps : List Part) → T (rowOk (r .form) k ps) → Holds W t ps (sort (r .form) k) lo hi (r ∷ inside)
@@ -194,20 +195,20 @@ module _ (W : List ℕ) (t : List Frame) where
 
   -- a row is read by every part that claims its sort
   pub row-holds : (r : Row) (lo hi : ℕ) (inside : List Row) → r .first ≡ lo → r .first + r .count ≡ hi → r .rows ≡ length inside + 1 → ElseFirst r
-      → Lies W t parts (operatorOf r) (line (r .form)) lo hi inside → Holds W t parts (sortOf W r) lo hi (r ∷ inside)
+      → Lies W t parts (operatorAt r) (line (r .form)) lo hi inside → Holds W t parts (sortOf W r) lo hi (r ∷ inside)
   row-holds r lo hi inside a b c d h =
       let f = r .form in
       let A = imp (operates f) (operating (line f)) in
       let B = imp (branches f) (leading (line f)) in
       let C = every (λ k. rowOk f k parts) (tellings f) in
-      let ok = forms-ok f (known-form f (operatorOf r) h) in
+      let ok = forms-ok f (known-form f (operatorAt r) h) in
       let ok₁ = and-right A (B && C) ok in
       rows-hold r lo hi inside a b c d h parts
       (every-at (λ k. rowOk f k parts) (tellings f) (and-right B C ok₁) (telling W r) (by (operates f) (branches f) (and-left A (B && C) ok) (and-left B C ok₁)
-      (λ o. operator-in (operatorOf r) (line f) o h) (λ o. subst (λ (x : ℕ). T (mem (getD W x 0) (leaders (line f)))) (sym a) (leader-in (operatorOf r) (line f) o h)) refl))
+      (λ o. operator-in (operatorAt r) (line f) o h) (λ o. subst (λ (x : ℕ). T (mem (getD W x 0) (leaders (line f)))) (sym a) (leader-in (operatorAt r) (line f) o h)) refl))
     where
       by : (o j : Bool) → T (imp o (operating (line (r .form)))) → T (imp j (leading (line (r .form))))
-          → (T (operating (line (r .form))) → (i : ℕ) × ((suc i ≡ operatorOf r) × T (mem (getD W i 0) (operators (line (r .form))))))
+          → (T (operating (line (r .form))) → (i : ℕ) × ((suc i ≡ operatorAt r) × T (mem (getD W i 0) (operators (line (r .form))))))
           → (T (leading (line (r .form))) → T (mem (getD W (r .first) 0) (leaders (line (r .form)))))
           → operates (r .form) ≡ o
           → T (mem (cond o (getD W (r .operator) 0) (cond j (getD W (r .first) 0) 0)) (cond o (operators (line (r .form))) (cond j (leaders (line (r .form))) (0 ∷ []))))

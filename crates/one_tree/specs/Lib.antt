@@ -1,3 +1,3 @@
 pub mod Elements
 pub mod Trees
-pub mod Only
+pub mod code

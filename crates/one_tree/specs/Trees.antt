@@ -6,6 +6,7 @@ use mathlib.Core.Bool.{cond}
 use mathlib.Core.List.{List, [], _∷_, _++_}
 use lib.Dec.{eqb}
 use lib.ListN.{length, take}
+use Rattle.form_numbers.specs.Forms as form
 use Rattle.forms.specs.Spellings.{spelled}
 use Rattle.forms.specs.Tree.{Row, mostOpen}
 use Rattle.forms.specs.Forest.{Forest}
@@ -28,20 +29,20 @@ IsTree = Stands (line 0)
 
 -- a constant alone, of form 4, and a subtype, of form 5
 abbrev pub IsConstant : List ℕ → List Row → Type 0
-IsConstant = Stands (rows (4 ∷ []))
+IsConstant = Stands (rows (form.constant ∷ []))
 
 abbrev pub IsSubtype : List ℕ → List Row → Type 0
-IsSubtype = Stands (rows (5 ∷ []))
+IsSubtype = Stands (rows (form.subtype ∷ []))
 
 -- how many parentheses stand open after an element of kind t, d being open before it: "Each opens at .. `(` and closes at .. `)`"
-abbrev pub openAfter : ℕ → ℕ → ℕ
-openAfter t d = cond (eqb t (spelled "(")) (d + 1) (cond (eqb t (spelled ")")) (d - 1) d)
+abbrev pub parensAfter : ℕ → ℕ → ℕ
+parensAfter t d = cond (eqb t (spelled "(")) (d + 1) (cond (eqb t (spelled ")")) (d - 1) d)
 
 -- "So do more than 32 open parentheses": with d open before these elements, never more than 32 are. A constant and a subtype have nothing else
 -- that stands open.
 abbrev pub Shallow : ℕ → List ℕ → Type 0
 Shallow d [] = d ≤ mostOpen
-Shallow d (t ∷ w) = (d ≤ mostOpen) × Shallow (openAfter t d) w
+Shallow d (t ∷ w) = (d ≤ mostOpen) × Shallow (parensAfter t d) w
 
 -- the elements are a file
 abbrev pub HasTree : List ℕ → Type 0

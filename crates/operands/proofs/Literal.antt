@@ -5,7 +5,7 @@ use Prim.Native.Nat.{ℕ}
 use lib.IntN.{pos}
 use Rattle.integers.specs.Integers.{sizedOf}
 use Rattle.literals.specs.Literals.{literalNumber, literalOf}
-use Rattle.operands.specs.Leaves.{literalLeaf}
+use Rattle.operands.specs.code.Leaves.{literalLeaf}
 
 pub literal-sized : (s : List ℕ) → (n : ℕ) × (literalLeaf s .folded ≡ sizedOf (pos n))
 unfolding literalOf

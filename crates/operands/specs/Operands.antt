@@ -1,12 +1,8 @@
--- Which operator, sign or number an element spells, by the kinds of the element table. Assumes nothing.
+-- Which operator or sign an element spells, by its kind. Assumes nothing.
 use Prim.Native.Nat.{ℕ}
 use mathlib.Core.Bool.{cond}
-use mathlib.Core.List.{List}
 use lib.Dec.{eqb}
-use lib.ListN.{take, drop}
 use Rattle.spelled.specs.Spelled.{kindOf}
-use Rattle.places.specs.Kinds.{integerLiteral}
-use Rattle.places.specs.Places.{cellAt}
 use Rattle.integers.specs.declared.Arithmetic.the-variants.{Add, Subtract, Multiply, Divide, Remainder, Modulo, Power}
 use Rattle.folding.specs.declared.Relation.the-variants.{Equal, Unequal, Less, LessEqual, Greater, GreaterEqual}
 use Rattle.folding.specs.declared.Logic.the-variants.{And, Or, Nand, Nor, Xor, Xnor}
@@ -14,9 +10,6 @@ use Rattle.folding.specs.declared.Operator.{Operator}
 use Rattle.folding.specs.declared.Operator.the-variants.{Arithmetic, Relation, Logic, Join}
 use Rattle.folding.specs.declared.Sign.{Sign}
 use Rattle.folding.specs.declared.Sign.the-variants.{Plus, Minus, Absolute, Not}
-use Rattle.folding.specs.declared.Outcome.{Outcome}
-use Rattle.states.specs.States as state
-use Rattle.operands.specs.Leaves.{literalLeaf, wrongLeaf}
 
 -- the binary operators; the last is `&`
 unfoldable pub operatorOf : ℕ → Operator
@@ -49,14 +42,3 @@ signOf k =
     (cond (eqb k (kindOf "abs")) Absolute
     (cond (eqb k (kindOf "not")) Not
     Plus)))
-
--- the bytes of an element of a text and its table
-unfoldable pub bytesAt : List ℕ → List ℕ → ℕ → List ℕ
-bytesAt text table e = take (cellAt table e 2) (drop (cellAt table e 1) text)
-
--- state 3, "a real, character or string literal"
-unfoldable pub literalBy : ℕ → List ℕ → Outcome
-literalBy kind bytes = cond (eqb kind integerLiteral) (literalLeaf bytes) (wrongLeaf state.unfolded)
-
-unfoldable pub literalIn : List ℕ → List ℕ → ℕ → Outcome
-literalIn text table e = literalBy (cellAt table e 0) (bytesAt text table e)

@@ -10,8 +10,9 @@ use integers::Folded;
 use integers::Kind;
 use places::ElementNumber;
 ghost use mathlib.Core.Path.{_≡_};
-ghost use Rattle.operands.specs.Leaves.{wholeLeaf, truthLeaf, wrongLeaf, literalLeaf};
-ghost use Rattle.operands.specs.Operands.{operatorOf, signOf, literalIn};
+ghost use Rattle.operands.specs.code.Leaves.{wholeLeaf, truthLeaf, wrongLeaf, literalLeaf};
+ghost use Rattle.operands.specs.Operands.{operatorOf, signOf};
+ghost use Rattle.operands.specs.code.Operands.{literalIn};
 
 // The kinds of the elements that are operators: each is proved to be the one that its spelling computes to.
 const DOUBLE_STAR: u64 = 9;
@@ -138,18 +139,15 @@ pub fn sign_of(kind: u64) -> Sign
 }
 
 // A literal's outcome: an integer's number; any other kind isn't folded.
-pub fn literal_outcome(text: &[u8], elements: &[u64], e: usize) -> Outcome
-    ensures { λ r. ⌜ r ≡ literalIn (now (text .entry)) (now (elements .entry)) e ⌝ }
+pub fn literal_outcome(text: &[u8], elements: &[u64], e: ElementNumber) -> Outcome
+    ensures { λ r. ⌜ r ≡ literalIn (now (text .entry)) (now (elements .entry)) (e .0) ⌝ }
 {
-    if places::kind_of(elements, ElementNumber(e)) != places::INTEGER_LITERAL {
+    if places::kind_of(elements, e) != places::INTEGER_LITERAL {
         return wrong_leaf(states::UNFOLDED);
     }
-    let place = places::place_of(elements, ElementNumber(e));
+    let place = places::place_of(elements, e);
     let first = lent_tables::least(place.0, text.len());
-    let size = lent_tables::least(
-        places::size_of(elements, ElementNumber(e)) as usize,
-        text.len() - first,
-    );
+    let size = lent_tables::least(places::size_of(elements, e) as usize, text.len() - first);
     let end = first + size;
     literal_leaf(&text[first..end])
 }

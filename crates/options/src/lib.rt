@@ -1,11 +1,20 @@
 // What the arguments of a program ask for. Each program has a word of its own that asks for its other listing, and one for the rows of its
 // second table; the rest they share. What is said on standard error is tested, not proved.
-use arguments::Value;
+use arguments::Amount;
 use console::Got;
 use libc::STDIN_FILENO;
 
 // What the programs print of themselves.
 pub const VERSION: [u8; 6] = [b'1', b'.', b'1', b'.', b'0', b'\n'];
+
+// Room for an argument.
+pub const WORD_ROOM: usize = 4096;
+
+// Two hyphens begin an option.
+const HYPHENS: usize = 2;
+
+// An option and its value.
+const BOTH_WORDS: usize = 2;
 
 // No call has so many arguments.
 const MOST_ARGUMENTS: usize = 1000000;
@@ -47,7 +56,7 @@ fn asked_by(word: &[u8], other: &[u8], rows: &[u8]) -> Asked {
     if arguments::same_bytes(word, rows) {
         return Asked::OtherRows;
     }
-    if !arguments::same_bytes(lent_tables::front(word, 2), b"--") {
+    if !arguments::same_bytes(lent_tables::front(word, HYPHENS), b"--") {
         return Asked::File;
     }
     said_by(word)
@@ -68,9 +77,9 @@ fn said_by(word: &[u8]) -> Asked {
 }
 
 // The rows that a value asks for; one that is no number is named on standard error, with its option.
-fn rows_of(program: &[u8], option: &[u8], word: &[u8], most: u32) -> Value {
+fn rows_of(program: &[u8], option: &[u8], word: &[u8], most: u32) -> Amount {
     let v = arguments::value_of(word, most);
-    if let Value::Nothing = v {
+    if let Amount::Nothing = v {
         io::write_all(libc::STDERR_FILENO, program);
         io::write_all(libc::STDERR_FILENO, b": ");
         console::complain(option, b"not a number", word);
@@ -110,16 +119,16 @@ impl Options {
         self
     }
 
-    fn with_element_rows(mut self, v: Value) -> Self {
-        let Value::Is(n) = v else {
+    fn with_element_rows(mut self, v: Amount) -> Self {
+        let Amount::Is(n) = v else {
             return self.stopped();
         };
         self.element_rows = n;
         self
     }
 
-    fn with_other_rows(mut self, v: Value) -> Self {
-        let Value::Is(n) = v else {
+    fn with_other_rows(mut self, v: Amount) -> Self {
+        let Amount::Is(n) = v else {
             return self.stopped();
         };
         self.other_rows = n;
@@ -153,7 +162,7 @@ impl Options {
         if MOST_ARGUMENTS < i {
             return self.stopped();
         }
-        self.next = i + 2;
+        self.next = i + BOTH_WORDS;
         let Got::Bytes(n) = argument(program, i + 1, word) else {
             return self.stopped();
         };

@@ -7,7 +7,7 @@ use native.Mathlib.Numerals.{add-one}
 use native.Mathlib.Omega.{arith}
 use lib.Dec.{eqb}
 use lib.ListN.{length, getD}
-use Rattle.pairs.specs.Pairs.{sameNumber, laterOf, pairFrom, pairOf}
+use Rattle.pairs.specs.code.Pairs.{sameNumber, laterOf, pairFrom, pairOf}
 use Rattle.pairs.specs.declared.Pair.{Pair}
 use Rattle.pairs.specs.declared.Pair.the-variants.{Both, Neither}
 

@@ -1,6 +1,6 @@
 // The first pair of own items that share a name, from a number for each name. Every public function takes any table.
 ghost use mathlib.Core.Path.{_≡_};
-ghost use Rattle.pairs.specs.Pairs.{pairOf};
+ghost use Rattle.pairs.specs.code.Pairs.{pairOf};
 
 pub enum Pair {
     Both(usize, usize),

@@ -7,6 +7,7 @@ use native.Mathlib.Omega.{arith}
 use lib.Dec.{T}
 use lib.ListN.{length, take, drop}
 use Rattle.pieces.specs.Cutting as spec
+use Rattle.laws.proofs.Laws.{is-true}
 
 module _ {E : Type 0} (closes opens : E → Bool) where
   abbrev more : Bool → List E → ℕ
@@ -58,10 +59,6 @@ module _ {E : Type 0} (closes opens : E → Bool) where
   Edge (x ∷ []) (y ∷ ys) = T (closes x || opens y)
   Edge (x ∷ (x′ ∷ xs)) ys = Edge (x′ ∷ xs) ys
 
-  T-true : (b : Bool) → T b → b ≡ true
-  T-true true h = refl
-  T-true false h = absurd h
-
   some : (x : E) (l : List E) → (p : List E) × (ps : List (List E)) × (cut (x ∷ l) ≡ p ∷ ps)
   some x l = (take (size (x ∷ l)) (x ∷ l), cut (drop (size (x ∷ l)) (x ∷ l)), cut-first x l)
 
@@ -70,7 +67,7 @@ module _ {E : Type 0} (closes opens : E → Bool) where
   unfolding spec.cut
   cut-join [] ys h = refl
   cut-join (x ∷ []) [] h = refl
-  cut-join (x ∷ []) (y ∷ ys) h = rw (T-true (closes x || opens y) h)
+  cut-join (x ∷ []) (y ∷ ys) h = rw (is-true (closes x || opens y) h)
   cut-join (x ∷ (x′ ∷ xs)) ys h =
       ap (spec.before closes opens x (x′ ∷ (xs ++ ys))) (cut-join (x′ ∷ xs) ys h) ∙ go (closes x || opens x′)
     where

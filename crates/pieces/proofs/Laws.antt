@@ -11,7 +11,7 @@ use mir.Val.{Fits}
 use lib.ListN.{length, getD, take, drop, length-drop}
 use lib.Seq.{drop-cons, drop-drop}
 use Rattle.pieces.specs.Cutting.{more, pieceSize, cut}
-use Rattle.pieces.specs.Kinds.{closesPiece, opensPiece, piecesOf}
+use Rattle.pieces.specs.Kinds.{closesPiece, opensPiece, kindPieces}
 use Rattle.places.specs.Places.{rowWords, rowsIn, cellAt, kindsOf}
 use Rattle.places.proofs.Laws.{kinds-length, kind-at, kinds-end}
 use Rattle.pieces.proofs.Cutting.{more-none, more-on, size-le, cut-first}
@@ -77,17 +77,17 @@ module _ (n : ℕ) (t : List ℕ) (from : ℕ) where
 
   -- the first piece of what is left, and the pieces after it
   pub first-piece : (r : ℕ) → r ≡ Whole → from < n
-      → piecesOf (drop from (kindsOf n t)) ≡ take r (drop from (kindsOf n t)) ∷ piecesOf (drop (from + r) (kindsOf n t))
+      → kindPieces (drop from (kindsOf n t)) ≡ take r (drop from (kindsOf n t)) ∷ kindPieces (drop (from + r) (kindsOf n t))
   first-piece r e h =
-      let f : piecesOf (drop from (kindsOf n t)) ≡ take Whole (drop from (kindsOf n t)) ∷ piecesOf (drop Whole (drop from (kindsOf n t))) =
+      let f : kindPieces (drop from (kindsOf n t)) ≡ take Whole (drop from (kindsOf n t)) ∷ kindPieces (drop Whole (drop from (kindsOf n t))) =
       rw (inside from h) (cut-first closesPiece opensPiece (getD (kindsOf n t) from 0) (drop (suc from) (kindsOf n t))) in
       f ∙ rw (← e, drop-drop)
 
-  pub count-turn : (c r total : ℕ) → r ≡ Whole → c + length (piecesOf (drop from (kindsOf n t))) ≡ total → from < n
-      → c + 1 + length (piecesOf (drop (from + r) (kindsOf n t))) ≡ total
+  pub count-turn : (c r total : ℕ) → r ≡ Whole → c + length (kindPieces (drop from (kindsOf n t))) ≡ total → from < n
+      → c + 1 + length (kindPieces (drop (from + r) (kindsOf n t))) ≡ total
   count-turn c r total e h l = omega (arith, ap length (first-piece r e l))
 
-pub count-end : (n : ℕ) (t : List ℕ) (at c total : ℕ) → c + length (piecesOf (drop at (kindsOf n t))) ≡ total → n ≤ at → c ≡ total
+pub count-end : (n : ℕ) (t : List ℕ) (at c total : ℕ) → c + length (kindPieces (drop at (kindsOf n t))) ≡ total → n ≤ at → c ≡ total
 unfolding cut
 count-end n t at c total h l = omega (arith, rw (kinds-end t n at l) at h)
 

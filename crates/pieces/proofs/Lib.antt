@@ -1,4 +1,5 @@
 pub mod Cutting
 pub mod Laws
-pub mod Marks
+pub mod Classing
 pub mod Table
+pub mod Frames

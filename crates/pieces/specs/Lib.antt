@@ -3,3 +3,4 @@ pub mod Kinds
 pub mod Classes
 pub mod Columns
 pub mod Records
+pub mod Frames

@@ -1,13 +1,15 @@
 // The pieces of an element table: where each begins and ends, its class and its name. Every public function takes any table.
 use places::ElementNumber;
 ghost use mathlib.Core.Path.{_≡_};
-ghost use Prim.Native.Nat.{_+_, _*_, _/_, _^_, _≤_, _<_, min};
+ghost use Prim.Native.Nat.{_+_, _*_, _/_, _≤_, _<_, min};
 ghost use lib.ListN.{length, getD, drop};
 ghost use lib.Seq.{sets};
 ghost use Rattle.pieces.specs.Cutting.{pieceSize};
-ghost use Rattle.pieces.specs.Kinds.{kindsAt, isName, closesPiece, opensPiece, piecesOf, isHeading, behindWord, endsAt, claimMark, markOf};
-ghost use Rattle.places.specs.Places.{rowWords, rowsIn, kindsOf};
-ghost use Rattle.pieces.specs.Records.{recordWords, nameOf, pendingRecord, pendingRecords, piecesIn, marking, recordTable};
+ghost use Rattle.pieces.specs.Kinds.{kindsAt, isName, closesPiece, opensPiece, kindPieces, isHeading, behindBoth, behindWord, endsAt, claimClass, pieceClass};
+ghost use Rattle.places.specs.Places.{allWords, rowWords, rowsIn, kindsOf};
+ghost use Rattle.pieces.specs.Records.{recordWords, nameOf, pendingRecord, pendingRecords, piecesIn, recording, recordTable};
+ghost use Rattle.pieces.specs.Classes.{isEither};
+ghost use Rattle.pieces.specs.Frames.{unframed, lastFramed, framedFrom, frameOf};
 
 // The words of an item record, by their places, and how many there are.
 pub const CLASS: usize = 0;
@@ -42,7 +44,7 @@ pub const UNCLAIMED: u64 = 5;
 // The kinds by which pieces are told: each is computed from its spelling in `spellings`.
 const SEMICOLON: u64 = 26;
 
-const WORD_CONSTANT: u64 = 53;
+pub const WORD_CONSTANT: u64 = 53;
 
 pub const WORD_DOWNTO: u64 = 58;
 
@@ -52,11 +54,18 @@ const WORD_IS: u64 = 78;
 
 const WORD_PACKAGE: u64 = 98;
 
-const WORD_SUBTYPE: u64 = 129;
+pub const WORD_SUBTYPE: u64 = 129;
+
+// A heading's three elements, of which `is` is the last; and the place after `end` and `package`.
+const HEADING_SIZE: usize = 3;
+
+const HEADING_END: usize = HEADING_SIZE - 1;
+
+const BEHIND_BOTH: usize = 2;
 
 // How many pieces were marked; or refusal 9; or refusal 10 with the rows that the table has.
-pub enum Marking {
-    Marked(usize),
+pub enum Recording {
+    Recorded(usize),
     TooMany,
     TableShort(usize),
 }
@@ -122,7 +131,7 @@ pub fn piece_size(elements: &[u64], count: usize, from: usize) -> usize
 
 fn count_pieces(elements: &[u64], n: usize) -> usize
     requires { ⌜ rowWords * n ≤ length (now elements) ⌝ }
-    ensures { λ r. ⌜ r ≡ length (piecesOf (kindsOf n (now (elements .entry)))) ⌝ }
+    ensures { λ r. ⌜ r ≡ length (kindPieces (kindsOf n (now (elements .entry)))) ⌝ }
 {
     let mut at: usize = 0;
     let mut c: usize = 0;
@@ -150,12 +159,12 @@ fn is_heading(elements: &[u64], n: usize, from: usize, count: usize) -> bool
     requires { ⌜ (rowWords * n ≤ length (now elements)) × (from + count ≤ n) ⌝ }
     ensures { λ r. ⌜ r ≡ isHeading (kindsAt n (now (elements .entry)) from count) ⌝ }
 {
-    if count != 3 {
+    if count != HEADING_SIZE {
         return false;
     }
     let first = kind_in(elements, n, from, count, 0);
     let second = kind_in(elements, n, from, count, 1);
-    let third = kind_in(elements, n, from, count, 2);
+    let third = kind_in(elements, n, from, count, HEADING_END);
     (first == WORD_PACKAGE) & is_name(second) & (third == WORD_IS)
 }
 
@@ -165,21 +174,21 @@ fn behind_word(elements: &[u64], n: usize, from: usize, count: usize) -> usize
     ensures { λ r. ⌜ r ≡ behindWord (kindsAt n (now (elements .entry)) from count) ⌝ }
 {
     if kind_in(elements, n, from, count, 1) == WORD_PACKAGE {
-        2
+        BEHIND_BOTH
     } else {
         1
     }
 }
 
 // What a piece is: its class, and its name's place in it, 0 where there is none.
-pub struct Mark {
+pub struct PieceClass {
     pub class: u64,
     pub place: usize,
 }
 
 // A piece that begins with `end`, its name's place aside.
 fn closes_with(elements: &[u64], n: usize, from: usize, count: usize, at: usize) -> bool
-    requires { ⌜ (rowWords * n ≤ length (now elements)) × (from + count ≤ n) × (at ≤ 3) ⌝ }
+    requires { ⌜ (rowWords * n ≤ length (now elements)) × (from + count ≤ n) × (at ≤ behindBoth + 1) ⌝ }
     ensures { λ r. ⌜ r ≡ endsAt (kindsAt n (now (elements .entry)) from count) at ⌝ }
 {
     let first = kind_in(elements, n, from, count, 0);
@@ -187,41 +196,41 @@ fn closes_with(elements: &[u64], n: usize, from: usize, count: usize, at: usize)
     (first == WORD_END) & (last == SEMICOLON) & (count == at + 1)
 }
 
-fn mark_claim(elements: &[u64], n: usize, from: usize, count: usize) -> Mark
+fn claim_class(elements: &[u64], n: usize, from: usize, count: usize) -> PieceClass
     requires { ⌜ (rowWords * n ≤ length (now elements)) × (from + count ≤ n) ⌝ }
-    ensures { λ r. ⌜ r ≡ claimMark (kindsAt n (now (elements .entry)) from count) ⌝ }
+    ensures { λ r. ⌜ r ≡ claimClass (kindsAt n (now (elements .entry)) from count) ⌝ }
 {
     if !is_name(kind_in(elements, n, from, count, 1)) {
-        return Mark {
+        return PieceClass {
             class: UNCLAIMED,
             place: 0,
         };
     }
     let k = kind_in(elements, n, from, count, 0);
     if k == WORD_CONSTANT {
-        return Mark {
+        return PieceClass {
             class: CONSTANT,
             place: 1,
         };
     }
     if k == WORD_SUBTYPE {
-        return Mark {
+        return PieceClass {
             class: SUBTYPE,
             place: 1,
         };
     }
-    Mark {
+    PieceClass {
         class: UNCLAIMED,
         place: 0,
     }
 }
 
-fn mark_piece(elements: &[u64], n: usize, from: usize, count: usize) -> Mark
+fn piece_class(elements: &[u64], n: usize, from: usize, count: usize) -> PieceClass
     requires { ⌜ (rowWords * n ≤ length (now elements)) × (from + count ≤ n) ⌝ }
-    ensures { λ r. ⌜ r ≡ markOf (kindsAt n (now (elements .entry)) from count) ⌝ }
+    ensures { λ r. ⌜ r ≡ pieceClass (kindsAt n (now (elements .entry)) from count) ⌝ }
 {
     if is_heading(elements, n, from, count) {
-        return Mark {
+        return PieceClass {
             class: HEADING,
             place: 1,
         };
@@ -229,33 +238,33 @@ fn mark_piece(elements: &[u64], n: usize, from: usize, count: usize) -> Mark
     let w = behind_word(elements, n, from, count);
     if is_name(kind_in(elements, n, from, count, w)) {
         if closes_with(elements, n, from, count, w + 1) {
-            return Mark {
+            return PieceClass {
                 class: CLOSING,
                 place: w,
             };
         }
-        return mark_claim(elements, n, from, count);
+        return claim_class(elements, n, from, count);
     }
     if closes_with(elements, n, from, count, w) {
-        return Mark {
+        return PieceClass {
             class: CLOSING,
             place: 0,
         };
     }
-    mark_claim(elements, n, from, count)
+    claim_class(elements, n, from, count)
 }
 
 // The name's element, 0 where there is none.
 fn name_element(from: usize, place: usize) -> usize
-    requires { ⌜ from + place < 2 ^ 64 ⌝ }
+    requires { ⌜ from + place < allWords ⌝ }
     ensures { λ r. ⌜ r ≡ nameOf from place ⌝ }
 {
     if place == 0 { 0 } else { from + place }
 }
 
 // The record of a piece: class, first element, count, name element; nothing is known of its state yet.
-fn write_record(items: &mut [u64], w: usize, from: usize, count: usize, m: Mark)
-    requires { ⌜ (w + recordWords ≤ length (now items)) × (from + m .place < 2 ^ 64) ⌝ }
+fn write_record(items: &mut [u64], w: usize, from: usize, count: usize, m: PieceClass)
+    requires { ⌜ (w + recordWords ≤ length (now items)) × (from + m .place < allWords) ⌝ }
     ensures { λ _. ⌜ now (items .exit) ≡ sets (now (items .entry)) w (pendingRecord from count m) ⌝ }
 {
     items[w] = m.class;
@@ -268,16 +277,16 @@ fn write_record(items: &mut [u64], w: usize, from: usize, count: usize, m: Mark)
     items[w + HIGH] = 0;
 }
 
-// Marks every piece: its record stands at its number.
+// Classing every piece: its record stands at its number.
 fn write_records(elements: &[u64], n: usize, items: &mut [u64])
-    requires { ⌜ (rowWords * n ≤ length (now elements)) × (recordWords * length (piecesOf (kindsOf n (now elements))) ≤ length (now items)) ⌝ }
-    ensures { λ _. ⌜ now (items .exit) ≡ sets (now (items .entry)) 0 (pendingRecords 0 (piecesOf (kindsOf n (now (elements .entry))))) ⌝ }
+    requires { ⌜ (rowWords * n ≤ length (now elements)) × (recordWords * length (kindPieces (kindsOf n (now elements))) ≤ length (now items)) ⌝ }
+    ensures { λ _. ⌜ now (items .exit) ≡ sets (now (items .entry)) 0 (pendingRecords 0 (kindPieces (kindsOf n (now (elements .entry))))) ⌝ }
 {
     let mut at: usize = 0;
     let mut w: usize = 0;
     while at < n {
         let count = size_at(elements, n, at);
-        let m = mark_piece(elements, n, at, count);
+        let m = piece_class(elements, n, at, count);
         write_record(items, w, at, count, m);
         at += count;
         w += RECORD_WORDS;
@@ -285,8 +294,8 @@ fn write_records(elements: &[u64], n: usize, items: &mut [u64])
 }
 
 // Cuts the elements into pieces and marks each; the item table holds the records, and zeros after them or on a refusal.
-pub fn mark_pieces(elements: &[u64], count: usize, items: &mut [u64]) -> Marking
-    ensures { λ r. ⌜ r ≡ marking (length (piecesIn (now (elements .entry)) count)) (length (now (items .entry))) ⌝ }
+pub fn record_pieces(elements: &[u64], count: usize, items: &mut [u64]) -> Recording
+    ensures { λ r. ⌜ r ≡ recording (length (piecesIn (now (elements .entry)) count)) (length (now (items .entry))) ⌝ }
     ensures { λ _. ⌜ now (items .exit) ≡ recordTable (piecesIn (now (elements .entry)) count) (length (now (items .entry))) ⌝ }
 {
     let rows = items.len() / RECORD_WORDS;
@@ -294,11 +303,91 @@ pub fn mark_pieces(elements: &[u64], count: usize, items: &mut [u64]) -> Marking
     let n = lent_tables::least(count, places::rows_in(elements));
     let pieces = count_pieces(elements, n);
     if places::MOST_PIECES < pieces {
-        return Marking::TooMany;
+        return Recording::TooMany;
     }
     if rows < pieces {
-        return Marking::TableShort(rows);
+        return Recording::TableShort(rows);
     }
     write_records(elements, n, items);
-    Marking::Marked(pieces)
+    Recording::Recorded(pieces)
+}
+
+// Whether the first piece is a heading, the last a closing and no other is either; and then the elements of their names, 0 where a closing has
+// none.
+pub struct Frame {
+    pub good: bool,
+    pub heading: ElementNumber,
+    pub closing: ElementNumber,
+}
+
+fn is_either(class: u64) -> bool
+    ensures { λ r. ⌜ r ≡ isEither class ⌝ }
+{
+    (class == HEADING) | (class == CLOSING)
+}
+
+fn no_frame() -> Frame
+    ensures { λ r. ⌜ r ≡ unframed ⌝ }
+{
+    let heading = ElementNumber(0);
+    let closing = ElementNumber(0);
+    Frame {
+        good: false,
+        heading,
+        closing,
+    }
+}
+
+// The last piece, which begins at an element: a closing, or there is no good frame.
+fn last_piece(name: usize, from: usize, m: PieceClass) -> Frame
+    requires { ⌜ from + m .place < allWords ⌝ }
+    ensures { λ r. ⌜ r ≡ lastFramed name from m ⌝ }
+{
+    if m.class != CLOSING {
+        return no_frame();
+    }
+    let heading = ElementNumber(name);
+    let closing = ElementNumber(name_element(from, m.place));
+    Frame {
+        good: true,
+        heading,
+        closing,
+    }
+}
+
+// The pieces after a heading, from the one on that begins at an element.
+fn frame_from(elements: &[u64], n: usize, name: usize, from: usize) -> Frame
+    requires { ⌜ (rowWords * n ≤ length (now elements)) × (from ≤ n) ⌝ }
+    ensures { λ r. ⌜ r ≡ framedFrom name from (kindPieces (drop from (kindsOf n (now (elements .entry))))) ⌝ }
+{
+    let mut at = from;
+    while at < n {
+        let count = size_at(elements, n, at);
+        let m = piece_class(elements, n, at, count);
+        let next = at + count;
+        if next == n {
+            return last_piece(name, at, m);
+        }
+        if is_either(m.class) {
+            return no_frame();
+        }
+        at = next;
+    }
+    no_frame()
+}
+
+// What the pieces of the elements say of the frame.
+pub fn frame_of(elements: &[u64], count: usize) -> Frame
+    ensures { λ r. ⌜ r ≡ frameOf (piecesIn (now (elements .entry)) count) ⌝ }
+{
+    let n = lent_tables::least(count, places::rows_in(elements));
+    if n == 0 {
+        return no_frame();
+    }
+    let size = size_at(elements, n, 0);
+    let m = piece_class(elements, n, 0, size);
+    if m.class != HEADING {
+        return no_frame();
+    }
+    frame_from(elements, n, name_element(0, m.place), size)
 }

@@ -1,10 +1,14 @@
 -- What the words of the element table say: rows of three words, "kind, first byte and length". Request 13 (packed rows) changes what stands
 -- here. Assumes nothing.
-use Prim.Native.Nat.{ℕ, zero, suc, _+_, _*_, _/_}
+use Prim.Native.Nat.{ℕ, zero, suc, _+_, _*_, _/_, _^_}
 use mathlib.Core.Bool.{Bool, cond}
 use mathlib.Core.List.{List, [], _∷_}
 use lib.Dec.{ltb, leb}
 use lib.ListN.{length, getD, set, drop}
+
+-- how many words of 64 bits there are
+abbrev pub allWords : ℕ
+allWords = 2 ^ 64
 
 -- how many words a row has
 abbrev pub rowWords : ℕ

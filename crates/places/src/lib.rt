@@ -26,6 +26,11 @@ pub const STRING: u64 = 6;
 
 pub const UNREADABLE: u64 = 7;
 
+// From which numbers the kinds of delimiters and of reserved words are counted.
+pub const FIRST_DELIMITER: u64 = 8;
+
+pub const FIRST_WORD: u64 = 33;
+
 // How many words a row of the element table has.
 pub const ROW_WORDS: usize = 3;
 

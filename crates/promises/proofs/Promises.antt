@@ -8,13 +8,14 @@ use lib.ListN.{length, replicate}
 use Rattle.refusals.specs.declared.SurveyRefusal.{SurveyRefusal}
 use Rattle.element_reading.specs.Rows as elements
 use Rattle.element_reading.specs.Permitted.{Permitted as ElementsPermitted}
-use Rattle.element_reading.specs.Given.{count}
+use Rattle.element_reading.specs.Given.{elementCount}
 use Rattle.element_reading.specs.Reading.{readingOf, tableOf}
 use Rattle.element_reading.specs.declared.Reading.{Reading}
 use Rattle.element_reading.specs.declared.Reading.the-variants as reading
 use Rattle.element_reading.proofs.Promises as reads
 use Rattle.forms.specs.Tree.{Row}
 use Rattle.forms.specs.Tree as forms
+use Rattle.forms.specs.code.Frames as frames
 use Rattle.forms.specs.Forest.{Tiled}
 use Rattle.forms.specs.Lines.{TreeFits}
 use Rattle.forms.specs.Operators.{OperatorsRight}
@@ -26,7 +27,7 @@ use Rattle.forms.proofs.Fitting.{rows-fit}
 use Rattle.forms.proofs.OwnOperators.{operators-right}
 use Rattle.forms.proofs.Owners.{all-owned, owned-once}
 use Rattle.forms.proofs.Leaves.{leaves-are}
-use Rattle.strict_reading.specs.Given.{terminalsOfRows, Elements, alike}
+use Rattle.strict_reading.specs.Given.{formKinds, Elements, alike}
 use Rattle.strict_reading.proofs.Promises.{accepted, of-rows, verdict-of-rows}
 use Rattle.strict_reading.proofs.Promises as strict
 use Rattle.records.specs.Records.{state}
@@ -36,10 +37,10 @@ use Rattle.meaning.specs.Names.{useOf}
 use Rattle.meaning.specs.Forms.{Item, HasForm}
 use Rattle.meaning.specs.States.{Met, Least, NoneMet}
 use Rattle.meaning.specs.Values.{Gives}
-use Rattle.survey_reading.specs.Survey.{surveyOf, elementsAfter, itemsAfter}
-use Rattle.survey_reading.specs.Permitted.{stateCount, PermittedBy}
-use Rattle.survey_reading.specs.declared.Outcome.{Outcome}
-use Rattle.survey_reading.specs.declared.Outcome.the-variants as outcome
+use Rattle.survey_reading.specs.code.Survey.{surveyOf, elementsAfter, itemsAfter}
+use Rattle.survey_reading.specs.Permitted.{PermittedBy}
+use Rattle.survey_reading.specs.declared.Ended.{Ended}
+use Rattle.survey_reading.specs.declared.Ended.the-variants as outcome
 use Rattle.survey_reading.specs.declared.Survey.{Survey}
 use Rattle.survey_reading.proofs.Permits as surveys
 use Rattle.survey_reading.proofs.Records.{of-items, state-held, number-held, none-held, by-broken, by-doubled, by-least, by-later, by-known, class-word, tallied, whole-held}
@@ -84,20 +85,20 @@ survey-decided = surveys.no-choice
 
 pub survey-refused : SurveyRefused
 survey-refused text ew iw x e i p r = (
-  (λ q. subst (λ (o : Outcome). PermittedBy text ew iw o (x .tally) e i) q p .0),
+  (λ q. subst (λ (o : Ended). PermittedBy text ew iw o (x .tally) e i) q p .0),
   λ g.
       ap (λ (y : Survey). y .outcome)
-      (survey-decided text ew iw x (record { outcome = outcome.Refused r; tally = record { counts = replicate stateCount 0 } }) e (replicate ew 0) i (replicate iw 0) p (g, refl, refl, refl) .0),
+      (survey-decided text ew iw x (record { outcome = outcome.Refused r; tally = record { counts = replicate states.states 0 } }) e (replicate ew 0) i (replicate iw 0) p (g, refl, refl, refl) .0),
 )
 
 pub survey-zeros : SurveyZeros
-survey-zeros text ew iw x r e i p q = let z = subst (λ (o : Outcome). PermittedBy text ew iw o (x .tally) e i) q p in (z .2, z .3, z .1)
+survey-zeros text ew iw x r e i p q = let z = subst (λ (o : Ended). PermittedBy text ew iw o (x .tally) e i) q p in (z .2, z .3, z .1)
 
 -- ==== demand 2
 
 pub elements-in-table : ElementsInTable
 elements-in-table text words r table p t =
-    elements-decided text words r (reading.Read (record { 0 = count text })) table _ p (t, refl, refl) .1
+    elements-decided text words r (reading.Read (record { 0 = elementCount text })) table _ p (t, refl, refl) .1
 
 pub elements-in-order : ElementsInOrder
 elements-in-order text = (reads.stand-in-order text, reads.nothing-lost text)
@@ -105,7 +106,7 @@ elements-in-order text = (reads.stand-in-order text, reads.nothing-lost text)
 -- ---- the strict reading
 
 -- the text's elements are as many to the forms
-size : (rs : List elements.Row) → length (terminalsOfRows rs) ≡ length rs
+size : (rs : List elements.Row) → length (formKinds rs) ≡ length rs
 size [] = refl
 size (r ∷ rs) = ap suc (size rs)
 
@@ -122,16 +123,16 @@ one-tree text ew tw n v e t p =
 
 pub rows-nest : RowsNest
 rows-nest text ew tw n v e t p =
-    of-rows (Tiled 0 (count text)) text ew tw n v e t p
-    (λ s f. subst (λ (m : ℕ). Tiled 0 m (forms.rowsOf s)) (size (elements.rowsOf text)) (rows-tiled (alike text) (Elements text) s f))
+    of-rows (Tiled 0 (elementCount text)) text ew tw n v e t p
+    (λ s f. subst (λ (m : ℕ). Tiled 0 m (frames.rowsOf s)) (size (elements.rowsOf text)) (rows-tiled (alike text) (Elements text) s f))
 
 pub operator-column : OperatorColumn
 operator-column text ew tw n v e t p = of-rows (OperatorsRight (Elements text)) text ew tw n v e t p (operators-right (alike text) (Elements text))
 
 pub leaves-are-elements : LeavesAreElements
 leaves-are-elements text ew tw n v e t p =
-    of-rows (LeavesAre (count text)) text ew tw n v e t p
-    (λ s f. subst (λ (m : ℕ). LeavesAre m (forms.rowsOf s)) (size (elements.rowsOf text)) (leaves-are (alike text) (Elements text) s f))
+    of-rows (LeavesAre (elementCount text)) text ew tw n v e t p
+    (λ s f. subst (λ (m : ℕ). LeavesAre m (frames.rowsOf s)) (size (elements.rowsOf text)) (leaves-are (alike text) (Elements text) s f))
 
 pub owners-innermost : OwnersInnermost
 owners-innermost text ew tw n v e t p =

@@ -14,7 +14,7 @@ use Rattle.refusals.specs.declared.StrictRefusal.{StrictRefusal}
 use Rattle.refusals.specs.declared.SurveyRefusal.{SurveyRefusal}
 use Rattle.element_reading.specs.Rows.{rowsOf}
 use Rattle.element_reading.specs.Table.{cells}
-use Rattle.element_reading.specs.Given.{count, Taken, Given as ElementsGiven}
+use Rattle.element_reading.specs.Given.{elementCount, Taken, Given as ElementsGiven}
 use Rattle.element_reading.specs.Permitted.{Permitted as ElementsPermitted}
 use Rattle.element_reading.specs.Promises.{Laid, InOrder}
 use Rattle.element_reading.specs.declared.Reading.{Reading}
@@ -42,14 +42,15 @@ use Rattle.meaning.specs.Names.{classOf, ownDoubled, useOf}
 use Rattle.meaning.specs.Forms.{Item, HasForm}
 use Rattle.meaning.specs.States.{Met, Least, NoneMet}
 use Rattle.meaning.specs.Values.{Gives}
-use Rattle.meaning.specs.Together.{pieceAt, GoodFrame, FirstPair}
-use Rattle.meaning.specs.Promises.{Fits}
+use Rattle.meaning.specs.Together.{GoodFrame, FirstPair}
+use Rattle.meaning.specs.Records.{recordCount, pieceOf}
+use Rattle.meaning.specs.Forms.{Fits}
 use Rattle.survey_reading.specs.Given.{Given as SurveyGiven}
-use Rattle.survey_reading.specs.Permitted.{stateCount, Permitted as SurveyPermitted, Leaves}
+use Rattle.survey_reading.specs.Permitted.{Permitted as SurveyPermitted, Leaves}
 use Rattle.survey_reading.specs.Records.{OfSurveys, OfItems, Numbered}
 use Rattle.survey_reading.specs.declared.Survey.{Survey}
-use Rattle.survey_reading.specs.declared.Outcome.the-variants as outcome
-use Rattle.damage.specs.Places.{In, Part, SameEach, PieceOf}
+use Rattle.survey_reading.specs.declared.Ended.the-variants as outcome
+use Rattle.damage.specs.Places.{In, Part, SameEach, PieceOf, recordAfter}
 use Rattle.damage.specs.Damage.{OneLine, olds, news, NoneOf, Undisturbed, Common, ClosedAbove, OpenedBelow}
 
 -- ==== Demand 1. "Any bytes and any lent tables may be given, and every call ends. A refusal carries its number from 01 and its place, is given
@@ -118,7 +119,7 @@ SurveyZeros =
     (text : List ℕ) (elementWords itemWords : ℕ) (x : Survey) (r : SurveyRefusal) (elements items : List ℕ)
     → SurveyPermitted text elementWords itemWords x elements items
     → x .outcome ≡ outcome.Refused r
-    → (elements ≡ replicate elementWords 0) × (items ≡ replicate itemWords 0) × (x .tally .counts ≡ replicate stateCount 0)
+    → (elements ≡ replicate elementWords 0) × (items ≡ replicate itemWords 0) × (x .tally .counts ≡ replicate states.states 0)
 
 -- ==== Demand 2. "Elements, tree, acceptance, verdict, item states and folded numbers are those of the VHDL standard, the 1076.6 draft and 01. The
 -- tree's leaves are the text's elements in order. An item without a number in that meaning is given none."
@@ -129,7 +130,7 @@ SurveyZeros =
 abbrev pub ElementsInTable : Type 0
 ElementsInTable =
     (text : List ℕ) (words : ℕ) (r : Reading) (table : List ℕ) → ElementsPermitted text words r table → Taken text words
-    → table ≡ cells (rowsOf text) ++ replicate (words - rowWords * count text) 0
+    → table ≡ cells (rowsOf text) ++ replicate (words - rowWords * elementCount text) 0
 
 -- they stand in order, and every byte of the text lies in exactly one of them, or is a separator, a line end or part of a comment
 abbrev pub ElementsInOrder : Type 0
@@ -158,10 +159,10 @@ RowsFitLines = OfRows (λ text v rows. TreeFits (Elements text) rows)
 abbrev pub OneTree : Type 0
 OneTree = OfRows (λ text v rows. (l : List Row) → IsTree (Elements text) l → l ≡ rows)
 
--- rows nest: the units stand one right after the other over all the elements, and every row's subtree count and span hold its children and
+-- rows nest: the units stand one right after the other over all the elements, and every row's subtree elementCount and span hold its children and
 -- nothing else
 abbrev pub RowsNest : Type 0
-RowsNest = OfRows (λ text v rows. Tiled 0 (count text) rows)
+RowsNest = OfRows (λ text v rows. Tiled 0 (elementCount text) rows)
 
 -- the operator column: in forms 28 and 29 the row's own leaf that is the operator, spanned by no child, with one operand or two; else the
 -- first element
@@ -171,7 +172,7 @@ OperatorColumn = OfRows (λ text v rows. OperatorsRight (Elements text) rows)
 -- "The tree's leaves are the text's elements in order": the leaves of the rows, read in order, are the elements, each once, and each hangs on
 -- its owner
 abbrev pub LeavesAreElements : Type 0
-LeavesAreElements = OfRows (λ text v rows. LeavesAre (count text) rows)
+LeavesAreElements = OfRows (λ text v rows. LeavesAre (elementCount text) rows)
 
 -- and that is the innermost row that spans it, and no other
 abbrev pub OwnersInnermost : Type 0
@@ -221,7 +222,7 @@ NoNumberElse = OfItems (λ all above p word. (word state ≡ 0 → ⊥) → (wor
 -- "one record to a piece": each has its piece's class in its first word
 abbrev pub ClassOfPiece : Type 0
 ClassOfPiece =
-    OfSurveys (λ text y tally items. (y .pieces ≡ length (piecesOf text)) × ((j : ℕ) → j < length (piecesOf text) → wordAt items j 0 ≡ classOf (pieceAt (piecesOf text) j)))
+    OfSurveys (λ text y tally items. (y .pieces ≡ length (piecesOf text)) × ((j : ℕ) → j < recordCount (piecesOf text) → wordAt items j 0 ≡ classOf (pieceOf (piecesOf text) j)))
 
 -- the frame, and "the first pair of own items that share a name", are those of the pieces
 abbrev pub FrameOfPieces : Type 0
@@ -230,7 +231,7 @@ FrameOfPieces = OfSurveys (λ text y tally items. (y .frame ≡ true) ↔ GoodFr
 abbrev pub PairOfPieces : Type 0
 PairOfPieces = OfSurveys (λ text y tally items. FirstPair (piecesOf text) (y .pair))
 
--- "a tally of items by state": each count is how many records are an item's and have that state
+-- "a tally of items by state": each elementCount is how many records are an item's and have that state
 abbrev pub TallyOfRecords : Type 0
 TallyOfRecords = OfSurveys (λ text y tally items. (k : ℕ) → k ≤ states.range → getD (tally .counts) k 0 ≡ inState k items 0 (y .pieces))
 
@@ -240,7 +241,7 @@ WholeExactly =
     OfSurveys
     (λ text y tally items.
     (y .whole ≡ true)
-    ↔ (GoodFrame (piecesOf text) × ((j : ℕ) → j < length (piecesOf text) → isItem (classOf (pieceAt (piecesOf text) j)) ≡ true → wordAt items j state ≡ 0)))
+    ↔ (GoodFrame (piecesOf text) × ((j : ℕ) → j < recordCount (piecesOf text) → isItem (classOf (pieceOf (piecesOf text) j)) ≡ true → wordAt items j state ≡ 0)))
 
 -- ==== Demand 3.
 
@@ -251,7 +252,7 @@ abbrev pub SameInBoth : Type 0
 SameInBoth =
     (s t elements items elements′ items′ : List ℕ) → Leaves s elements items → Leaves t elements′ items′
     → (d : OneLine s t) (p q : Part) (i : PieceOf (olds d) p) (j : PieceOf (news d) q) → SameEach p q → NoneOf p → Undisturbed (olds d) (news d) p
-    → (k : ℕ) → state ≤ k → k ≤ high → wordAt items (length (i .above)) k ≡ wordAt items′ (length (j .above)) k
+    → (k : ℕ) → state ≤ k → k ≤ high → wordAt items (recordAfter (i .above)) k ≡ wordAt items′ (recordAfter (j .above)) k
 
 -- 'Pieces closed by a semicolon above the line, and pieces opened below it by "constant", "subtype" or "end", are always common.'
 abbrev pub CommonAlways : Type 0

@@ -6,10 +6,10 @@ use mathlib.Core.List.{List, [], _∷_, _++_, append-assoc, append-nil}
 use lib.ListN.{length, take, getD}
 use lib.Seq.{take-suc, take-length}
 use Rattle.puts.specs.Puts.{Wrote}
-use Rattle.puts.specs.Decimals.{space, signedOf, fieldOf, fieldsOf}
+use Rattle.puts.specs.Decimals.{space, signedText, fieldOf, fieldsOf}
 use Rattle.puts.proofs.Laws.{then, named}
 
-pub field-put : {t t₁ t₂ : List ℕ} {a b c : ℕ} (w : ℕ) → Wrote t a (space ∷ []) t₁ b → Wrote t₁ b (signedOf w) t₂ c → Wrote t a (fieldOf w) t₂ c
+pub field-put : {t t₁ t₂ : List ℕ} {a b c : ℕ} (w : ℕ) → Wrote t a (space ∷ []) t₁ b → Wrote t₁ b (signedText w) t₂ c → Wrote t a (fieldOf w) t₂ c
 unfolding fieldOf
 field-put w p q = then p q
 

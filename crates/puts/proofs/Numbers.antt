@@ -8,7 +8,7 @@ use lib.Dec.{ltb}
 use borrow.Author.Tests.{ltb-true, ltb-false, lt-ltb, le-ltb}
 use Rattle.puts.specs.Puts.{Wrote}
 use Rattle.puts.proofs.Laws.{then, named}
-use Rattle.puts.specs.Decimals.{digitsOf, decimalOf, signedOf}
+use Rattle.puts.specs.Decimals.{digitsOf, decimalOf, signedText}
 
 -- a small number is its one digit, whatever is allowed
 pub small : (f n : ℕ) → n < 10 → digitsOf f n ≡ (48 + n) ∷ []
@@ -46,12 +46,12 @@ last-digit zero h = absurd (omega arith)
 last-digit (suc f) h =
     more f (suc f) h ∙ ap (λ (l : List ℕ). l ++ ((48 + suc f % 10) ∷ [])) (enough f (suc f / 10) (suc f / 10) (omega arith) (omega arith))
 
-pub plain : (w : ℕ) → w < 9223372036854775808 → signedOf w ≡ decimalOf w
-unfolding signedOf
+pub plain : (w : ℕ) → w < 9223372036854775808 → signedText w ≡ decimalOf w
+unfolding signedText
 plain w h = rw (lt-ltb w 9223372036854775808 h)
 
-pub minus : (w : ℕ) → 9223372036854775808 ≤ w → signedOf w ≡ 45 ∷ decimalOf (18446744073709551616 - w)
-unfolding signedOf
+pub minus : (w : ℕ) → 9223372036854775808 ≤ w → signedText w ≡ 45 ∷ decimalOf (18446744073709551616 - w)
+unfolding signedText
 minus w h = rw (le-ltb w 9223372036854775808 h)
 
 -- the same of what is put
@@ -62,11 +62,11 @@ pub last-put : (n : ℕ) {t t′ t″ : List ℕ} {at m r : ℕ} → 10 ≤ n �
     → Wrote t′ m ((48 + n % 10) ∷ []) t″ r → Wrote t at (decimalOf n) t″ r
 last-put n h p q = named (last-digit n h) (then p q)
 
-pub plain-put : (w : ℕ) {t t′ : List ℕ} {at r : ℕ} → w < 9223372036854775808 → Wrote t at (decimalOf w) t′ r → Wrote t at (signedOf w) t′ r
+pub plain-put : (w : ℕ) {t t′ : List ℕ} {at r : ℕ} → w < 9223372036854775808 → Wrote t at (decimalOf w) t′ r → Wrote t at (signedText w) t′ r
 plain-put w h p = named (plain w h) p
 
 pub minus-put : (w : ℕ) {t t′ t″ : List ℕ} {at m r : ℕ} → w < 18446744073709551616 → 9223372036854775808 ≤ w
-    → Wrote t at (45 ∷ []) t′ m → Wrote t′ m (decimalOf (18446744073709551615 - w + 1)) t″ r → Wrote t at (signedOf w) t″ r
+    → Wrote t at (45 ∷ []) t′ m → Wrote t′ m (decimalOf (18446744073709551615 - w + 1)) t″ r → Wrote t at (signedText w) t″ r
 minus-put w f h p q =
     let e : 18446744073709551616 - w ≡ 18446744073709551615 - w + 1 = omega arith in
     named (minus w h ∙ ap (λ (n : ℕ). 45 ∷ decimalOf n) e) (then p q)

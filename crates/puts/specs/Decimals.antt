@@ -38,12 +38,12 @@ unfoldable pub decimalOf : ℕ → List ℕ
 decimalOf n = digitsOf n n
 
 -- a word of two's complement, "a negative one with a leading `-`"
-unfoldable pub signedOf : ℕ → List ℕ
-signedOf w = cond (ltb w firstNegative) (decimalOf w) (minusSign ∷ decimalOf (wordEnd - w))
+unfoldable pub signedText : ℕ → List ℕ
+signedText w = cond (ltb w firstNegative) (decimalOf w) (minusSign ∷ decimalOf (wordEnd - w))
 
 -- "separated by one space": a number after others
 unfoldable pub fieldOf : ℕ → List ℕ
-fieldOf w = space ∷ signedOf w
+fieldOf w = space ∷ signedText w
 
 -- several of them
 unfoldable pub fieldsOf : List ℕ → List ℕ

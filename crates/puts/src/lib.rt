@@ -5,7 +5,7 @@ ghost use mathlib.Core.List.{[], _∷_, _++_};
 ghost use Prim.Native.Nat.{_-_, _≤_, _<_};
 ghost use lib.ListN.{length, take, drop, replicate};
 ghost use Rattle.puts.specs.Puts.{Wrote};
-ghost use Rattle.puts.specs.Decimals.{decimalOf, signedOf, fieldOf, fieldsOf};
+ghost use Rattle.puts.specs.Decimals.{decimalOf, signedText, fieldOf, fieldsOf};
 
 // The line feed, which ends every line.
 pub const LINE_FEED: u8 = b'\n';
@@ -59,7 +59,7 @@ pub fn put_decimal(n: u64, out: &mut [u8], at: usize) -> usize
 
 // "a negative one with a leading `-`": a word of two's complement.
 pub fn put_signed(word: u64, out: &mut [u8], at: usize) -> usize
-    ensures { λ r. ⌜ Wrote (now (out .entry)) at (signedOf word) (now (out .exit)) r ⌝ }
+    ensures { λ r. ⌜ Wrote (now (out .entry)) at (signedText word) (now (out .exit)) r ⌝ }
 {
     if word < FIRST_NEGATIVE {
         return put_decimal(word, out, at);

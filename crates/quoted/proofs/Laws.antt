@@ -1,4 +1,4 @@
--- The turns of the search for the closing mark, in the code's terms, and that it closes within the text. Assumes nothing.
+-- The turns of the search for the closing quote, in the code's terms, and that it closes within the text. Assumes nothing.
 use mathlib.Core.Path.{_≡_, refl, sym, ap, _∙_}
 use mathlib.Core.Bool.{Bool, true, false, cond}
 use mathlib.Core.List.{List, [], _∷_}
@@ -12,46 +12,46 @@ use lib.Seq.{drop-cons, drop-drop}
 use Rattle.classes.specs.Bytes.{isGraphic}
 use Rattle.classes.proofs.Laws.{part-rest}
 use Rattle.quoted.specs.Quoted.{closedFrom}
-use Rattle.quoted.specs.code.Marks.{markAt}
-use Rattle.quoted.specs.declared.Mark.{Mark}
-use Rattle.quoted.specs.declared.Mark.the-variants.{Doubled, Closes, Inside, Breaks}
+use Rattle.quoted.specs.code.Next.{nextAt}
+use Rattle.quoted.specs.declared.Next.{Next}
+use Rattle.quoted.specs.declared.Next.the-variants.{Doubled, Closes, Inside, Breaks}
 use Rattle.quoted.specs.declared.Closed.{Closed}
 use Rattle.quoted.specs.declared.Closed.the-variants.{After, Never}
 
--- the ways of `markAt`
+-- the ways of `nextAt`
 module _ (q : ℕ) (s : List ℕ) (b : ℕ) (p : b ≡ getD s 0 0) where
-  pub is-last : b ≡ q → length s < 2 → Closes ≡ markAt q s
-  unfolding markAt
+  pub is-last : b ≡ q → length s < 2 → Closes ≡ nextAt q s
+  unfolding nextAt
   is-last e l = simp (← p, eq-eqb b q e, lt-ltb (length s) 2 l)
 
-  pub is-doubled : (d : ℕ) → b ≡ q → 2 ≤ length s → d ≡ getD s 1 0 → d ≡ q → Doubled ≡ markAt q s
-  unfolding markAt
+  pub is-doubled : (d : ℕ) → b ≡ q → 2 ≤ length s → d ≡ getD s 1 0 → d ≡ q → Doubled ≡ nextAt q s
+  unfolding nextAt
   is-doubled d e l p′ f = simp (← p, eq-eqb b q e, le-ltb (length s) 2 l, ← p′, eq-eqb d q f)
 
-  pub is-closing : (d : ℕ) → b ≡ q → 2 ≤ length s → d ≡ getD s 1 0 → (d ≡ q → ⊥) → Closes ≡ markAt q s
-  unfolding markAt
+  pub is-closing : (d : ℕ) → b ≡ q → 2 ≤ length s → d ≡ getD s 1 0 → (d ≡ q → ⊥) → Closes ≡ nextAt q s
+  unfolding nextAt
   is-closing d e l p′ f = simp (← p, eq-eqb b q e, le-ltb (length s) 2 l, ← p′, ne-eqb d q f)
 
-  pub is-inside : (x : Bool) → (b ≡ q → ⊥) → x ≡ isGraphic b → x ≡ true → Inside ≡ markAt q s
-  unfolding markAt
+  pub is-inside : (x : Bool) → (b ≡ q → ⊥) → x ≡ isGraphic b → x ≡ true → Inside ≡ nextAt q s
+  unfolding nextAt
   is-inside x e g t = simp (← p, ne-eqb b q e, ← g, t)
 
-  pub is-breaking : (x : Bool) → (b ≡ q → ⊥) → x ≡ isGraphic b → x ≡ false → Breaks ≡ markAt q s
-  unfolding markAt
+  pub is-breaking : (x : Bool) → (b ≡ q → ⊥) → x ≡ isGraphic b → x ≡ false → Breaks ≡ nextAt q s
+  unfolding nextAt
   is-breaking x e g t = simp (← p, ne-eqb b q e, ← g, t)
 
 -- what each step makes of a list that is not empty
-abbrev steps : Mark → ℕ → ℕ → List ℕ → Closed
+abbrev steps : Next → ℕ → ℕ → List ℕ → Closed
 steps Doubled q n s = closedFrom q (suc (suc n)) (drop 1 s)
 steps Closes q n s = After (suc n)
 steps Inside q n s = closedFrom q (suc n) s
 steps Breaks q n s = Never
 
-step : (q n b : ℕ) (s : List ℕ) → closedFrom q n (b ∷ s) ≡ steps (markAt q (b ∷ s)) q n s
-unfolding closedFrom markAt
+step : (q n b : ℕ) (s : List ℕ) → closedFrom q n (b ∷ s) ≡ steps (nextAt q (b ∷ s)) q n s
+unfolding closedFrom nextAt
 step q n b [] = go (eqb b q) (isGraphic b) refl refl
   where
-    go : (x y : Bool) → eqb b q ≡ x → isGraphic b ≡ y → closedFrom q n (b ∷ []) ≡ steps (markAt q (b ∷ [])) q n []
+    go : (x y : Bool) → eqb b q ≡ x → isGraphic b ≡ y → closedFrom q n (b ∷ []) ≡ steps (nextAt q (b ∷ [])) q n []
     go true y e f = rw e
     go false true e f = rw (e, f)
     go false false e f = rw (e, f)
@@ -60,18 +60,18 @@ step q n b (d ∷ s) = go (eqb b q) (eqb d q) (isGraphic b) refl refl refl
     more : 2 ≤ length (b ∷ d ∷ s)
     more = suc-le-suc (suc-le-suc zero-le)
 
-    go : (x y z : Bool) → eqb b q ≡ x → eqb d q ≡ y → isGraphic b ≡ z → closedFrom q n (b ∷ d ∷ s) ≡ steps (markAt q (b ∷ d ∷ s)) q n (d ∷ s)
+    go : (x y z : Bool) → eqb b q ≡ x → eqb d q ≡ y → isGraphic b ≡ z → closedFrom q n (b ∷ d ∷ s) ≡ steps (nextAt q (b ∷ d ∷ s)) q n (d ∷ s)
     go true true z e f g = rw (e, f, le-ltb (length (b ∷ d ∷ s)) 2 more)
     go true false z e f g = rw (e, f, le-ltb (length (b ∷ d ∷ s)) 2 more)
     go false y true e f g = rw (e, g)
     go false y false e f g = rw (e, g)
 
--- the same at a place; st is what `mark_at` answers
-module _ (q : ℕ) (s : List ℕ) (n : ℕ) (st : Mark) (whole : Closed) (v : closedFrom q n (drop n s) ≡ whole) (h : n < length s) (e : st ≡ markAt q (take (length s - n) (drop n s))) where
-  began : (m : Mark) → st ≡ m → steps m q n (drop (suc n) s) ≡ whole
+-- the same at a place; st is what `next_at` answers
+module _ (q : ℕ) (s : List ℕ) (n : ℕ) (st : Next) (whole : Closed) (v : closedFrom q n (drop n s) ≡ whole) (h : n < length s) (e : st ≡ nextAt q (take (length s - n) (drop n s))) where
+  began : (m : Next) → st ≡ m → steps m q n (drop (suc n) s) ≡ whole
   began m t =
-      let k : markAt q (getD s n 0 ∷ drop (suc n) s) ≡ m = ap (markAt q) (sym (drop-cons s n 0 h)) ∙ sym (rw (part-rest s n) at e) ∙ t in
-      ap (λ (x : Mark). steps x q n (drop (suc n) s)) (sym k) ∙ sym (step q n (getD s n 0) (drop (suc n) s)) ∙ ap (closedFrom q n) (sym (drop-cons s n 0 h)) ∙ v
+      let k : nextAt q (getD s n 0 ∷ drop (suc n) s) ≡ m = ap (nextAt q) (sym (drop-cons s n 0 h)) ∙ sym (rw (part-rest s n) at e) ∙ t in
+      ap (λ (x : Next). steps x q n (drop (suc n) s)) (sym k) ∙ sym (step q n (getD s n 0) (drop (suc n) s)) ∙ ap (closedFrom q n) (sym (drop-cons s n 0 h)) ∙ v
 
   pub turn-doubled : st ≡ Doubled → closedFrom q (n + 2) (drop (n + 2) s) ≡ whole
   turn-doubled t = rw add-two (ap (closedFrom q (suc (suc n))) (sym (drop-drop 1 (suc n) s ∙ rw add-one)) ∙ began Doubled t)

@@ -1,4 +1,4 @@
--- Where the mark that opened a string or an extended identifier closes it. The text is what stands after the opening mark. Assumes nothing.
+-- Where the quote that opened a string or an extended identifier closes it. The text is what stands after the opening quote. Assumes nothing.
 use Prim.Native.Nat.{ℕ, suc}
 use mathlib.Core.Bool.{cond}
 use mathlib.Core.List.{List, [], _∷_}
@@ -8,14 +8,14 @@ use Rattle.quoted.specs.declared.Closed.{Closed}
 use Rattle.quoted.specs.declared.Closed.the-variants.{After, Never}
 
 -- "a doubled quote for one", "a doubled backslash for one"; what stands between are "bytes 32-126 and 160-255": after how many bytes it
--- closes, the closing mark with them, where n were passed
+-- closes, the closing quote with them, where n were passed
 unfoldable pub closedFrom : ℕ → ℕ → List ℕ → Closed
-closedFrom mark n [] = Never
-closedFrom mark n (b ∷ []) = cond (eqb b mark) (After (suc n)) Never
-closedFrom mark n (b ∷ d ∷ s) =
-    cond (eqb b mark)
-    (cond (eqb d mark) (closedFrom mark (suc (suc n)) s) (After (suc n)))
-    (cond (isGraphic b) (closedFrom mark (suc n) (d ∷ s)) Never)
+closedFrom quote n [] = Never
+closedFrom quote n (b ∷ []) = cond (eqb b quote) (After (suc n)) Never
+closedFrom quote n (b ∷ d ∷ s) =
+    cond (eqb b quote)
+    (cond (eqb d quote) (closedFrom quote (suc (suc n)) s) (After (suc n)))
+    (cond (isGraphic b) (closedFrom quote (suc n) (d ∷ s)) Never)
 
 abbrev pub closed : ℕ → List ℕ → Closed
-closed mark s = closedFrom mark 0 s
+closed quote s = closedFrom quote 0 s

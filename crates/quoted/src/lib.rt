@@ -1,58 +1,61 @@
-// Where a string or an extended identifier closes: the mark that opened it, doubled marks aside.
+// Where a string or an extended identifier closes: the quote that opened it, doubled quotes aside.
 ghost use mathlib.Core.Path.{_≡_};
 ghost use Rattle.quoted.specs.Quoted.{closed};
-ghost use Rattle.quoted.specs.code.Marks.{markAt};
+ghost use Rattle.quoted.specs.code.Next.{nextAt};
 
-// What stands next between two marks.
-pub enum Mark {
+// A doubled quote, which stands for one.
+const TWO_QUOTES: usize = 2;
+
+// What stands next between two quotes.
+pub enum Next {
     Doubled,
     Closes,
     Inside,
     Breaks,
 }
 
-// After how many bytes the mark closes, itself among them.
+// After how many bytes the quote closes, itself among them.
 pub enum Closed {
     After(usize),
     Never,
 }
 
-fn mark_at(mark: u8, s: &[u8]) -> Mark
-    ensures { λ r. ⌜ r ≡ markAt mark (now (s .entry)) ⌝ }
+fn next_at(quote: u8, s: &[u8]) -> Next
+    ensures { λ r. ⌜ r ≡ nextAt quote (now (s .entry)) ⌝ }
 {
     let b = classes::byte_or(s, 0);
-    if b == mark {
-        if s.len() < 2 {
-            return Mark::Closes;
+    if b == quote {
+        if s.len() < TWO_QUOTES {
+            return Next::Closes;
         }
-        if classes::byte_or(s, 1) == mark {
-            return Mark::Doubled;
+        if classes::byte_or(s, 1) == quote {
+            return Next::Doubled;
         }
-        return Mark::Closes;
+        return Next::Closes;
     }
     if classes::is_graphic(b) {
-        return Mark::Inside;
+        return Next::Inside;
     }
-    Mark::Breaks
+    Next::Breaks
 }
 
-// The text is what stands after the mark that opens.
-pub fn closing(mark: u8, s: &[u8]) -> Closed
-    ensures { λ r. ⌜ r ≡ closed mark (now (s .entry)) ⌝ }
+// The text is what stands after the quote that opens.
+pub fn closing(quote: u8, s: &[u8]) -> Closed
+    ensures { λ r. ⌜ r ≡ closed quote (now (s .entry)) ⌝ }
 {
     let mut n = 0;
     while n < s.len() {
-        match mark_at(mark, &s[n..]) {
-            Mark::Doubled => {
-                n += 2;
+        match next_at(quote, &s[n..]) {
+            Next::Doubled => {
+                n += TWO_QUOTES;
             },
-            Mark::Closes => {
+            Next::Closes => {
                 return Closed::After(n + 1);
             },
-            Mark::Inside => {
+            Next::Inside => {
                 n += 1;
             },
-            Mark::Breaks => {
+            Next::Breaks => {
                 return Closed::Never;
             },
         }

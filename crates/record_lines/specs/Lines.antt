@@ -5,17 +5,15 @@ use mathlib.Core.List.{List, [], _∷_, _++_}
 use lib.Dec.{eqb, ltb, leb}
 use lib.ListN.{length, getD, take, drop}
 use Rattle.words.specs.Words.{bytesOf}
+use Rattle.states.specs.States.{states}
 use Rattle.pieces.specs.Records.{recordWords}
 use Rattle.puts.specs.Decimals.{decimalOf, fieldOf, fieldsOf, lineFeed}
 use Rattle.puts.specs.Lines.{linesFrom}
-use Rattle.refused_line.specs.Refused.{count, lineBy, linesBy}
+use Rattle.refused_line.specs.Refused.{counted, whole, lineBy, linesBy}
 
--- where a survey's answer has frame, whole, whether there is a pair, the pair's two pieces, and the tally; and how many counts that has
+-- where a survey's answer has frame, whether there is a pair, the pair's two pieces, and the tally
 abbrev pub frame : ℕ
 frame = 3
-
-abbrev pub whole : ℕ
-whole = 4
 
 abbrev pub pair : ℕ
 pair = 5
@@ -29,55 +27,52 @@ later = 7
 abbrev pub tally : ℕ
 tally = 8
 
-abbrev pub counts : ℕ
-counts = 11
-
 -- "`frame` is `good` or `bad`, `whole` is `yes` or `no`."
-unfoldable pub frameOf : ℕ → List ℕ
-frameOf f = cond (eqb f 1) (bytesOf " frame good") (bytesOf " frame bad")
+unfoldable pub frameText : ℕ → List ℕ
+frameText f = cond (eqb f 1) (bytesOf " frame good") (bytesOf " frame bad")
 
-unfoldable pub wholeOf : ℕ → List ℕ
-wholeOf w = cond (eqb w 1) (bytesOf " whole yes\n") (bytesOf " whole no\n")
+unfoldable pub wholeText : ℕ → List ℕ
+wholeText w = cond (eqb w 1) (bytesOf " whole yes\n") (bytesOf " whole no\n")
 
 -- "`pieces COUNT frame good whole no`"
 unfoldable pub headOf : ℕ → ℕ → ℕ → List ℕ
-headOf pieces f w = bytesOf "pieces " ++ (decimalOf pieces ++ (frameOf f ++ wholeOf w))
+headOf pieces f w = bytesOf "pieces " ++ (decimalOf pieces ++ (frameText f ++ wholeText w))
 
 -- of an answer
 unfoldable pub firstOf : List ℕ → List ℕ
-firstOf answer = headOf (getD answer count 0) (getD answer frame 0) (getD answer whole 0)
+firstOf answer = headOf (getD answer counted 0) (getD answer frame 0) (getD answer whole 0)
 
 -- the numbers of a record, none where the table has no such record
 unfoldable pub numbersAt : List ℕ → ℕ → List ℕ
 numbersAt items i = cond (ltb i (length items / recordWords)) (take recordWords (drop (recordWords * i) items)) []
 
 -- "`PIECE CLASS FIRST COUNT NAME STATE KIND LOW HIGH`"
-unfoldable pub recordOf : List ℕ → ℕ → List ℕ
-recordOf items i = decimalOf i ++ (fieldsOf (numbersAt items i) ++ (lineFeed ∷ []))
+unfoldable pub recordFields : List ℕ → ℕ → List ℕ
+recordFields items i = decimalOf i ++ (fieldsOf (numbersAt items i) ++ (lineFeed ∷ []))
 
 -- "`tally` has eleven counts, of the items in states 0 to 10."
-unfoldable pub tallyOf : List ℕ → List ℕ
-tallyOf answer = bytesOf "tally" ++ (fieldsOf (take counts (drop tally answer)) ++ (lineFeed ∷ []))
+unfoldable pub tallyText : List ℕ → List ℕ
+tallyText answer = bytesOf "tally" ++ (fieldsOf (take states (drop tally answer)) ++ (lineFeed ∷ []))
 
 -- "`pair` gives the two piece numbers, or is `pair none`."
 unfoldable pub bothOf : ℕ → ℕ → List ℕ
 bothOf e l = bytesOf "pair" ++ (fieldOf e ++ (fieldOf l ++ (lineFeed ∷ [])))
 
-unfoldable pub pairOf : ℕ → ℕ → ℕ → List ℕ
-pairOf p e l = cond (eqb p 1) (bothOf e l) (bytesOf "pair none\n")
+unfoldable pub pairText : ℕ → ℕ → ℕ → List ℕ
+pairText p e l = cond (eqb p 1) (bothOf e l) (bytesOf "pair none\n")
 
 -- how many records are listed: no more than the table has
 unfoldable pub recordsListed : List ℕ → List ℕ → ℕ
-recordsListed items answer = min (getD answer count 0) (length items / recordWords)
+recordsListed items answer = min (getD answer counted 0) (length items / recordWords)
 
 -- "A line for each piece, headings and closings too": the lines by their numbers, the head, the records, the tally and the pair
 unfoldable pub lastOf : List ℕ → ℕ → ℕ → List ℕ
-lastOf answer n i = cond (eqb i (n + 1)) (tallyOf answer) (pairOf (getD answer pair 0) (getD answer earlier 0) (getD answer later 0))
+lastOf answer n i = cond (eqb i (n + 1)) (tallyText answer) (pairText (getD answer pair 0) (getD answer earlier 0) (getD answer later 0))
 
 unfoldable pub listedLine : List ℕ → List ℕ → ℕ → List ℕ
 listedLine items answer i =
     cond (eqb i 0) (firstOf answer)
-    (cond (leb i (recordsListed items answer)) (recordOf items (i - 1)) (lastOf answer (recordsListed items answer) i))
+    (cond (leb i (recordsListed items answer)) (recordFields items (i - 1)) (lastOf answer (recordsListed items answer) i))
 
 -- those of any answer, and how many there are: head, tally and pair beside the records
 unfoldable pub recordLine : List ℕ → List ℕ → ℕ → List ℕ

@@ -5,18 +5,18 @@ use puts::Filled;
 use refused_line::COUNT;
 use refused_line::PLACE;
 use refused_line::REFUSAL;
+use refused_line::WHOLE;
+use states::STATES;
 ghost use mathlib.Core.Path.{_≡_};
 ghost use Prim.Native.Nat.{_<_, _/_};
 ghost use lib.ListN.{length};
 ghost use Rattle.pieces.specs.Records.{recordWords};
 ghost use Rattle.puts.specs.Puts.{Wrote};
 ghost use Rattle.puts.specs.Lines.{Part};
-ghost use Rattle.record_lines.specs.Lines.{frameOf, wholeOf, headOf, firstOf, numbersAt, recordOf, tallyOf, bothOf, pairOf, recordsListed, lastOf, recordLine, recordLines};
+ghost use Rattle.record_lines.specs.Lines.{frameText, wholeText, headOf, firstOf, numbersAt, recordFields, tallyText, bothOf, pairText, recordsListed, lastOf, recordLine, recordLines};
 
-// Where a survey's answer has frame, whole, the pair with its two pieces, and the tally; and how many counts that has.
+// Where a survey's answer has frame, the pair with its two pieces, and the tally.
 const FRAME: usize = 3;
-
-const WHOLE: usize = 4;
 
 const PAIR: usize = 5;
 
@@ -26,13 +26,11 @@ const LATER: usize = 7;
 
 const TALLY: usize = 8;
 
-const COUNTS: usize = 11;
-
 // The head, the tally and the pair.
 const BESIDE_RECORDS: usize = 3;
 
 fn put_frame(frame: u64, out: &mut [u8], at: usize) -> usize
-    ensures { λ r. ⌜ Wrote (now (out .entry)) at (frameOf frame) (now (out .exit)) r ⌝ }
+    ensures { λ r. ⌜ Wrote (now (out .entry)) at (frameText frame) (now (out .exit)) r ⌝ }
 {
     if frame == 1 {
         return puts::put_bytes(b" frame good", out, at);
@@ -41,7 +39,7 @@ fn put_frame(frame: u64, out: &mut [u8], at: usize) -> usize
 }
 
 fn put_whole(whole: u64, out: &mut [u8], at: usize) -> usize
-    ensures { λ r. ⌜ Wrote (now (out .entry)) at (wholeOf whole) (now (out .exit)) r ⌝ }
+    ensures { λ r. ⌜ Wrote (now (out .entry)) at (wholeText whole) (now (out .exit)) r ⌝ }
 {
     if whole == 1 {
         return puts::put_bytes(b" whole yes\n", out, at);
@@ -71,7 +69,7 @@ fn numbers_at(items: &[u64], i: usize) -> &[u64]
 
 // The line of a record: its piece's number and its eight numbers.
 pub fn put_record(items: &[u64], i: usize, out: &mut [u8], at: usize) -> usize
-    ensures { λ r. ⌜ Wrote (now (out .entry)) at (recordOf (now (items .entry)) i) (now (out .exit)) r ⌝ }
+    ensures { λ r. ⌜ Wrote (now (out .entry)) at (recordFields (now (items .entry)) i) (now (out .exit)) r ⌝ }
 {
     let a = puts::put_decimal(i as u64, out, at);
     let b = puts::put_fields(numbers_at(items, i), out, a);
@@ -80,10 +78,10 @@ pub fn put_record(items: &[u64], i: usize, out: &mut [u8], at: usize) -> usize
 
 // The tally's line, of an answer lent as its words.
 pub fn put_tally(answer: &[u64], out: &mut [u8], at: usize) -> usize
-    ensures { λ r. ⌜ Wrote (now (out .entry)) at (tallyOf (now (answer .entry))) (now (out .exit)) r ⌝ }
+    ensures { λ r. ⌜ Wrote (now (out .entry)) at (tallyText (now (answer .entry))) (now (out .exit)) r ⌝ }
 {
     let a = puts::put_bytes(b"tally", out, at);
-    let b = puts::put_fields(puts::words_from(answer, TALLY, COUNTS), out, a);
+    let b = puts::put_fields(puts::words_from(answer, TALLY, STATES), out, a);
     puts::put_byte(puts::LINE_FEED, out, b)
 }
 
@@ -98,7 +96,7 @@ fn put_both(earlier: u64, later: u64, out: &mut [u8], at: usize) -> usize
 
 // The pair's line.
 pub fn put_pair(pair: u64, earlier: u64, later: u64, out: &mut [u8], at: usize) -> usize
-    ensures { λ r. ⌜ Wrote (now (out .entry)) at (pairOf pair earlier later) (now (out .exit)) r ⌝ }
+    ensures { λ r. ⌜ Wrote (now (out .entry)) at (pairText pair earlier later) (now (out .exit)) r ⌝ }
 {
     if pair == 1 {
         return put_both(earlier, later, out, at);

@@ -15,11 +15,7 @@ use Rattle.states.specs.States.{states}
 use Rattle.records.specs.Records.{itemState}
 use Rattle.records.specs.Tallies.{oneIf, inState, countsFrom, tallyOf}
 use Rattle.records.specs.declared.Tally.{Tally}
-
-pub zeros : (n k : ℕ) → _≡_ {A = ℕ} (getD (replicate n 0) k 0) 0
-zeros zero k = refl
-zeros (suc n) zero = refl
-zeros (suc n) (suc k) = zeros n k
+use Rattle.laws.proofs.Laws.{zeros-at}
 
 -- one more at s
 added : (l : List ℕ) (s k : ℕ) → s < length l → getD (set l s (getD l s 0 + 1)) k 0 ≡ getD l k 0 + oneIf (eqb s k)
@@ -42,10 +38,10 @@ abbrev pub Counted : List ℕ → ℕ → ℕ → List ℕ → Type 0
 Counted items n i l = (length l ≡ states) × ((k : ℕ) → k < states → (getD l k 0 + inState k items i (n - i) ≡ inState k items 0 n) × (getD l k 0 ≤ i))
 
 pub none-yet : (items : List ℕ) (n : ℕ) → Counted items n 0 (replicate states 0)
-none-yet items n = (refl, λ k h. (start k, omega (arith, zeros states k)))
+none-yet items n = (refl, λ k h. (start k, omega (arith, zeros-at states k)))
   where
     start : (k : ℕ) → getD (replicate states 0) k 0 + inState k items 0 (n - 0) ≡ inState k items 0 n
-    start k = let e : n - 0 ≡ n = omega arith in rw (e, zeros states k) (omega arith)
+    start k = let e : n - 0 ≡ n = omega arith in rw (e, zeros-at states k) (omega arith)
 
 module _ (items : List ℕ) (n i s : ℕ) (l : List ℕ) (h : i < n) (e : s ≡ itemState items i) (so-far : Counted items n i l) where
   turn : (k : ℕ) → inState k items i (n - i) ≡ oneIf (eqb s k) + inState k items (i + 1) (n - (i + 1))

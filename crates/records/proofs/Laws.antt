@@ -12,9 +12,11 @@ use Rattle.same_names.specs.Alike.{sameName}
 use Rattle.pieces.specs.Columns as column
 use Rattle.pieces.specs.Columns.{recordWords}
 use Rattle.states.specs.States.{states}
-use Rattle.pieces.specs.Classes.{heading, closing}
+use Rattle.pieces.specs.Records.{piecesIn}
+use Rattle.pieces.specs.Frames.{frameOf}
+use Rattle.pieces.specs.declared.Frame.{Frame}
 use Rattle.records.specs.Records.{wordAt, isItem, itemState}
-use Rattle.records.specs.Frames.{allItems, nameAgrees, frameGood, noneFrom, wholeOf}
+use Rattle.records.specs.Frames.{nameAgrees, goodIn, frameGood, noneFrom, wholeOf}
 use Rattle.records.specs.declared.Tally.{Tally}
 
 module _ (items : List ℕ) (i j : ℕ) where
@@ -39,29 +41,6 @@ module _ (items : List ℕ) (i class : ℕ) (x : Bool) (p : class ≡ wordAt ite
   unfolding itemState
   state-other h = rw (← p, ← q, h)
 
-  -- the turns of `all_items`
-  module _ (to : ℕ) (whole : Bool) (l : i < to) (h : allItems items i (to - i) ≡ whole) where
-    opened : allItems items i (to - i) ≡ allItems items i (suc (to - (i + 1)))
-    opened = let e : to - i ≡ suc (to - (i + 1)) = omega arith in ap (allItems items i) e
-
-    pub items-stop : not x ≡ true → false ≡ whole
-    unfolding allItems
-    items-stop g =
-        let z : isItem (wordAt items i column.class) ≡ false = ap isItem (sym p) ∙ sym q ∙ not-true x g in
-        let o : allItems items i (suc (to - (i + 1))) ≡ false = rw (z, allItems) in
-        sym (sym h ∙ opened ∙ o)
-
-    pub items-turn : not x ≡ false → allItems items (i + 1) (to - (i + 1)) ≡ whole
-    unfolding allItems
-    items-turn g =
-        let z : isItem (wordAt items i column.class) ≡ true = ap isItem (sym p) ∙ sym q ∙ not-false x g in
-        let o : allItems items i (suc (to - (i + 1))) ≡ allItems items (suc i) (to - (i + 1)) = rw (z, allItems) in
-        ap (λ (k : ℕ). allItems items k (to - (i + 1))) (add-one i) ∙ sym o ∙ sym opened ∙ h
-
-pub items-end : (items : List ℕ) (i to : ℕ) (whole : Bool) → allItems items i (to - i) ≡ whole → to ≤ i → true ≡ whole
-unfolding allItems
-items-end items i to whole h l = let e : to - i ≡ 0 = omega arith in rw e at h
-
 module _ (text elements : List ℕ) (heading closing : ℕ) where
   pub name-absent : closing ≡ 0 → true ≡ nameAgrees text elements heading closing
   unfolding nameAgrees
@@ -72,37 +51,14 @@ module _ (text elements : List ℕ) (heading closing : ℕ) where
   name-there r h e = rw (ne-eqb closing 0 h) e
 
 -- the ways of a frame
-module _ (text elements items : List ℕ) (n : ℕ) where
-  pub frame-few : n < 2 → false ≡ frameGood text elements items n
-  unfolding frameGood
-  frame-few h = rw (lt-ltb n 2 h)
+module _ (text elements : List ℕ) (count : ℕ) (f : Frame) (e : f ≡ frameOf (piecesIn elements count)) where
+  pub frame-bad : not (f .good) ≡ true → false ≡ frameGood text elements count
+  unfolding frameGood goodIn
+  frame-bad h = rw (← e, not-true (f .good) h)
 
-  module _ (a b : ℕ) (l : 2 ≤ n) (p : a ≡ wordAt items 0 column.class) (q : b ≡ wordAt items (n - 1) column.class) where
-    both : (x y : Bool) → (not x || not y) ≡ false → (x && y) ≡ true
-    both true true h = refl
-    both true false h = sym h
-    both false y h = sym h
-
-    either : (x y : Bool) → (not x || not y) ≡ true → (x && y) ≡ false
-    either true true h = sym h
-    either true false h = refl
-    either false y h = refl
-
-    pub frame-ends : (not (eqb a heading) || not (eqb b closing)) ≡ true → false ≡ frameGood text elements items n
-    unfolding frameGood
-    frame-ends h = rw (le-ltb n 2 l, ← p, ← q, either (eqb a heading) (eqb b closing) h)
-
-    module _ (x : Bool) (h : (not (eqb a heading) || not (eqb b closing)) ≡ false) (e : x ≡ allItems items 1 (n - 1 - 1)) where
-      middle : allItems items 1 (n - 2) ≡ x
-      middle = let k : n - 2 ≡ n - 1 - 1 = omega arith in rw k (sym e)
-
-      pub frame-middle : not x ≡ true → false ≡ frameGood text elements items n
-      unfolding frameGood
-      frame-middle g = rw (le-ltb n 2 l, ← p, ← q, both (eqb a heading) (eqb b closing) h, middle, not-true x g)
-
-      pub frame-name : (u v : ℕ) (r : Bool) → not x ≡ false → u ≡ wordAt items 0 column.name → v ≡ wordAt items (n - 1) column.name → r ≡ nameAgrees text elements u v → r ≡ frameGood text elements items n
-      unfolding frameGood
-      frame-name u v r g o o′ k = rw (le-ltb n 2 l, ← p, ← q, both (eqb a heading) (eqb b closing) h, middle, not-false x g, ← o, ← o′) k
+  pub frame-names : (r : Bool) → not (f .good) ≡ false → r ≡ nameAgrees text elements (f .heading .0) (f .closing .0) → r ≡ frameGood text elements count
+  unfolding frameGood goodIn
+  frame-names r h q = rw (← e, not-false (f .good) h) q
 
 -- the ways of a whole survey
 pub whole-frame : (frame : Bool) (t : Tally) → not frame ≡ true → false ≡ wholeOf frame t

@@ -1,12 +1,12 @@
-// What the item records say together: the tally, and whether the frame is good. Every public function takes any tables.
+// What the item records say together: the tally, and whether the survey is whole; and whether the frame is good, which the pieces say. Every
+// public function takes any tables.
 use pieces::RECORD_WORDS;
 use places::ElementNumber;
 use states::STATES;
 ghost use mathlib.Core.Path.{_≡_};
-ghost use Prim.Native.Nat.{_+_, _-_, _≤_, _<_};
 ghost use Rattle.records.specs.Records.{wordAt, isItem, isClaim, itemState};
 ghost use Rattle.records.specs.Tallies.{tallyOf};
-ghost use Rattle.records.specs.Frames.{allItems, nameAgrees, frameGood, wholeOf};
+ghost use Rattle.records.specs.Frames.{nameAgrees, frameGood, wholeOf};
 
 // How many items are in each state.
 pub struct Tally {
@@ -67,56 +67,31 @@ pub fn tallied(items: &[u64], n: usize) -> Tally
     t
 }
 
-fn all_items(items: &[u64], from: usize, to: usize) -> bool
-    requires { ⌜ from ≤ to ⌝ }
-    ensures { λ r. ⌜ r ≡ allItems (now (items .entry)) from (to - from) ⌝ }
+fn name_agrees(
+    text: &[u8],
+    elements: &[u64],
+    heading: ElementNumber,
+    closing: ElementNumber,
+) -> bool
+    ensures { λ r. ⌜ r ≡ nameAgrees (now (text .entry)) (now (elements .entry)) (heading .0) (closing .0) ⌝ }
 {
-    let mut i = from;
-    while i < to {
-        if !is_item(word(items, i, pieces::CLASS)) {
-            return false;
-        }
-        i += 1;
-    }
-    true
-}
-
-fn name_agrees(text: &[u8], elements: &[u64], heading: u64, closing: u64) -> bool
-    ensures { λ r. ⌜ r ≡ nameAgrees (now (text .entry)) (now (elements .entry)) heading closing ⌝ }
-{
-    if closing == 0 {
+    if closing.0 == 0 {
         return true;
     }
-    same_names::same_name(
-        text,
-        elements,
-        ElementNumber(heading as usize),
-        ElementNumber(closing as usize),
-    )
+    same_names::same_name(text, elements, heading, closing)
 }
 
-// Whether n records, pieces of a text, make a good frame.
-pub fn frame_good(text: &[u8], elements: &[u64], items: &[u64], n: usize) -> bool
-    ensures { λ r. ⌜ r ≡ frameGood (now (text .entry)) (now (elements .entry)) (now (items .entry)) n ⌝ }
+// Whether the pieces of a text's elements make a good frame.
+pub fn frame_good(text: &[u8], elements: &[u64], count: usize) -> bool
+    ensures { λ r. ⌜ r ≡ frameGood (now (text .entry)) (now (elements .entry)) count ⌝ }
 {
-    if n < 2 {
+    let frame = pieces::frame_of(elements, count);
+    if !frame.good {
         return false;
     }
-    let last = n - 1;
-    if (word(items, 0, pieces::CLASS) != pieces::HEADING)
-        | (word(items, last, pieces::CLASS) != pieces::CLOSING)
-    {
-        return false;
-    }
-    if !all_items(items, 1, last) {
-        return false;
-    }
-    name_agrees(
-        text,
-        elements,
-        word(items, 0, pieces::NAME),
-        word(items, last, pieces::NAME),
-    )
+    let heading = frame.heading;
+    let closing = frame.closing;
+    name_agrees(text, elements, heading, closing)
 }
 
 // Whether the survey is whole: a good frame, and no item in another state than 0.

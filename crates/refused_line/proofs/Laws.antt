@@ -8,15 +8,15 @@ use Rattle.words.specs.Words.{bytesOf}
 use Rattle.puts.specs.Puts.{Wrote}
 use Rattle.puts.specs.Decimals.{decimalOf, lineFeed}
 use Rattle.puts.proofs.Laws.{then3, named}
-use Rattle.refused_line.specs.Refused.{refusal, place, placeOf, refusedOf, lineBy, linesBy}
+use Rattle.refused_line.specs.Refused.{refusal, place, placeText, refusedOf, lineBy, linesBy}
 
 pub place-put : {t t₁ t₂ t₃ : List ℕ} {a b c d : ℕ} (n : ℕ) → Wrote t a (bytesOf " at ") t₁ b → Wrote t₁ b (decimalOf n) t₂ c
-    → Wrote t₂ c (lineFeed ∷ []) t₃ d → Wrote t a (placeOf n) t₃ d
-unfolding placeOf
+    → Wrote t₂ c (lineFeed ∷ []) t₃ d → Wrote t a (placeText n) t₃ d
+unfolding placeText
 place-put n p q u = then3 p q u
 
 pub refused-put : {t t₁ t₂ t₃ : List ℕ} {a b c d : ℕ} (n at : ℕ) → Wrote t a (bytesOf "refused ") t₁ b → Wrote t₁ b (decimalOf n) t₂ c
-    → Wrote t₂ c (placeOf at) t₃ d → Wrote t a (refusedOf n at) t₃ d
+    → Wrote t₂ c (placeText at) t₃ d → Wrote t a (refusedOf n at) t₃ d
 unfolding refusedOf
 refused-put n at p q u = then3 p q u
 

@@ -16,16 +16,20 @@ abbrev pub place : ℕ
 place = 1
 
 -- how many elements, rows or pieces were counted
-abbrev pub count : ℕ
-count = 2
+abbrev pub counted : ℕ
+counted = 2
+
+-- where a survey's has whether it is whole
+abbrev pub whole : ℕ
+whole = 4
 
 -- "a refusal as `refused NO at PLACE`": its end
-unfoldable pub placeOf : ℕ → List ℕ
-placeOf at = bytesOf " at " ++ (decimalOf at ++ (lineFeed ∷ []))
+unfoldable pub placeText : ℕ → List ℕ
+placeText at = bytesOf " at " ++ (decimalOf at ++ (lineFeed ∷ []))
 
 -- and all of it
 unfoldable pub refusedOf : ℕ → ℕ → List ℕ
-refusedOf number at = bytesOf "refused " ++ (decimalOf number ++ placeOf at)
+refusedOf number at = bytesOf "refused " ++ (decimalOf number ++ placeText at)
 
 -- "A refusal is one line, `refused NO at PLACE`, and nothing else.": the lines of an answer, by their numbers, and how many there are
 unfoldable pub lineBy : List ℕ → (ℕ → List ℕ) → ℕ → List ℕ

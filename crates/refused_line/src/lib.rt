@@ -1,7 +1,7 @@
 // The line of a refusal, which is all that is printed of a text that is refused. Every function takes any numbers and any buffer.
 ghost use mathlib.Core.Path.{_≡_};
 ghost use Rattle.puts.specs.Puts.{Wrote};
-ghost use Rattle.refused_line.specs.Refused.{placeOf, refusedOf, linesBy};
+ghost use Rattle.refused_line.specs.Refused.{placeText, refusedOf, linesBy};
 
 // Where the words of an answer stand that all have: a refusal's number and its place, and how many elements, rows or pieces there are.
 pub const REFUSAL: usize = 0;
@@ -10,8 +10,11 @@ pub const PLACE: usize = 1;
 
 pub const COUNT: usize = 2;
 
+// Where a survey's has whether it is whole.
+pub const WHOLE: usize = 4;
+
 fn put_place(place: u64, out: &mut [u8], at: usize) -> usize
-    ensures { λ r. ⌜ Wrote (now (out .entry)) at (placeOf place) (now (out .exit)) r ⌝ }
+    ensures { λ r. ⌜ Wrote (now (out .entry)) at (placeText place) (now (out .exit)) r ⌝ }
 {
     let a = puts::put_bytes(b" at ", out, at);
     let b = puts::put_decimal(place, out, a);

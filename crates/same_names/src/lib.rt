@@ -1,4 +1,5 @@
 // Names compared: case aside, unless extended.
+use places::BytePlace;
 use places::ElementNumber;
 ghost use mathlib.Core.Path.{_≡_};
 ghost use Prim.Native.Nat.{_+_, _-_, _≤_, _<_};
@@ -17,14 +18,16 @@ pub fn counted(basic: bool, b: u8) -> u8
 }
 
 // The n bytes from x and from y count the same.
-fn agrees(s: &[u8], x: usize, y: usize, n: usize, basic: bool) -> bool
-    requires { ⌜ (x + n ≤ length (now s)) × (y + n ≤ length (now s)) ⌝ }
-    ensures { λ r. ⌜ r ≡ agree basic (now (s .entry)) x y n ⌝ }
+fn agrees(s: &[u8], x: BytePlace, y: BytePlace, n: usize, basic: bool) -> bool
+    requires { ⌜ (x .0 + n ≤ length (now s)) × (y .0 + n ≤ length (now s)) ⌝ }
+    ensures { λ r. ⌜ r ≡ agree basic (now (s .entry)) (x .0) (y .0) n ⌝ }
 {
+    let a = x.0;
+    let b = y.0;
     let mut i = 0;
     while i < n {
-        let p = counted(basic, s[x + i]);
-        let q = counted(basic, s[y + i]);
+        let p = counted(basic, s[a + i]);
+        let q = counted(basic, s[b + i]);
         if p != q {
             return false;
         }
@@ -46,7 +49,7 @@ fn spelled_same(s: &[u8], table: &[u64], a: ElementNumber, b: ElementNumber, bas
     let p = places::stands(s, x, n);
     let q = places::stands(s, y, n);
     if p & q {
-        return agrees(s, x.0, y.0, n as usize, basic);
+        return agrees(s, x, y, n as usize, basic);
     }
     false
 }
@@ -61,8 +64,8 @@ pub fn same_name(s: &[u8], table: &[u64], a: ElementNumber, b: ElementNumber) ->
         return false;
     }
     match p {
-        1 => spelled_same(s, table, a, b, true),
-        2 => spelled_same(s, table, a, b, false),
+        places::IDENTIFIER => spelled_same(s, table, a, b, true),
+        places::EXTENDED => spelled_same(s, table, a, b, false),
         _ => false,
     }
 }

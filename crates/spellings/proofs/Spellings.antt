@@ -2,9 +2,9 @@
 -- computed test to each table. Assumes nothing.
 use mathlib.Core.Path.{_≡_, refl}
 use Rattle.spelled.proofs.Spelling.{spelling}
-use Rattle.grammars.specs.Grammar.{tok, nt}
-use Rattle.forms.specs.Kinds.{kinds, numberOf, other}
-use Rattle.forms.specs.Names.{allNames, nameCount}
+use Rattle.grammars.specs.code.Grammar.{tok, nt}
+use Rattle.forms.specs.code.Kinds.{kinds, numberOf, other}
+use Rattle.forms.specs.code.Names.{allNames, nameCount}
 use Rattle.operands.specs.Operands.{operatorOf, signOf}
 use Rattle.spellings.specs.Spellings.{Spelled, same, elementKinds, pieceKinds, operators, signs, kindsBySpelling, classNumbers, classes, placeKinds, firstClasses, tokens, from, each}
 

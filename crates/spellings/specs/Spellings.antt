@@ -10,8 +10,8 @@ use Rattle.elements.specs.declared.Literal.{Literal}
 use Rattle.elements.specs.Kinds as element
 use Rattle.places.specs.Kinds as place
 use Rattle.spelled.specs.Spelled.{kindOf}
-use Rattle.grammars.specs.Grammar.{Sym}
-use Rattle.forms.specs.Kinds as form
+use Rattle.grammars.specs.code.Grammar.{Sym}
+use Rattle.forms.specs.code.Kinds as form
 use Rattle.pieces.specs.Kinds as piece
 use Rattle.integers.specs.declared.Arithmetic.the-variants.{Add, Subtract, Multiply, Divide, Remainder, Modulo, Power}
 use Rattle.folding.specs.declared.Relation.the-variants.{Equal, Unequal, Less, LessEqual, Greater, GreaterEqual}

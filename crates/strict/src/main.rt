@@ -1,13 +1,12 @@
 // The strict reading of a text from standard input or a file: its tree with the verdict, or its elements.
 use console::Got;
 use console::OUT_ROOM;
+use form_numbers::ROW_NUMBERS;
 use options::Options;
+use options::WORD_ROOM;
 use places::MOST_BYTES;
 use places::MOST_ELEMENTS;
 use places::ROW_WORDS;
-
-// How many numbers a row of the tree has.
-const ROW_NUMBERS: usize = 5;
 
 fn run(text: &[u8], o: Options) {
     let mut table = [0u64; ROW_WORDS * MOST_ELEMENTS];
@@ -29,7 +28,7 @@ fn run(text: &[u8], o: Options) {
 }
 
 fn main() {
-    let mut word = [0u8; 4096];
+    let mut word = [0u8; WORD_ROOM];
     let o = options::read_options(
         b"strict",
         b"usage: strict [--elements] [--element-rows N] [--tree-rows N] [--] [FILE]\nThe tree of packages, entities and architectures, and whether it passes for synthesis; or the elements.\nNo FILE, or -: standard input. N lends a smaller table. The program needs 2 MB of stack.\n",

@@ -17,9 +17,9 @@ use Rattle.element_reading.specs.Rows.{Row, rowsOf}
 use Rattle.element_reading.specs.Table.{cells}
 use Rattle.element_reading.specs.Reading.{tableOf}
 use Rattle.element_reading.specs.declared.Reading.the-variants as R
-use Rattle.element_reading.specs.Given.{count, Taken}
+use Rattle.element_reading.specs.Given.{elementCount, Taken}
 use Rattle.element_reading.proofs.Answers.{taken-read, table-read, table-length}
-use Rattle.tree.specs.Answers.{elementsIn}
+use Rattle.tree.specs.code.Answers.{elementsIn}
 use Rattle.strict_reading.specs.declared.Unread.{Unread}
 use Rattle.strict_reading.specs.declared.Unread.the-variants as U
 use Rattle.refusals.specs.declared.StrictRefusal.the-variants as S
@@ -27,8 +27,8 @@ use Rattle.strict_reading.specs.code.Strict.{unreadableFrom}
 use Rattle.strict_reading.specs.Given.{UnreadableIn, FirstUnreadable, NoneUnreadable}
 
 module _ (text : List ℕ) (ew : ℕ) where
-  -- all the elements count
-  pub all-count : Taken text ew → elementsIn (tableOf text ew) (count text) ≡ count text
+  -- all the elements elementCount
+  pub all-count : Taken text ew → elementsIn (tableOf text ew) (elementCount text) ≡ elementCount text
   all-count t =
       let l = t .1 in
       let m = t .2 in
@@ -94,24 +94,24 @@ UnreadSays rs (U.At k) = FirstUnreadable rs k
 UnreadSays rs U.Nothing = NoneUnreadable rs
 
 module _ (text : List ℕ) (ew : ℕ) (t : Taken text ew) where
-  pub unread-says : UnreadSays (rowsOf text) (unreadableFrom 0 (kindsOf (count text) (tableOf text ew)))
+  pub unread-says : UnreadSays (rowsOf text) (unreadableFrom 0 (kindsOf (elementCount text) (tableOf text ew)))
   unread-says =
-      rw (table-read text ew (taken-read text ew t), kinds-rows (rowsOf text) (replicate (ew - rowWords * count text) 0))
+      rw (table-read text ew (taken-read text ew t), kinds-rows (rowsOf text) (replicate (ew - rowWords * elementCount text) 0))
       (from (unreadableFrom 0 (numbers (rowsOf text))) (search-says (rowsOf text) 0))
     where
       from : (f : Unread) → SearchSays 0 (rowsOf text) f → UnreadSays (rowsOf text) f
       from (U.At k) s = let z : s .0 ≡ k = (let p = s .1 .0 in omega arith) in subst (FirstUnreadable (rowsOf text)) z (s .1 .1)
       from U.Nothing s = s
 
-  pub none-unread : NoneUnreadable (rowsOf text) → unreadableFrom 0 (kindsOf (count text) (tableOf text ew)) ≡ U.Nothing
-  none-unread d = go (unreadableFrom 0 (kindsOf (count text) (tableOf text ew))) unread-says
+  pub none-unread : NoneUnreadable (rowsOf text) → unreadableFrom 0 (kindsOf (elementCount text) (tableOf text ew)) ≡ U.Nothing
+  none-unread d = go (unreadableFrom 0 (kindsOf (elementCount text) (tableOf text ew))) unread-says
     where
       go : (f : Unread) → UnreadSays (rowsOf text) f → f ≡ U.Nothing
       go (U.At k) s = absurd (d k (s .0))
       go U.Nothing s = refl
 
-  pub first-unread : (e : ℕ) → FirstUnreadable (rowsOf text) e → unreadableFrom 0 (kindsOf (count text) (tableOf text ew)) ≡ U.At e
-  first-unread e d = go (unreadableFrom 0 (kindsOf (count text) (tableOf text ew))) unread-says
+  pub first-unread : (e : ℕ) → FirstUnreadable (rowsOf text) e → unreadableFrom 0 (kindsOf (elementCount text) (tableOf text ew)) ≡ U.At e
+  first-unread e d = go (unreadableFrom 0 (kindsOf (elementCount text) (tableOf text ew))) unread-says
     where
       go : (f : Unread) → UnreadSays (rowsOf text) f → f ≡ U.At e
       go (U.At k) s =

@@ -17,9 +17,11 @@ use Rattle.element_reading.proofs.Answers.{table-read}
 use Rattle.element_reading.proofs.TableLaws.{length-cells}
 use Rattle.same_names.specs.Alike.{spelledSame, sameName}
 use Rattle.places.specs.Places.{cellAt, kindsOf}
-use Rattle.forms.specs.Kinds.{terminalOf}
+use Rattle.forms.specs.code.Kinds.{terminalOf}
 use Rattle.forms.specs.Tree as forms
-use Rattle.tree.specs.Answers.{terminalsOf, wordsOf}
+use Rattle.one_tree.proofs.Elements.{form-kind}
+use Rattle.tree.specs.code.Answers.{terminalsOf}
+use Rattle.forms.specs.Words.{wordsOf}
 use Rattle.forms.specs.Words.{rowsIn}
 use Rattle.forms.specs.Labels.{LabelsLead}
 use Rattle.verdict.specs.Verdict.{Judged}
@@ -27,16 +29,13 @@ use Rattle.verdict.specs.code.Judging.{verdictOf}
 use Rattle.verdict.specs.code.Promises.{rowsHad}
 use Rattle.verdict.specs.declared.Verdict.{Verdict}
 use Rattle.verdict.proofs.Promises.{judged-exactly}
-use Rattle.element_reading.specs.Given.{count, Taken}
-use Rattle.strict_reading.specs.Given.{terminalsOfRows, Elements, alike}
+use Rattle.element_reading.specs.Given.{elementCount, Taken}
+use Rattle.strict_reading.specs.Given.{formKinds, Elements, alike}
 use Rattle.element_reading.proofs.Answers.{taken-read}
+use Rattle.laws.proofs.Laws.{zeros-at}
+use Rattle.forms.proofs.Words.{words-size}
 
 -- zeros after rows change none of the words
-zeros-at : (z i : ℕ) → _≡_ {A = ℕ} (getD (replicate z 0) i 0) 0
-zeros-at zero i = refl
-zeros-at (suc z) zero = refl
-zeros-at (suc z) (suc i) = zeros-at z i
-
 padded-at : (l : List ℕ) (z k : ℕ) → getD (l ++ replicate z 0) k 0 ≡ getD l k 0
 padded-at [] z k = zeros-at z k
 padded-at (x ∷ l) z zero = refl
@@ -61,31 +60,29 @@ module _ (text l : List ℕ) (m z : ℕ) (e : length l ≡ 3 * m) where
   unfolding sameName spelledSame
   same-padded a b = rw (cell-padded a 0, cell-padded b 0, cell-padded a 1, cell-padded b 1, cell-padded a 2, cell-padded b 2)
 
-terminals-rows : (rs : List Row) (l : List ℕ) → terminalsOf (length rs) (cells rs ++ l) ≡ terminalsOfRows rs
+terminals-rows : (rs : List Row) (l : List ℕ) → terminalsOf (length rs) (cells rs ++ l) ≡ formKinds rs
 unfolding terminalsOf kindsOf cells
 terminals-rows [] l = refl
-terminals-rows (r ∷ rs) l = ap (λ (x : List ℕ). terminalOf (kindNumber (r .kind)) ∷ x) (terminals-rows rs l)
+terminals-rows (r ∷ rs) l =
+    ap (λ (x : List ℕ). terminalOf (kindNumber (r .kind)) ∷ x) (terminals-rows rs l)
+    ∙ ap (λ (k : ℕ). k ∷ formKinds rs) (sym (form-kind (kindNumber (r .kind))))
 
 -- the element table has the text's elements: what they are to the forms, and which are alike
 module _ (text : List ℕ) (ew : ℕ) (t : Taken text ew) where
-  table-elements : terminalsOf (count text) (tableOf text ew) ≡ Elements text
-  table-elements = rw (table-read text ew (taken-read text ew t)) (terminals-rows (rowsOf text) (replicate (ew - 3 * count text) 0))
+  table-elements : terminalsOf (elementCount text) (tableOf text ew) ≡ Elements text
+  table-elements = rw (table-read text ew (taken-read text ew t)) (terminals-rows (rowsOf text) (replicate (ew - 3 * elementCount text) 0))
 
   table-alike : sameName text (tableOf text ew) ≡ alike text
   table-alike =
       rw (table-read text ew (taken-read text ew t))
-      (fun-ext (λ a. fun-ext (same-padded text (cells (rowsOf text)) (count text) (ew - 3 * count text) (length-cells (rowsOf text)) a)))
+      (fun-ext (λ a. fun-ext (same-padded text (cells (rowsOf text)) (elementCount text) (ew - 3 * elementCount text) (length-cells (rowsOf text)) a)))
 
   -- so that what holds of one holds of the other
-  pub of-text : (P : (ℕ → ℕ → Bool) → List ℕ → Type 0) → P (sameName text (tableOf text ew)) (terminalsOf (count text) (tableOf text ew)) → P (alike text) (Elements text)
+  pub of-text : (P : (ℕ → ℕ → Bool) → List ℕ → Type 0) → P (sameName text (tableOf text ew)) (terminalsOf (elementCount text) (tableOf text ew)) → P (alike text) (Elements text)
   of-text P x = subst₂ P table-alike table-elements x
 
-  pub of-table : (P : (ℕ → ℕ → Bool) → List ℕ → Type 0) → P (alike text) (Elements text) → P (sameName text (tableOf text ew)) (terminalsOf (count text) (tableOf text ew))
+  pub of-table : (P : (ℕ → ℕ → Bool) → List ℕ → Type 0) → P (alike text) (Elements text) → P (sameName text (tableOf text ew)) (terminalsOf (elementCount text) (tableOf text ew))
   of-table P x = subst₂ P (sym table-alike) (sym table-elements) x
-
-words-size : (rs : List forms.Row) → length (wordsOf rs) ≡ 5 * length rs
-words-size [] = refl
-words-size (r ∷ rs) = omega (arith, words-size rs)
 
 -- the rows of a tree table that has these rows and then other words
 pub rows-in : (rs : List forms.Row) (l : List ℕ) → rowsIn (length rs) (wordsOf rs ++ l) ≡ rs

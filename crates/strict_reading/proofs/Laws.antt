@@ -14,8 +14,8 @@ use Rattle.element_reading.specs.declared.Reading.{Reading}
 use Rattle.element_reading.specs.declared.Reading.the-variants as R
 use Rattle.refusals.specs.declared.Refusal.{Refusal}
 use Rattle.places.specs.declared.ElementNumber.{ElementNumber}
-use Rattle.tree.specs.Answers.{elementsIn, readingIn, answerOf}
-use Rattle.tree.specs.Answers as trees
+use Rattle.tree.specs.code.Answers.{elementsIn, readingIn, answerOf}
+use Rattle.tree.specs.code.Answers as trees
 use Rattle.tree.specs.declared.Answer.{Answer}
 use Rattle.tree.specs.declared.Answer.the-variants as A
 use Rattle.verdict.specs.code.Judging.{verdictOf}

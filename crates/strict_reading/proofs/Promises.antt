@@ -14,17 +14,19 @@ use Rattle.element_reading.specs.Reading.{readingOf, tableOf}
 use Rattle.element_reading.specs.declared.Reading.{Reading}
 use Rattle.element_reading.specs.declared.Reading.the-variants as R
 use Rattle.element_reading.proofs.Answers.{table-read, table-length}
-use Rattle.forms.specs.Tree.{State, rowsOf}
+use Rattle.forms.specs.code.Frames.{State, rowsOf}
 use Rattle.forms.specs.Tree as forms
+use Rattle.forms.specs.code.Frames as frames
 use Rattle.forms.specs.Words.{rowsIn}
-use Rattle.tree.specs.Answers.{elementsIn, readingIn, answerOf, wordsOf, noFile, nameDiffers, tooDeep, tableShort}
+use Rattle.tree.specs.code.Answers.{elementsIn, readingIn, answerOf, noFile, nameDiffers, tooDeep, tableShort}
+use Rattle.forms.specs.Words.{wordsOf}
 use Rattle.laws.proofs.Laws.{clash}
-use Rattle.tree.specs.Answers as answers
+use Rattle.tree.specs.code.Answers as answers
 use Rattle.tree.specs.declared.Answer.{Answer}
 use Rattle.tree.specs.declared.Answer.the-variants as A
 use Rattle.tree_promises.specs.Due.{NoFileFirst, NameFirst, DepthFirst}
-use Rattle.tree_promises.specs.Promises.{Answered}
-use Rattle.tree_promises.specs.Promises as trees
+use Rattle.tree_promises.specs.code.Promises.{Answered}
+use Rattle.tree_promises.specs.code.Promises as trees
 use Rattle.tree_promises.proofs.Exactly.{reading-file, file-reading}
 use Rattle.tree_promises.proofs.Promises.{accepts, has-rows, no-file-exactly, name-differs-exactly, too-deep-exactly, is-short, zeros-else, each-label-leads, elsewhere, none-elsewhere}
 use Rattle.verdict.specs.Verdict.{Judged}
@@ -39,7 +41,7 @@ use Rattle.refusals.specs.declared.StrictRefusal.the-variants as S
 use Rattle.strict_reading.specs.declared.Strict.{Strict}
 use Rattle.strict_reading.specs.declared.Strict.the-variants.{Read, Refused}
 use Rattle.strict_reading.specs.code.Strict.{unreadableFrom, byAnswer, treeTable, fileOf, byUnread, elementsAs, byReading, strictOf, kept, elementsAfter, treeByUnread, treeAs, treeByReading, treeAfter}
-use Rattle.element_reading.specs.Given.{count, Taken}
+use Rattle.element_reading.specs.Given.{elementCount, Taken}
 use Rattle.element_reading.specs.Given as given
 use Rattle.element_reading.proofs.Answers as reading
 use Rattle.strict_reading.specs.Given.{FirstUnreadable, Readable, Elements, alike, File, ReadAs, IsRead, Given, of-elements, unreadable, no-file, name-differs, too-deep, tree-short}
@@ -94,32 +96,32 @@ zeros-on-refusal text ew tw r e =
 
 -- a text whose elements are taken and readable is answered as they are
 module _ (text : List ℕ) (ew tw : ℕ) where
-  readable-as : Readable text ew → strictOf text ew tw ≡ fileOf text (tableOf text ew) (count text) tw
+  readable-as : Readable text ew → strictOf text ew tw ≡ fileOf text (tableOf text ew) (elementCount text) tw
   readable-as r =
-      strict-by text ew tw (R.Read (record { 0 = count text })) (taken-read text ew (r .0))
-      ∙ all-by text (tableOf text ew) (count text) tw U.Nothing (none-unread text ew (r .0) (r .1))
+      strict-by text ew tw (R.Read (record { 0 = elementCount text })) (taken-read text ew (r .0))
+      ∙ all-by text (tableOf text ew) (elementCount text) tw U.Nothing (none-unread text ew (r .0) (r .1))
 
-  answered-as : Taken text ew → (a : Answer) → Answered text (tableOf text ew) (count text) tw ≡ a
-      → fileOf text (tableOf text ew) (count text) tw ≡ byAnswer a (treeTable text (tableOf text ew) (count text) tw)
+  answered-as : Taken text ew → (a : Answer) → Answered text (tableOf text ew) (elementCount text) tw ≡ a
+      → fileOf text (tableOf text ew) (elementCount text) tw ≡ byAnswer a (treeTable text (tableOf text ew) (elementCount text) tw)
   answered-as t a e =
-      file-by text (tableOf text ew) (count text) tw a
+      file-by text (tableOf text ew) (elementCount text) tw a
       (ap (λ (k : ℕ). answerOf tw (readingIn text (tableOf text ew) k)) (all-count text ew t) ∙ e)
 
   -- the tree table has the file's rows
-  tree-rows : Taken text ew → (s : State) → trees.File text (tableOf text ew) (count text) s → 5 * length (rowsOf s) ≤ tw
-      → treeTable text (tableOf text ew) (count text) tw ≡ wordsOf (rowsOf s) ++ replicate (tw - 5 * length (rowsOf s)) 0
+  tree-rows : Taken text ew → (s : State) → trees.File text (tableOf text ew) (elementCount text) s → 5 * length (rowsOf s) ≤ tw
+      → treeTable text (tableOf text ew) (elementCount text) tw ≡ wordsOf (rowsOf s) ++ replicate (tw - 5 * length (rowsOf s)) 0
   unfolding treeTable
   tree-rows t s f l =
-      ap (λ (k : ℕ). answers.tableOf tw (readingIn text (tableOf text ew) k)) (all-count text ew t) ∙ has-rows text (tableOf text ew) (count text) tw s f l
+      ap (λ (k : ℕ). answers.tableOf tw (readingIn text (tableOf text ew) k)) (all-count text ew t) ∙ has-rows text (tableOf text ew) (elementCount text) tw s f l
 
   -- the verdict on the tree table is that on the file's rows
-  verdict-as : Taken text ew → (s : State) → trees.File text (tableOf text ew) (count text) s → (rows : ℕ) → length (rowsOf s) ≡ rows → 5 * rows ≤ tw → (v : Verdict)
-      → (verdictOf (treeTable text (tableOf text ew) (count text) tw) rows ≡ v) ↔ Judged text (cells (elements.rowsOf text)) (rowsOf s) v
+  verdict-as : Taken text ew → (s : State) → trees.File text (tableOf text ew) (elementCount text) s → (rows : ℕ) → length (rowsOf s) ≡ rows → 5 * rows ≤ tw → (v : Verdict)
+      → (verdictOf (treeTable text (tableOf text ew) (elementCount text) tw) rows ≡ v) ↔ Judged text (cells (elements.rowsOf text)) (rowsOf s) v
   verdict-as t s f rows c l v =
       let m : 5 * length (rowsOf s) ≤ tw = omega arith in
-      subst (λ (n : ℕ). (verdictOf (treeTable text (tableOf text ew) (count text) tw) n ≡ v) ↔ Judged text (cells (elements.rowsOf text)) (rowsOf s) v) c
+      subst (λ (n : ℕ). (verdictOf (treeTable text (tableOf text ew) (elementCount text) tw) n ≡ v) ↔ Judged text (cells (elements.rowsOf text)) (rowsOf s) v) c
       (subst (λ (x : List ℕ). (verdictOf x (length (rowsOf s)) ≡ v) ↔ Judged text (cells (elements.rowsOf text)) (rowsOf s) v) (sym (tree-rows t s f m))
-      (verdict-rows text (cells (elements.rowsOf text)) (rowsOf s) tw (each-label-leads text (tableOf text ew) (count text) s f) m v))
+      (verdict-rows text (cells (elements.rowsOf text)) (rowsOf s) tw (each-label-leads text (tableOf text ew) (elementCount text) s f) m v))
 
   -- when each refusal is given, refusal by refusal
   abbrev GivenAs : StrictRefusal → Type 0
@@ -173,36 +175,36 @@ module _ (text : List ℕ) (ew tw : ℕ) where
   Says (Refused r) = GivenAs r
 
   -- a reading of the text's elements is a file's, and a file has one
-  is-file : (s : State) → forms.Reading (alike text) (Elements text) s → File text (rowsOf s)
+  is-file : (s : State) → frames.Reading (alike text) (Elements text) s → File text (rowsOf s)
   is-file = reading-file (alike text) (Elements text)
 
-  is-read : (l : List forms.Row) → File text l → (s : State) × (forms.Reading (alike text) (Elements text) s × (rowsOf s ≡ l))
+  is-read : (l : List forms.Row) → File text l → (s : State) × (frames.Reading (alike text) (Elements text) s × (rowsOf s ≡ l))
   is-read = file-reading (alike text) (Elements text)
 
-  file-says : Readable text ew → Says (fileOf text (tableOf text ew) (count text) tw)
-  file-says r = go (Answered text (tableOf text ew) (count text) tw) refl
+  file-says : Readable text ew → Says (fileOf text (tableOf text ew) (elementCount text) tw)
+  file-says r = go (Answered text (tableOf text ew) (elementCount text) tw) refl
     where
-      says : (a : Answer) → Answered text (tableOf text ew) (count text) tw ≡ a → Says (byAnswer a (treeTable text (tableOf text ew) (count text) tw)) → Says (fileOf text (tableOf text ew) (count text) tw)
+      says : (a : Answer) → Answered text (tableOf text ew) (elementCount text) tw ≡ a → Says (byAnswer a (treeTable text (tableOf text ew) (elementCount text) tw)) → Says (fileOf text (tableOf text ew) (elementCount text) tw)
       says a e x = subst Says (sym (answered-as (r .0) a e)) x
 
-      go : (a : Answer) → Answered text (tableOf text ew) (count text) tw ≡ a → Says (fileOf text (tableOf text ew) (count text) tw)
+      go : (a : Answer) → Answered text (tableOf text ew) (elementCount text) tw ≡ a → Says (fileOf text (tableOf text ew) (elementCount text) tw)
       go (A.Tree rows) e =
-          let f = accepts text (tableOf text ew) (count text) tw rows .0 e in
+          let f = accepts text (tableOf text ew) (elementCount text) tw rows .0 e in
           says (A.Tree rows) e
-          (rowsOf (f .0), (r, is-file (f .0) (of-text text ew (r .0) (λ a w. forms.Reading a w (f .0)) (f .1 .0)), f .1 .1, f .1 .2, verdict-as (r .0) (f .0) (f .1 .0) rows (f .1 .1) (f .1 .2) (verdictOf (treeTable text (tableOf text ew) (count text) tw) rows) .0 refl))
-      go (A.Refused (S.Elements x)) e = clash (sym (none-elsewhere tw (readingIn text (tableOf text ew) (count text))) ∙ ap elsewhere e)
-      go (A.Refused (S.Unreadable x)) e = clash (sym (none-elsewhere tw (readingIn text (tableOf text ew) (count text))) ∙ ap elsewhere e)
-      go (A.Refused (S.NoFile x)) e = says (noFile (x .0)) e (r, of-text text ew (r .0) (λ a w. NoFileFirst a w (x .0)) (no-file-exactly text (tableOf text ew) (count text) tw (x .0) .0 e))
-      go (A.Refused (S.NameDiffers x)) e = says (nameDiffers (x .0)) e (r, of-text text ew (r .0) (λ a w. NameFirst a w (x .0)) (name-differs-exactly text (tableOf text ew) (count text) tw (x .0) .0 e))
-      go (A.Refused (S.TooDeep x)) e = says (tooDeep (x .0)) e (r, of-text text ew (r .0) (λ a w. DepthFirst a w (x .0)) (too-deep-exactly text (tableOf text ew) (count text) tw (x .0) .0 e))
+          (rowsOf (f .0), (r, is-file (f .0) (of-text text ew (r .0) (λ a w. frames.Reading a w (f .0)) (f .1 .0)), f .1 .1, f .1 .2, verdict-as (r .0) (f .0) (f .1 .0) rows (f .1 .1) (f .1 .2) (verdictOf (treeTable text (tableOf text ew) (elementCount text) tw) rows) .0 refl))
+      go (A.Refused (S.Elements x)) e = clash (sym (none-elsewhere tw (readingIn text (tableOf text ew) (elementCount text))) ∙ ap elsewhere e)
+      go (A.Refused (S.Unreadable x)) e = clash (sym (none-elsewhere tw (readingIn text (tableOf text ew) (elementCount text))) ∙ ap elsewhere e)
+      go (A.Refused (S.NoFile x)) e = says (noFile (x .0)) e (r, of-text text ew (r .0) (λ a w. NoFileFirst a w (x .0)) (no-file-exactly text (tableOf text ew) (elementCount text) tw (x .0) .0 e))
+      go (A.Refused (S.NameDiffers x)) e = says (nameDiffers (x .0)) e (r, of-text text ew (r .0) (λ a w. NameFirst a w (x .0)) (name-differs-exactly text (tableOf text ew) (elementCount text) tw (x .0) .0 e))
+      go (A.Refused (S.TooDeep x)) e = says (tooDeep (x .0)) e (r, of-text text ew (r .0) (λ a w. DepthFirst a w (x .0)) (too-deep-exactly text (tableOf text ew) (elementCount text) tw (x .0) .0 e))
       go (A.Refused (S.TreeShort k)) e =
-          let f = is-short text (tableOf text ew) (count text) tw k .0 e in
+          let f = is-short text (tableOf text ew) (elementCount text) tw k .0 e in
           let l = f .1 .1 .1 in
-          says (tableShort k) e (r, f .0, (rowsOf (f .1 .0), (is-file (f .1 .0) (of-text text ew (r .0) (λ a w. forms.Reading a w (f .1 .0)) (f .1 .1 .0)), omega arith)))
+          says (tableShort k) e (r, f .0, (rowsOf (f .1 .0), (is-file (f .1 .0) (of-text text ew (r .0) (λ a w. frames.Reading a w (f .1 .0)) (f .1 .1 .0)), omega arith)))
 
-  elements-say : Taken text ew → (f : Unread) → unreadableFrom 0 (kindsOf (count text) (tableOf text ew)) ≡ f → UnreadSays (elements.rowsOf text) f → Says (elementsAs text (tableOf text ew) (count text) tw)
-  elements-say t (U.At k) e u = subst Says (sym (all-by text (tableOf text ew) (count text) tw (U.At k) e)) (t, u)
-  elements-say t U.Nothing e u = subst Says (sym (all-by text (tableOf text ew) (count text) tw U.Nothing e)) (file-says (t, u))
+  elements-say : Taken text ew → (f : Unread) → unreadableFrom 0 (kindsOf (elementCount text) (tableOf text ew)) ≡ f → UnreadSays (elements.rowsOf text) f → Says (elementsAs text (tableOf text ew) (elementCount text) tw)
+  elements-say t (U.At k) e u = subst Says (sym (all-by text (tableOf text ew) (elementCount text) tw (U.At k) e)) (t, u)
+  elements-say t U.Nothing e u = subst Says (sym (all-by text (tableOf text ew) (elementCount text) tw U.Nothing e)) (file-says (t, u))
 
   strict-says : Says (strictOf text ew tw)
   strict-says = go (readingOf text ew) refl (reading-says text ew)
@@ -211,46 +213,46 @@ module _ (text : List ℕ) (ew tw : ℕ) where
       go (R.Refused r) e g = subst Says (sym (strict-by text ew tw (R.Refused r) e)) g
       go (R.Read n) e g =
           subst Says (sym (strict-by text ew tw (R.Read n) e ∙ ap (λ (k : ℕ). elementsAs text (tableOf text ew) k tw) (g .0)))
-          (elements-say (g .1) (unreadableFrom 0 (kindsOf (count text) (tableOf text ew))) refl (unread-says text ew (g .1)))
+          (elements-say (g .1) (unreadableFrom 0 (kindsOf (elementCount text) (tableOf text ew))) refl (unread-says text ew (g .1)))
 
   read-by : (rows : ℕ) (v : Verdict) → IsRead text ew tw rows v → strictOf text ew tw ≡ Read rows v
   read-by rows v (l, (r, f, c, m, w)) =
       let x = is-read l f in
       let s = x .0 in
-      let h = of-table text ew (r .0) (λ a w. forms.Reading a w (x .0)) (x .1 .0) in
+      let h = of-table text ew (r .0) (λ a w. frames.Reading a w (x .0)) (x .1 .0) in
       let n : length (rowsOf (x .0)) ≡ rows = ap length (x .1 .1) ∙ c in
       readable-as r
-      ∙ answered-as (r .0) (A.Tree rows) (accepts text (tableOf text ew) (count text) tw rows .1 (x .0, (h, n, m)))
+      ∙ answered-as (r .0) (A.Tree rows) (accepts text (tableOf text ew) (elementCount text) tw rows .1 (x .0, (h, n, m)))
       ∙ ap (Read rows) (verdict-as (r .0) (x .0) h rows n m v .1 (subst (λ (y : List forms.Row). Judged text (cells (elements.rowsOf text)) y v) (sym (x .1 .1)) w))
 
   refused-by : (r : StrictRefusal) → GivenAs r → strictOf text ew tw ≡ Refused r
   refused-by (S.Elements r) g = strict-by text ew tw (R.Refused r) (refused-reading text ew r g)
   refused-by (S.Unreadable e) g =
-      strict-by text ew tw (R.Read (record { 0 = count text })) (taken-read text ew (g .0))
-      ∙ all-by text (tableOf text ew) (count text) tw (U.At (e .0)) (first-unread text ew (g .0) (e .0) (g .1))
+      strict-by text ew tw (R.Read (record { 0 = elementCount text })) (taken-read text ew (g .0))
+      ∙ all-by text (tableOf text ew) (elementCount text) tw (U.At (e .0)) (first-unread text ew (g .0) (e .0) (g .1))
   refused-by (S.NoFile e) g =
       readable-as (g .0)
       ∙ answered-as (g .0 .0) (noFile (e .0))
-      (no-file-exactly text (tableOf text ew) (count text) tw (e .0) .1 (of-table text ew (g .0 .0) (λ a w. NoFileFirst a w (e .0)) (g .1)))
+      (no-file-exactly text (tableOf text ew) (elementCount text) tw (e .0) .1 (of-table text ew (g .0 .0) (λ a w. NoFileFirst a w (e .0)) (g .1)))
   refused-by (S.NameDiffers e) g =
       readable-as (g .0)
       ∙ answered-as (g .0 .0) (nameDiffers (e .0))
-      (name-differs-exactly text (tableOf text ew) (count text) tw (e .0) .1 (of-table text ew (g .0 .0) (λ a w. NameFirst a w (e .0)) (g .1)))
+      (name-differs-exactly text (tableOf text ew) (elementCount text) tw (e .0) .1 (of-table text ew (g .0 .0) (λ a w. NameFirst a w (e .0)) (g .1)))
   refused-by (S.TooDeep e) g =
       readable-as (g .0)
       ∙ answered-as (g .0 .0) (tooDeep (e .0))
-      (too-deep-exactly text (tableOf text ew) (count text) tw (e .0) .1 (of-table text ew (g .0 .0) (λ a w. DepthFirst a w (e .0)) (g .1)))
+      (too-deep-exactly text (tableOf text ew) (elementCount text) tw (e .0) .1 (of-table text ew (g .0 .0) (λ a w. DepthFirst a w (e .0)) (g .1)))
   refused-by (S.TreeShort rows) g =
       let x = is-read (g .2 .0) (g .2 .1 .0) in
       let l = g .2 .1 .1 in
       let m : length (rowsOf (x .0)) ≡ length (g .2 .0) = ap length (x .1 .1) in
       readable-as (g .0)
       ∙ answered-as (g .0 .0) (tableShort rows)
-      (is-short text (tableOf text ew) (count text) tw rows .1 (g .1, (x .0, (of-table text ew (g .0 .0) (λ a w. forms.Reading a w (x .0)) (x .1 .0), omega arith))))
+      (is-short text (tableOf text ew) (elementCount text) tw rows .1 (g .1, (x .0, (of-table text ew (g .0 .0) (λ a w. frames.Reading a w (x .0)) (x .1 .0), omega arith))))
 
 -- what the tables hold when a text is read
 module _ (text : List ℕ) (ew tw rows : ℕ) (v : Verdict) (l : List forms.Row) (b : ReadAs text ew tw rows v l) where
-  elements-hold : elementsAfter text ew tw ≡ cells (elements.rowsOf text) ++ replicate (ew - rowWords * count text) 0
+  elements-hold : elementsAfter text ew tw ≡ cells (elements.rowsOf text) ++ replicate (ew - rowWords * elementCount text) 0
   unfolding elementsAfter
   elements-hold =
       ap (λ (x : Strict). kept x (tableOf text ew)) (read-by text ew tw rows v (l, b)) ∙ table-read text ew (taken-read text ew (b .0 .0))
@@ -259,11 +261,11 @@ module _ (text : List ℕ) (ew tw rows : ℕ) (v : Verdict) (l : List forms.Row)
   tree-holds =
       let x = is-read text ew tw l (b .1) in
       let s = x .0 in
-      let h = of-table text ew (b .0 .0) (λ a w. forms.Reading a w (x .0)) (x .1 .0) in
+      let h = of-table text ew (b .0 .0) (λ a w. frames.Reading a w (x .0)) (x .1 .0) in
       let c : length (rowsOf (x .0)) ≡ rows = ap length (x .1 .1) ∙ b .2 in
       let m = b .3 in
-      after-by text ew tw (R.Read (record { 0 = count text })) (taken-read text ew (b .0 .0))
-      ∙ tree-by text (tableOf text ew) (count text) tw U.Nothing (none-unread text ew (b .0 .0) (b .0 .1))
+      after-by text ew tw (R.Read (record { 0 = elementCount text })) (taken-read text ew (b .0 .0))
+      ∙ tree-by text (tableOf text ew) (elementCount text) tw U.Nothing (none-unread text ew (b .0 .0) (b .0 .1))
       ∙ tree-rows text ew tw (b .0 .0) (x .0) h (omega arith)
       ∙ ap (λ (n : ℕ). wordsOf (rowsOf (x .0)) ++ replicate (tw - 5 * n) 0) c
       ∙ ap (λ (y : List forms.Row). wordsOf y ++ replicate (tw - 5 * rows) 0) (x .1 .1)
@@ -318,7 +320,7 @@ rows-of text ew tw n v t l b q = ap (rowsIn n) q ∙ ap (λ (m : ℕ). rowsIn m 
 
 -- what holds of the rows of every reading of a text holds of the rows in the tree table
 pub of-rows : (P : List forms.Row → Type 0) (text : List ℕ) (ew tw n : ℕ) (v : Verdict) (e t : List ℕ) → Permitted text ew tw (Read n v) e t
-    → ((s : State) → forms.Reading (alike text) (Elements text) s → P (rowsOf s)) → P (rowsIn n t)
+    → ((s : State) → frames.Reading (alike text) (Elements text) s → P (rowsOf s)) → P (rowsIn n t)
 of-rows P text ew tw n v e t (l, (b, p, q)) h =
     let x = is-read text ew tw l (b .1) in
     subst P (x .1 .1 ∙ sym (rows-of text ew tw n v t l b q)) (h (x .0) (x .1 .0))

@@ -13,9 +13,9 @@ use Rattle.element_reading.specs.Table.{cells}
 use Rattle.element_reading.specs.Given.{Taken}
 use Rattle.element_reading.specs.Given as elements
 use Rattle.same_names.specs.Alike.{sameName}
-use Rattle.forms.specs.Kinds.{terminalOf}
 use Rattle.forms.specs.Tree as forms
 use Rattle.forms.specs.Words.{rowNumbers}
+use Rattle.one_tree.specs.Elements.{formKind}
 use Rattle.tree_promises.specs.Due.{IsFileOf, NoFileFirst, NameFirst, DepthFirst}
 use Rattle.verdict.specs.Verdict.{Judged}
 use Rattle.verdict.specs.declared.Verdict.{Verdict}
@@ -38,13 +38,13 @@ abbrev pub Readable : List ℕ → ℕ → Type 0
 Readable text elementWords = Taken text elementWords × NoneUnreadable (rowsOf text)
 
 -- what these elements are to the forms
-abbrev pub terminalsOfRows : List Row → List ℕ
-terminalsOfRows [] = []
-terminalsOfRows (r ∷ rs) = terminalOf (kindNumber (r .kind)) ∷ terminalsOfRows rs
+abbrev pub formKinds : List Row → List ℕ
+formKinds [] = []
+formKinds (r ∷ rs) = formKind (kindNumber (r .kind)) ∷ formKinds rs
 
 -- what the text's elements are to the forms, and whether two of them are the same name
 abbrev pub Elements : List ℕ → List ℕ
-Elements text = terminalsOfRows (rowsOf text)
+Elements text = formKinds (rowsOf text)
 
 abbrev pub alike : List ℕ → ℕ → ℕ → Bool
 alike text = sameName text (cells (rowsOf text))

@@ -9,11 +9,11 @@ use Rattle.element_reading.specs.Rows.{rowsOf}
 use Rattle.element_reading.specs.Table.{cells}
 use Rattle.forms.specs.Tree.{Row}
 use Rattle.forms.specs.Words.{rowNumbers}
-use Rattle.tree.specs.Answers.{wordsOf}
+use Rattle.forms.specs.Words.{wordsOf}
 use Rattle.refusals.specs.Refusals.{strictNumber, strictPlace}
 use Rattle.strict_reading.specs.declared.Strict.{Strict}
 use Rattle.strict_reading.specs.declared.Strict.the-variants.{Read, Refused}
-use Rattle.element_reading.specs.Given.{count}
+use Rattle.element_reading.specs.Given.{elementCount}
 use Rattle.strict_reading.specs.Given.{ReadAs, Given}
 
 -- A text that is read leaves its elements and its rows: "On success unused rows are zeros." Else the refusal is one of 01's table, by its
@@ -22,7 +22,7 @@ abbrev pub Permitted : List ℕ → ℕ → ℕ → Strict → (elements tree : 
 Permitted text elementWords treeWords (Read rows v) elements tree =
     (l : List Row)
     × (ReadAs text elementWords treeWords rows v l
-    × (elements ≡ cells (rowsOf text) ++ replicate (elementWords - rowWords * count text) 0)
+    × (elements ≡ cells (rowsOf text) ++ replicate (elementWords - rowWords * elementCount text) 0)
     × (tree ≡ wordsOf l ++ replicate (treeWords - rowNumbers * rows) 0))
 Permitted text elementWords treeWords (Refused r) elements tree =
     Given text elementWords treeWords (strictNumber r) (strictPlace r) × (elements ≡ replicate elementWords 0) × (tree ≡ replicate treeWords 0)

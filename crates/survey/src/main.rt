@@ -3,6 +3,7 @@ use console::Got;
 use console::OUT_ROOM;
 use console::Shown;
 use options::Options;
+use options::WORD_ROOM;
 use pieces::RECORD_WORDS;
 use places::MOST_BYTES;
 use places::MOST_ELEMENTS;
@@ -31,7 +32,7 @@ fn run(text: &[u8], o: Options) {
 }
 
 fn main() {
-    let mut word = [0u8; 4096];
+    let mut word = [0u8; WORD_ROOM];
     let o = options::read_options(
         b"survey",
         b"usage: survey [--records] [--element-rows N] [--item-rows N] [--] [FILE]\nThe items of a package: each constant with its number, or the reason it has none; or the records of all pieces.\nNo FILE, or -: standard input. N lends a smaller table. The program needs 2 MB of stack.\n",

@@ -9,27 +9,23 @@ use lib.Dec.{ltb}
 use lib.ListN.{length, replicate, length-append, length-replicate}
 use Rattle.laws.proofs.Laws.{clash}
 use Rattle.element_reading.specs.Rows.{rowsOf}
-use Rattle.element_reading.specs.Table.{cells}
 use Rattle.element_reading.specs.Reading.{readingOf}
 use Rattle.element_reading.specs.Reading as elements
 use Rattle.element_reading.specs.declared.Reading.{Reading}
 use Rattle.element_reading.specs.declared.Reading.the-variants as R
 use Rattle.refusals.specs.declared.Refusal.{Refusal}
 use Rattle.places.specs.declared.ElementNumber.{ElementNumber}
-use Rattle.element_reading.proofs.TableLaws.{length-cells}
 use Rattle.element_reading.proofs.Answers.{table-read, table-refused, table-length, read-count, read-few}
-use Rattle.pieces.specs.Kinds as by-kinds
-use Rattle.pieces.specs.Records.{piecesIn, marking, recordTable}
-use Rattle.pieces.specs.Records as marks
-use Rattle.pieces.specs.declared.Marking.{Marking}
-use Rattle.pieces.specs.declared.Marking.the-variants as M
-use Rattle.names.specs.Names.{sharedPair}
+use Rattle.pieces.specs.Records.{piecesIn, recording, recordTable}
+use Rattle.pieces.specs.declared.Recording.{Recording}
+use Rattle.pieces.specs.declared.Recording.the-variants as M
+use Rattle.names.specs.code.Names.{sharedPair}
 use Rattle.names.specs.code.Links.{recordsIn, linksTable, ownsTable, twinsTable, anyTwin}
 use Rattle.names.proofs.Promises.{first-shared, none-shared}
-use Rattle.meaning.specs.Elements.{Piece, elementsOf, piecesOf}
-use Rattle.meaning.proofs.Tables.{kinds-of}
-use Rattle.meaning.proofs.Cutting.{kindsEach, cut-kinds}
-use Rattle.meaning.specs.Items.{recordsFrom}
+use Rattle.meaning.specs.Elements.{Piece, piecesOf}
+use Rattle.meaning.proofs.Cutting.{kindsEach}
+use Rattle.meaning.proofs.Frames.{pieces-are}
+use Rattle.meaning.specs.Records.{recordsFrom}
 use Rattle.meaning.proofs.Records.{pendings, pieces-pending, pieces-length, records-length, marked-records}
 use Rattle.meaning.proofs.Places.{tableOf}
 use Rattle.meaning.proofs.Stages.{completed-all}
@@ -37,11 +33,11 @@ use Rattle.pieces.specs.Columns.{recordWords}
 use Rattle.survey_reading.proofs.Told.{told-all, pairs-same}
 use Rattle.survey_reading.specs.code.Tables.{pairBy, itemsCompleted, itemsSurvey, piecesSurvey, piecesItems, kept}
 use Rattle.survey_reading.specs.code.Tables as tables
-use Rattle.survey_reading.specs.Survey.{itemTable, summary, left, surveyOf, elementsAfter, itemsAfter, refusedBy, summedOf}
-use Rattle.survey_reading.specs.Survey as survey
+use Rattle.survey_reading.specs.code.Survey.{itemTable, summary, left, surveyOf, elementsAfter, itemsAfter, refusedBy, summedOf}
+use Rattle.survey_reading.specs.code.Survey as survey
 use Rattle.survey_reading.specs.declared.Survey.{Survey}
-use Rattle.survey_reading.specs.declared.Outcome.{Outcome}
-use Rattle.survey_reading.specs.declared.Outcome.the-variants.{Done, Refused}
+use Rattle.survey_reading.specs.declared.Ended.{Ended}
+use Rattle.survey_reading.specs.declared.Ended.the-variants.{Done, Refused}
 use Rattle.refusals.specs.declared.SurveyRefusal.the-variants.{Elements}
 
 each-length : (ps : List Piece) → length (kindsEach ps) ≡ length ps
@@ -50,11 +46,11 @@ each-length [] = refl
 each-length (p ∷ ps) = ap suc (each-length ps)
 
 -- pieces that are marked are few enough, and the table has room for them
-pub marked-room : (n words k : ℕ) → marking n words ≡ M.Marked k → (k ≡ n) × (n ≤ 1024) × (recordWords * n ≤ words)
-unfolding marking
+pub marked-room : (n words k : ℕ) → recording n words ≡ M.Recorded k → (k ≡ n) × (n ≤ 1024) × (recordWords * n ≤ words)
+unfolding recording
 marked-room n words k = go (ltb 1024 n) (ltb (words / recordWords) n) refl refl
   where
-    go : (a b : Bool) → ltb 1024 n ≡ a → ltb (words / recordWords) n ≡ b → cond a M.TooMany (cond b (M.TableShort (words / recordWords)) (M.Marked n)) ≡ M.Marked k → (k ≡ n) × (n ≤ 1024) × (recordWords * n ≤ words)
+    go : (a b : Bool) → ltb 1024 n ≡ a → ltb (words / recordWords) n ≡ b → cond a M.TooMany (cond b (M.TableShort (words / recordWords)) (M.Recorded n)) ≡ M.Recorded k → (k ≡ n) × (n ≤ 1024) × (recordWords * n ≤ words)
     go true b p q e = let z : _≡_ {A = ℕ} 0 1 = cc in clash z
     go false true p q e = let z : _≡_ {A = ℕ} 0 1 = cc in clash z
     go false false p q e = let z : n ≡ k = cc in (sym z, ltb-false 1024 n p, omega (arith, ltb-false (words / recordWords) n q))
@@ -69,40 +65,31 @@ module _ (s : List ℕ) (z : ℕ) where
   abbrev ps : List Piece
   ps = piecesOf s
 
-  table-size : length t ≡ 3 * n + z
-  table-size = rw (length-append (cells (rowsOf s)) (replicate z 0), length-cells (rowsOf s), length-replicate {A = ℕ} z 0)
-
-  pieces-are : piecesIn t n ≡ kindsEach ps
-  unfolding piecesIn piecesOf
-  pieces-are =
-      let m : min n (length t / 3) ≡ n = omega (arith, table-size) in
-      rw (m, kinds-of s (rowsOf s) (replicate z 0)) (sym (cut-kinds (elementsOf s (rowsOf s))))
-
   module _ (words : ℕ) where
-    marking-is : marking (length (piecesIn t n)) words ≡ marking (length ps) words
-    marking-is = rw (pieces-are, each-length ps)
+    marking-is : recording (length (piecesIn t n)) words ≡ recording (length ps) words
+    marking-is = rw (pieces-are s z, each-length ps)
 
     abbrev rest : List ℕ
     rest = replicate (words - recordWords * length ps) 0
 
-    -- what marking leaves
+    -- what recording leaves
     abbrev waiting : List ℕ
     waiting = recordsFrom 0 (pendings ps) ++ rest
 
-    waiting-is : (k : ℕ) → marking (length ps) words ≡ M.Marked k → recordTable (piecesIn t n) words ≡ waiting
+    waiting-is : (k : ℕ) → recording (length ps) words ≡ M.Recorded k → recordTable (piecesIn t n) words ≡ waiting
     unfolding recordTable
     waiting-is k e =
-        rw (marking-is, e, pieces-are, marked-records 0 ps)
+        rw (marking-is, e, pieces-are s z, marked-records 0 ps)
         (ap (λ (m : ℕ). recordsFrom 0 (pendings ps) ++ replicate (words - m) 0) long)
       where
         long : length (recordsFrom 0 (pendings ps)) ≡ recordWords * length ps
         long = records-length 0 (pendings ps) ∙ ap (λ (m : ℕ). recordWords * m) (sym (pieces-length (pendings ps)) ∙ ap length (pieces-pending ps))
 
-    zeros-many : marking (length ps) words ≡ M.TooMany → recordTable (piecesIn t n) words ≡ replicate words 0
+    zeros-many : recording (length ps) words ≡ M.TooMany → recordTable (piecesIn t n) words ≡ replicate words 0
     unfolding recordTable
     zeros-many e = rw (marking-is, e)
 
-    zeros-short : (k : ℕ) → marking (length ps) words ≡ M.TableShort k → recordTable (piecesIn t n) words ≡ replicate words 0
+    zeros-short : (k : ℕ) → recording (length ps) words ≡ M.TableShort k → recordTable (piecesIn t n) words ≡ replicate words 0
     unfolding recordTable
     zeros-short k e = rw (marking-is, e)
 
@@ -131,25 +118,25 @@ module _ (s : List ℕ) (z : ℕ) where
           go true e = first-shared s t waiting (length ps) 1024 room a
           go false e = sym (none-shared s t waiting (length ps) 1024 room e)
 
-      survey-is : length ps ≤ 1024 → recordWords * length ps ≤ words → itemsSurvey s t n waiting (length ps) ≡ summary s t (itemTable s words) (length ps)
+      survey-is : length ps ≤ 1024 → recordWords * length ps ≤ words → itemsSurvey s t n waiting (length ps) ≡ summary s t n (itemTable s words) (length ps)
       unfolding itemsSurvey summary
       survey-is a b = rw (completed-is a, pair-is a b)
 
-      by-marking : (m : Marking) → marking (length ps) words ≡ m
-          → (tables.byMarking m s t n (recordTable (piecesIn t n) words) ≡ survey.byMarking m s t (itemTable s words))
-          × (tables.itemsByMarking m s t n (recordTable (piecesIn t n) words) ≡ left (survey.byMarking m s t (itemTable s words) .outcome) words (itemTable s words))
+      by-marking : (m : Recording) → recording (length ps) words ≡ m
+          → (tables.byRecording m s t n (recordTable (piecesIn t n) words) ≡ survey.byRecording m s t n (itemTable s words))
+          × (tables.itemsByMarking m s t n (recordTable (piecesIn t n) words) ≡ left (survey.byRecording m s t n (itemTable s words) .outcome) words (itemTable s words))
       unfolding summary summedOf
-      by-marking (M.Marked k) e =
+      by-marking (M.Recorded k) e =
           let r = marked-room (length ps) words k e in
           let h : k ≡ length ps = r .0 in
           (rw (waiting-is k e, h) (survey-is (r .1) (r .2)), rw (waiting-is k e, h) (completed-is (r .1)))
       by-marking M.TooMany e = (refl, zeros-many e)
       by-marking (M.TableShort k) e = (refl, zeros-short k e)
 
-      pub joined : (piecesSurvey s t n words ≡ survey.byMarking (marking (length ps) words) s t (itemTable s words))
-          × (piecesItems s t n words ≡ left (survey.byMarking (marking (length ps) words) s t (itemTable s words) .outcome) words (itemTable s words))
+      pub joined : (piecesSurvey s t n words ≡ survey.byRecording (recording (length ps) words) s t n (itemTable s words))
+          × (piecesItems s t n words ≡ left (survey.byRecording (recording (length ps) words) s t n (itemTable s words) .outcome) words (itemTable s words))
       unfolding piecesSurvey piecesItems
-      joined = rw marking-is (by-marking (marking (length ps) words) refl)
+      joined = rw marking-is (by-marking (recording (length ps) words) refl)
 
 -- a text that the element reader took
 module _ (s : List ℕ) (w words : ℕ) (r : Reading) (c : ElementNumber) (table : List ℕ) (e : r ≡ readingOf s w) (f : table ≡ elements.tableOf s w) (g : r ≡ R.Read c) where
@@ -166,8 +153,8 @@ module _ (s : List ℕ) (w words : ℕ) (r : Reading) (c : ElementNumber) (table
   count-is : c .0 ≡ length (rowsOf s)
   count-is = read-count s w c read-is
 
-  steps : (piecesSurvey s table (c .0) words ≡ survey.byMarking (marking (length (piecesOf s)) words) s (tableOf s z) (itemTable s words))
-      × (piecesItems s table (c .0) words ≡ left (survey.byMarking (marking (length (piecesOf s)) words) s (tableOf s z) (itemTable s words) .outcome) words (itemTable s words))
+  steps : (piecesSurvey s table (c .0) words ≡ survey.byRecording (recording (length (piecesOf s)) words) s (tableOf s z) (length (rowsOf s)) (itemTable s words))
+      × (piecesItems s table (c .0) words ≡ left (survey.byRecording (recording (length (piecesOf s)) words) s (tableOf s z) (length (rowsOf s)) (itemTable s words) .outcome) words (itemTable s words))
   steps =
       let j = joined s z words (read-few s w c read-is) in (
         ap₂ (λ (u : List ℕ) (k : ℕ). piecesSurvey s u k words) table-is count-is ∙ j .0,
@@ -176,7 +163,7 @@ module _ (s : List ℕ) (w words : ℕ) (r : Reading) (c : ElementNumber) (table
 
   whole : surveyOf s w words ≡ piecesSurvey s table (c .0) words
   unfolding surveyOf
-  whole = rw (read-is) (ap (λ (t : List ℕ). survey.byMarking (marking (length (piecesOf s)) words) s t (itemTable s words)) (sym f ∙ table-is) ∙ sym (steps .0))
+  whole = rw (read-is) (ap (λ (t : List ℕ). survey.byRecording (recording (length (piecesOf s)) words) s t (length (rowsOf s)) (itemTable s words)) (sym f ∙ table-is) ∙ sym (steps .0))
 
   pub way-read : (x : Survey) (table′ items′ : List ℕ) → x ≡ piecesSurvey s table (c .0) words → table′ ≡ kept (piecesSurvey s table (c .0) words) table → items′ ≡ piecesItems s table (c .0) words
       → (x ≡ surveyOf s w words) × ((table′ ≡ elementsAfter s w words) × (items′ ≡ itemsAfter s w words))
@@ -189,7 +176,7 @@ module _ (s : List ℕ) (w words : ℕ) (r : Reading) (c : ElementNumber) (table
     ),
   )
     where
-      kept-left : (o : Outcome) → tables.keptBy o table ≡ left o w (elements.tableOf s w)
+      kept-left : (o : Ended) → tables.keptBy o table ≡ left o w (elements.tableOf s w)
       kept-left (Done y) = f
       kept-left (Refused y) = ap (λ (k : ℕ). replicate k 0) (ap length f ∙ table-length s w)
 

@@ -12,10 +12,10 @@ use Rattle.records.specs.Tallies.{inState, countsFrom, tallyOf}
 use Rattle.records.specs.Frames.{frameGood}
 use Rattle.records.specs.declared.Tally.{Tally}
 use Rattle.pairs.specs.declared.Pair.{Pair}
-use Rattle.names.specs.Names.{sharedPair}
-use Rattle.pieces.specs.declared.Marking.{Marking}
-use Rattle.pieces.specs.declared.Marking.the-variants as M
-use Rattle.pieces.specs.Records.{marking}
+use Rattle.names.specs.code.Names.{sharedPair}
+use Rattle.pieces.specs.declared.Recording.{Recording}
+use Rattle.pieces.specs.declared.Recording.the-variants as M
+use Rattle.pieces.specs.Records.{recording}
 use Rattle.element_reading.specs.Reading as elements
 use Rattle.element_reading.specs.Rows.{rowsOf}
 use Rattle.element_reading.specs.declared.Reading.{Reading}
@@ -26,7 +26,8 @@ use Rattle.refusals.specs.declared.SurveyRefusal.{SurveyRefusal}
 use Rattle.meaning.specs.Elements.{Piece, piecesOf}
 use Rattle.meaning.specs.Names.{Done}
 use Rattle.meaning.specs.Meaning.{Come}
-use Rattle.meaning.specs.Items.{valueOf, doneOf, donesFrom, donesOf, recordsFrom, recordsOf}
+use Rattle.meaning.specs.code.PieceValues.{valueOf, doneOf, donesFrom, donesOf, recordsOf}
+use Rattle.meaning.specs.Records.{recordsFrom}
 use Rattle.meaning.specs.Together.{GoodFrame, FirstPair, countIn, AllFold, IsWhole}
 use Rattle.meaning.proofs.Records.{piecesDone, pieces-length}
 use Rattle.meaning.proofs.Words as held
@@ -34,14 +35,15 @@ use Rattle.meaning.proofs.Places.{tableOf}
 use Rattle.meaning.proofs.Sameness.{both-ways}
 use Rattle.meaning.proofs.Promises.{state-known}
 use Rattle.meaning.proofs.Comes.{come-exactly}
-use Rattle.meaning.proofs.Together.{Known, state-count, folds-none, none-folds, one-pair, pair-is, frame-is}
+use Rattle.meaning.proofs.Together.{Known, state-count, folds-none, none-folds, one-pair, pair-is}
+use Rattle.meaning.proofs.Frames.{frame-is}
 use Rattle.pieces.specs.Columns.{recordWords}
-use Rattle.survey_reading.specs.Survey.{itemTable, summary, summedOf, byMarking, byReading, surveyOf, elementsAfter, itemsAfter, refusedBy}
+use Rattle.survey_reading.specs.code.Survey.{itemTable, summary, summedOf, byRecording, byReading, surveyOf, elementsAfter, itemsAfter, refusedBy}
 use Rattle.survey_reading.specs.Given.{Given}
 use Rattle.survey_reading.specs.Permitted.{Finished, PermittedBy, Permitted, Leaves}
-use Rattle.survey_reading.specs.Promises.{NoChoice}
-use Rattle.survey_reading.specs.declared.Outcome.{Outcome}
-use Rattle.survey_reading.specs.declared.Outcome.the-variants as answer
+use Rattle.survey_reading.specs.code.Promises.{NoChoice}
+use Rattle.survey_reading.specs.declared.Ended.{Ended}
+use Rattle.survey_reading.specs.declared.Ended.the-variants as answer
 use Rattle.survey_reading.specs.declared.Summary.{Summary}
 use Rattle.survey_reading.specs.declared.Survey.{Survey}
 use Rattle.survey_reading.proofs.Told.{dones-pieces}
@@ -54,15 +56,15 @@ unfolding countsFrom
 counts-eleven items n k zero = refl
 counts-eleven items n k (suc m) = ap suc (counts-eleven items n (suc k) m)
 
-eleven-marked : (m : Marking) (s table items : List ℕ) → length (byMarking m s table items .tally .counts) ≡ 11
+eleven-marked : (m : Recording) (s table : List ℕ) (count : ℕ) (items : List ℕ) → length (byRecording m s table count items .tally .counts) ≡ 11
 unfolding summary summedOf tallyOf
-eleven-marked (M.Marked n) s table items = counts-eleven items n 0 11
-eleven-marked M.TooMany s table items = refl
-eleven-marked (M.TableShort n) s table items = refl
+eleven-marked (M.Recorded n) s table count items = counts-eleven items n 0 11
+eleven-marked M.TooMany s table count items = refl
+eleven-marked (M.TableShort n) s table count items = refl
 
 eleven-read : (r : Reading) (s table : List ℕ) (words : ℕ) → length (byReading r s table words .tally .counts) ≡ 11
 eleven-read (R.Refused r) s table words = refl
-eleven-read (R.Read n) s table words = eleven-marked (marking (length (piecesOf s)) words) s table (itemTable s words)
+eleven-read (R.Read n) s table words = eleven-marked (recording (length (piecesOf s)) words) s table (length (rowsOf s)) (itemTable s words)
 
 eleven : (s : List ℕ) (e i : ℕ) → length (surveyOf s e i .tally .counts) ≡ 11
 unfolding surveyOf
@@ -106,8 +108,8 @@ module _ (s : List ℕ) (e i : ℕ) (y : Summary) (h : surveyOf s e i .outcome �
 
   frame : (y .frame ≡ true) ↔ GoodFrame (piecesOf s)
   frame =
-      let f = says-of-records s e i y h .3 ∙ ap₂ (λ (t u : List ℕ). frameGood s t u (length (piecesOf s))) table-is items-is in
-      let g = frame-is s z (i - recordWords * length (piecesOf s)) ds cuts in
+      let f = says-of-records s e i y h .3 ∙ ap (λ (t : List ℕ). frameGood s t (length (rowsOf s))) table-is in
+      let g = frame-is s z in
       ((λ a. g .0 (sym f ∙ a)), λ a. f ∙ g .1 a)
 
   counted : (k : ℕ) → k ≤ 10 → inState k (itemTable s i) 0 (length (piecesOf s)) ≡ countIn k ds
@@ -145,7 +147,7 @@ module _ (s : List ℕ) (e i : ℕ) (y : Summary) (h : surveyOf s e i .outcome �
 pub permits : (s : List ℕ) (e i : ℕ) → Permitted s e i (surveyOf s e i) (elementsAfter s e i) (itemsAfter s e i)
 permits s e i = go (surveyOf s e i .outcome) refl
   where
-    go : (o : Outcome) → surveyOf s e i .outcome ≡ o → PermittedBy s e i o (surveyOf s e i .tally) (elementsAfter s e i) (itemsAfter s e i)
+    go : (o : Ended) → surveyOf s e i .outcome ≡ o → PermittedBy s e i o (surveyOf s e i .tally) (elementsAfter s e i) (itemsAfter s e i)
     go (answer.Done y) h = finished s e i y h
     go (answer.Refused r) h = let q = zeros-on-refusal s e i r h in (refused-exactly s e i r .0 h, ap (λ (x : Survey). x .tally .counts) (q .2), q .0, q .1)
 
@@ -162,7 +164,7 @@ same-summary a b p f w q =
     ∙ ap (λ (x : Bool). record { pieces = b .pieces; frame = b .frame; whole = x; pair = a .pair }) w
     ∙ ap (λ (x : Pair). record { pieces = b .pieces; frame = b .frame; whole = b .whole; pair = x }) q
 
-abbrev Same : (o o′ : Outcome) (l l′ : Tally) (t t′ u u′ : List ℕ) → Type 0
+abbrev Same : (o o′ : Ended) (l l′ : Tally) (t t′ u u′ : List ℕ) → Type 0
 Same o o′ l l′ t t′ u u′ = (o ≡ o′) × (l ≡ l′) × (t ≡ t′) × (u ≡ u′)
 
 module _ (s : List ℕ) (e i : ℕ) where
@@ -184,7 +186,7 @@ module _ (s : List ℕ) (e i : ℕ) where
   not-both : (r : SurveyRefusal) (y : Summary) (l : Tally) (t u : List ℕ) → surveyOf s e i .outcome ≡ answer.Refused r → Finished s e i y l t u → ⊥
   not-both r y l t u h a = let d = surveyed s e i .1 (a .taken, a .few, a .room) in let q = d .1 in let z : _≡_ {A = ℕ} 0 1 = cc in clash z
 
-  same-by : (o o′ : Outcome) (l l′ : Tally) (t t′ u u′ : List ℕ) → PermittedBy s e i o l t u → PermittedBy s e i o′ l′ t′ u′ → Same o o′ l l′ t t′ u u′
+  same-by : (o o′ : Ended) (l l′ : Tally) (t t′ u u′ : List ℕ) → PermittedBy s e i o l t u → PermittedBy s e i o′ l′ t′ u′ → Same o o′ l l′ t t′ u u′
   same-by (answer.Done y) (answer.Done y′) l l′ t t′ u u′ a b = same-finished y y′ l l′ t t′ u u′ a b
   same-by (answer.Done y) (answer.Refused r) l l′ t t′ u u′ a b = absurd (not-both r y l t u (refused-exactly s e i r .1 (b .0)) a)
   same-by (answer.Refused r) (answer.Done y) l l′ t t′ u u′ a b = absurd (not-both r y l′ t′ u′ (refused-exactly s e i r .1 (a .0)) b)
@@ -198,7 +200,7 @@ module _ (s : List ℕ) (e i : ℕ) where
   pub one-permitted : (x x′ : Survey) (t t′ u u′ : List ℕ) → Permitted s e i x t u → Permitted s e i x′ t′ u′ → (x ≡ x′) × (t ≡ t′) × (u ≡ u′)
   one-permitted x x′ t t′ u u′ a b =
       let q = same-by (x .outcome) (x′ .outcome) (x .tally) (x′ .tally) t t′ u u′ a b in
-      (ap₂ (λ (o : Outcome) (l : Tally). record { outcome = o; tally = l }) (q .0) (q .1), q .2, q .3)
+      (ap₂ (λ (o : Ended) (l : Tally). record { outcome = o; tally = l }) (q .0) (q .1), q .2, q .3)
 
   -- the equalities that callers use
   pub permitted-is : (x : Survey) (t u : List ℕ) → Permitted s e i x t u → (x ≡ surveyOf s e i) × (t ≡ elementsAfter s e i) × (u ≡ itemsAfter s e i)
@@ -223,4 +225,4 @@ left-so s t u (e, i, y, l, p) =
 
 -- and such a survey is done for every text and every two tables that 01 does not refuse
 pub leaves-so : (s : List ℕ) (e i : ℕ) (y : Summary) → surveyOf s e i .outcome ≡ answer.Done y → Leaves s (elementsAfter s e i) (itemsAfter s e i)
-leaves-so s e i y h = (e, i, y, surveyOf s e i .tally, subst (λ (o : Outcome). PermittedBy s e i o (surveyOf s e i .tally) (elementsAfter s e i) (itemsAfter s e i)) h (permits s e i))
+leaves-so s e i y h = (e, i, y, surveyOf s e i .tally, subst (λ (o : Ended). PermittedBy s e i o (surveyOf s e i .tally) (elementsAfter s e i) (itemsAfter s e i)) h (permits s e i))

@@ -20,9 +20,10 @@ use Rattle.meaning.specs.Forms.{Item, HasForm}
 use Rattle.meaning.specs.States.{Met, Least, NoneMet}
 use Rattle.meaning.specs.Values.{Gives}
 use Rattle.meaning.specs.Meaning.{Comes, stands, gives}
-use Rattle.meaning.specs.Items.{valueOf, doneOf, donesFrom, itemValueWords}
+use Rattle.meaning.specs.code.PieceValues.{valueOf, doneOf, donesFrom}
+use Rattle.meaning.specs.Records.{itemValueWords}
 use Rattle.meaning.specs.Together.{pieceAt, GoodFrame, AllFold}
-use Rattle.meaning.specs.Promises.{Fits}
+use Rattle.meaning.specs.Forms.{Fits}
 use Rattle.meaning.proofs.Records.{pieces-length, piecesDone}
 use Rattle.meaning.proofs.Words as held
 use Rattle.meaning.proofs.Words.{doneAt, pieces-at, class-at, value-word}

@@ -5,11 +5,11 @@ use mathlib.Core.List.{List, [], _∷_, _++_}
 use Prim.Native.Nat.{ℕ, _-_, _*_, _≤_}
 use lib.ListN.{length, replicate}
 use Rattle.element_reading.specs.Rows.{rowsOf}
-use Rattle.names.specs.Names.{sharedPair}
+use Rattle.names.specs.code.Names.{sharedPair}
 use Rattle.names.specs.code.Links.{linksTable, twinsTable}
 use Rattle.meaning.specs.Elements.{Piece, piecesOf}
 use Rattle.meaning.specs.Names.{Done, ownDoubled}
-use Rattle.meaning.specs.Items.{doneOf, donesFrom, donesOf, recordsOf}
+use Rattle.meaning.specs.code.PieceValues.{doneOf, donesFrom, donesOf, recordsOf}
 use Rattle.meaning.proofs.Records.{pendings, piecesDone, pieces-pending, pieces-length}
 use Rattle.meaning.proofs.Words.{pieceAt, pieces-waiting}
 use Rattle.meaning.proofs.Words as held
@@ -18,7 +18,7 @@ use Rattle.meaning.proofs.Doubles.{doubled-in, pair-same}
 use Rattle.meaning.proofs.Uses.{use-linked}
 use Rattle.meaning.proofs.Stages.{ToldAll}
 use Rattle.pieces.specs.Columns.{recordWords}
-use Rattle.survey_reading.specs.Survey.{itemTable}
+use Rattle.survey_reading.specs.code.Survey.{itemTable}
 
 -- the piece after those done
 next-piece : (ds : List Done) (p : Piece) (after ps : List Piece) → piecesDone ds ++ p ∷ after ≡ ps → pieceAt ps (length ds) ≡ p

@@ -4,7 +4,6 @@ use Prim.Native.Nat.{ℕ, _<_}
 use mathlib.Core.Path.{_≡_}
 use mathlib.Core.Bool.{true}
 use mathlib.Core.List.{List, []}
-use lib.ListN.{length, take}
 use Rattle.records.specs.Records.{wordAt, isItem, kind, low, high}
 use Rattle.records.specs.declared.Tally.{Tally}
 use Rattle.values.specs.Words.{stateOf, valueKind, lowOf, highOf}
@@ -15,9 +14,9 @@ use Rattle.meaning.specs.Forms.{Item, HasForm}
 use Rattle.meaning.specs.States.{Met, NoneMet}
 use Rattle.meaning.specs.Values.{Gives}
 use Rattle.meaning.specs.Meaning.{Come}
-use Rattle.meaning.specs.Together.{pieceAt}
+use Rattle.meaning.specs.Records.{recordCount, pieceOf, piecesAbove}
 use Rattle.survey_reading.specs.Permitted.{Permitted}
-use Rattle.survey_reading.specs.declared.Outcome.the-variants as answer
+use Rattle.survey_reading.specs.declared.Ended.the-variants as answer
 use Rattle.survey_reading.specs.declared.Summary.{Summary}
 
 -- what is said of every survey that is done: its text, what it answers, and the item table that it leaves, whatever sizes the lent tables have
@@ -26,16 +25,16 @@ OfSurveys P =
     (text : List ℕ) (elementWords itemWords : ℕ) (y : Summary) (tally : Tally) (elements items : List ℕ)
     → Permitted text elementWords itemWords (record { outcome = answer.Done y; tally = tally }) elements items → P text y tally items
 
--- piece j of a text is an item, and this is what the pieces above it come to
+-- record j of a text is an item's, and this is what the pieces above it come to
 pub record ItemAt (text : List ℕ) (j : ℕ) (above : List Done) : Type 0 where
-  pub there : j < length (piecesOf text)
-  pub item : isItem (classOf (pieceAt (piecesOf text) j)) ≡ true
-  pub come : Come (piecesOf text) [] (take j (piecesOf text)) above
+  pub there : j < recordCount (piecesOf text)
+  pub item : isItem (classOf (pieceOf (piecesOf text) j)) ≡ true
+  pub come : Come (piecesOf text) [] (piecesAbove (piecesOf text) j) above
 
 -- what is said of every item: the text's pieces, those above it with what they come to, its own piece, and the words of its record
 abbrev pub OfItems : (List Piece → List Done → Piece → (ℕ → ℕ) → Type 0) → Type 0
 OfItems P =
-    OfSurveys (λ text y tally items. (j : ℕ) (above : List Done) → ItemAt text j above → P (piecesOf text) above (pieceAt (piecesOf text) j) (wordAt items j))
+    OfSurveys (λ text y tally items. (j : ℕ) (above : List Done) → ItemAt text j above → P (piecesOf text) above (pieceOf (piecesOf text) j) (wordAt items j))
 
 -- what an item comes to that meets none of 1 to 6 and ends in none of 7 to 10, as its record holds it: kind and two numbers
 pub record Numbered (all : List Piece) (above : List Done) (p : Piece) (word : ℕ → ℕ) : Type 0 where

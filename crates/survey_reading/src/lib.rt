@@ -1,15 +1,17 @@
 // The survey of a package: its items' records, and what they say together. Any bytes and any tables may be given.
 use element_reading::Reading;
+use form_numbers::ROW_NUMBERS;
 use pairs::Pair;
-use pieces::Marking;
+use pieces::Recording;
 use places::MOST_ELEMENTS;
 use places::MOST_PIECES;
 use records::Tally;
 use refusals::SurveyRefusal;
+use states::STATES;
 ghost use mathlib.Core.Path.{_≡_};
 ghost use lib.ListN.{length};
 ghost use Rattle.survey_reading.specs.code.Tables.{pairBy, itemsSurvey, itemsCompleted, kept, piecesSurvey, piecesItems};
-ghost use Rattle.survey_reading.specs.Survey.{refusedBy, summedOf};
+ghost use Rattle.survey_reading.specs.code.Survey.{refusedBy, summedOf};
 ghost use Rattle.survey_reading.specs.Permitted.{Permitted};
 
 // What the survey says of a package as a whole, its tally aside.
@@ -20,14 +22,14 @@ pub struct Summary {
     pub pair: Pair,
 }
 
-pub enum Outcome {
+pub enum Ended {
     Done(Summary),
     Refused(SurveyRefusal),
 }
 
 // The tally stands beside the outcome, since no enum holds an array; it is all zeros on refusal.
 pub struct Survey {
-    pub outcome: Outcome,
+    pub outcome: Ended,
     pub tally: Tally,
 }
 
@@ -35,8 +37,10 @@ pub struct Survey {
 fn refused(r: SurveyRefusal) -> Survey
     ensures { λ x. ⌜ x ≡ refusedBy r ⌝ }
 {
-    let tally = Tally { counts: [0u64; 11] };
-    let outcome = Outcome::Refused(r);
+    let tally = Tally {
+        counts: [0u64; STATES],
+    };
+    let outcome = Ended::Refused(r);
     Survey { outcome, tally }
 }
 
@@ -50,11 +54,18 @@ fn pair_of(any: bool, owns: &[u64], n: usize) -> Pair
     Pair::Neither
 }
 
-// What the n records say together.
-fn summed(text: &[u8], elements: &[u64], items: &[u64], n: usize, pair: Pair) -> Survey
-    ensures { λ r. ⌜ r ≡ summedOf (now (text .entry)) (now (elements .entry)) (now (items .entry)) n pair ⌝ }
+// What the elements and the n records say together.
+fn summed(
+    text: &[u8],
+    elements: &[u64],
+    count: usize,
+    items: &[u64],
+    n: usize,
+    pair: Pair,
+) -> Survey
+    ensures { λ r. ⌜ r ≡ summedOf (now (text .entry)) (now (elements .entry)) count (now (items .entry)) n pair ⌝ }
 {
-    let frame = records::frame_good(text, elements, items, n);
+    let frame = records::frame_good(text, elements, count);
     let tally = records::tallied(items, n);
     let whole = records::whole(frame, tally);
     let summary = Summary {
@@ -63,7 +74,7 @@ fn summed(text: &[u8], elements: &[u64], items: &[u64], n: usize, pair: Pair) ->
         whole: whole,
         pair: pair,
     };
-    let outcome = Outcome::Done(summary);
+    let outcome = Ended::Done(summary);
     Survey { outcome, tally }
 }
 
@@ -72,7 +83,7 @@ fn survey_items(text: &[u8], elements: &[u64], count: usize, items: &mut [u64], 
     ensures { λ r. ⌜ r ≡ itemsSurvey (now (text .entry)) (now (elements .entry)) count (now (items .entry)) n ⌝ }
     ensures { λ _. ⌜ now (items .exit) ≡ itemsCompleted (now (text .entry)) (now (elements .entry)) count (now (items .entry)) n ⌝ }
 {
-    let mut rows = [0u64; 5 * MOST_ELEMENTS];
+    let mut rows = [0u64; ROW_NUMBERS * MOST_ELEMENTS];
     tree::read_items(elements, count, &mut rows);
     let mut links = [0u64; MOST_ELEMENTS];
     let mut owns = [0u64; MOST_PIECES];
@@ -88,7 +99,7 @@ fn survey_items(text: &[u8], elements: &[u64], count: usize, items: &mut [u64], 
     );
     items::complete_items(text, elements, &links, &twins, &rows, items, n);
     let pair = pair_of(any, &owns, n);
-    summed(text, elements, items, n, pair)
+    summed(text, elements, count, items, n, pair)
 }
 
 // The pieces of a text's elements.
@@ -97,13 +108,13 @@ fn survey_pieces(text: &[u8], elements: &mut [u64], count: usize, items: &mut [u
     ensures { λ r. ⌜ now (elements .exit) ≡ kept (piecesSurvey (now (text .entry)) (now (elements .entry)) count (length (now (items .entry)))) (now (elements .entry)) ⌝ }
     ensures { λ r. ⌜ now (items .exit) ≡ piecesItems (now (text .entry)) (now (elements .entry)) count (length (now (items .entry))) ⌝ }
 {
-    match pieces::mark_pieces(elements, count, items) {
-        Marking::Marked(n) => survey_items(text, elements, count, items, n),
-        Marking::TooMany => {
+    match pieces::record_pieces(elements, count, items) {
+        Recording::Recorded(n) => survey_items(text, elements, count, items, n),
+        Recording::TooMany => {
             lent_tables::clear(elements);
             refused(SurveyRefusal::TooMany)
         }
-        Marking::TableShort(rows) => {
+        Recording::TableShort(rows) => {
             lent_tables::clear(elements);
             refused(SurveyRefusal::ItemsShort(rows))
         }

@@ -7,8 +7,8 @@ use native.Mathlib.Omega.{arith}
 use lib.ListN.{length, getD, drop, set, length-set, length-drop}
 use lib.Seq.{drop-drop, drop-set-add, getD-drop, getD-set-same, getD-set-other, sets}
 use borrow.Author.Tests.{lt-ltb, le-ltb, le-leb}
-use Rattle.grammars.specs.Actions.{Step, go, stop}
-use Rattle.forms.specs.Tree.{State, Refusal, name-differs, fresh, top, onTop, joined, marked, named, rowed, isNamed, does}
+use Rattle.grammars.specs.code.Actions.{Step, go, stop}
+use Rattle.forms.specs.code.Frames.{State, Refusal, name-differs, fresh, top, onTop, joined, marked, named, rowed, isNamed, does}
 use Rattle.forms.proofs.Nesting.{top-size, joined-less, joined-few}
 use Rattle.places.specs.declared.ElementNumber.{ElementNumber}
 use Rattle.refusals.specs.declared.StrictRefusal.the-variants as refusal

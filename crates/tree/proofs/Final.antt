@@ -7,19 +7,18 @@ use native.Mathlib.Omega.{arith}
 use lib.ListN.{length, drop, getD, length-replicate}
 use lib.Seq.{sets, sets-eq}
 use borrow.Author.Tests.{le-leb, lt-leb}
-use Rattle.grammars.specs.Actions.{End, read, bad, stopped, spent}
-use Rattle.forms.specs.Tree.{Row, State, Refusal, rowsOf}
+use Rattle.grammars.specs.code.Actions.{End, read, bad, stopped, spent}
+use Rattle.forms.specs.Tree.{Row}
+use Rattle.forms.specs.code.Frames.{State, Refusal, rowsOf}
 use Rattle.refusals.specs.declared.StrictRefusal.{StrictRefusal}
 use Rattle.tree.specs.declared.Answer.{Answer}
 use Rattle.tree.specs.declared.Answer.the-variants.{Tree, Refused}
-use Rattle.tree.specs.Answers.{wordsOf, answerOf, tableOf, tableShort, elementsIn, readingIn}
+use Rattle.forms.specs.Words.{wordsOf}
+use Rattle.tree.specs.code.Answers.{answerOf, tableOf, tableShort, elementsIn, readingIn}
 use Rattle.tree.specs.code.Held.{Spans, Tells}
-use Rattle.tree.specs.Items.{rowsRead}
+use Rattle.tree.specs.code.PieceRows.{rowsRead}
 use Rattle.tree.proofs.Zeros.{zeros, drop-zeros}
-
-pub words-size : (rows : List Row) → length (wordsOf rows) ≡ 5 * length rows
-words-size [] = refl
-words-size (r ∷ rows) = omega (arith, words-size rows)
+use Rattle.forms.proofs.Words.{words-size}
 
 pub filled : (room : ℕ) (rows : List Row) → 5 * length rows ≤ room → sets (zeros room) 0 (wordsOf rows) ≡ wordsOf rows ++ zeros (room - 5 * length rows)
 filled room rows h =

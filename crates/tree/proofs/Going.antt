@@ -10,16 +10,16 @@ use lib.Dec.{T, leb}
 use lib.ListN.{length, getD, drop, length-drop, drop-of-length-le}
 use lib.Seq.{drop-cons, getD-drop}
 use borrow.Author.Tests.{eq-eqb, ne-eqb}
-use Rattle.grammars.specs.Grammar.{Sym, tok, nt, act, look}
-use Rattle.grammars.specs.Actions.{Step, go, stop, End, runs}
+use Rattle.grammars.specs.code.Grammar.{Sym, tok, nt, act, look}
+use Rattle.grammars.specs.code.Actions.{Step, go, stop, End, runs}
 use Rattle.grammars.proofs.Room as room
 use Rattle.grammars.proofs.Spare as spare
 use Rattle.grammars.proofs.Budget as budget
 use Rattle.same_names.specs.Alike.{sameName}
-use Rattle.forms.specs.Rules.{forms, body}
+use Rattle.forms.specs.code.Rules.{forms, body}
 use Rattle.forms.specs.code.Picks.{predict}
-use Rattle.forms.specs.Tree.{State, Refusal, name-differs, too-deep, does, start}
-use Rattle.forms.specs.Reading.{readingFrom, steps}
+use Rattle.forms.specs.code.Frames.{State, Refusal, name-differs, too-deep, does, start}
+use Rattle.forms.specs.code.Reading.{readingFrom, steps}
 use Rattle.forms.proofs.Tests as tests
 use Rattle.forms.proofs.Nesting.{Nested, nested-grow, nested-eat, nested-act}
 use Rattle.tree.specs.code.Room.{bottom, outermost, framesWords}
@@ -28,7 +28,7 @@ use Rattle.tree.specs.declared.Moved.{Moved}
 use Rattle.tree.specs.declared.Did.the-variants.{Went, Stopped}
 use Rattle.tree.specs.declared.Answer.the-variants.{Tree, Refused}
 use Rattle.refusals.specs.declared.StrictRefusal.{StrictRefusal}
-use Rattle.tree.specs.Answers.{terminalsOf, noFile}
+use Rattle.tree.specs.code.Answers.{terminalsOf, noFile}
 use Rattle.tree.specs.code.Held.{Frames, Held, Done, Tells, usedAfter, pickUsed}
 use Rattle.tree.proofs.Lists.{terminals-size, look-at}
 use Rattle.tree.proofs.Holding as holding

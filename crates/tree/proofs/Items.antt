@@ -11,24 +11,26 @@ use lib.Dec.{eqb}
 use lib.ListN.{length, getD, take, drop, length-append}
 use lib.Seq.{take-at, drop-at}
 use Rattle.laws.proofs.Laws.{clash}
-use Rattle.grammars.specs.Grammar.{Sym, nt}
-use Rattle.grammars.specs.Actions.{End, read, bad, stopped, spent}
-use Rattle.forms.specs.Names.{constant, subtype, nameNumber}
-use Rattle.forms.specs.Tree.{Row, State, Refusal, rowsOf}
-use Rattle.forms.specs.Reading.{readingFrom}
-use Rattle.forms.specs.Items.{IsItem, ItemReading, itemRow, markRow}
+use Rattle.grammars.specs.code.Grammar.{Sym, nt}
+use Rattle.grammars.specs.code.Actions.{End, read, bad, stopped, spent}
+use Rattle.forms.specs.code.Names.{constant, subtype, nameNumber}
+use Rattle.forms.specs.Tree.{Row}
+use Rattle.forms.specs.code.Frames.{State, Refusal, rowsOf}
+use Rattle.forms.specs.code.Reading.{readingFrom}
+use Rattle.forms.specs.code.ItemReading.{IsItem, ItemReading, itemRow, markRow}
 use Rattle.forms.proofs.Items.{reads-items, kinds-alone}
 use Rattle.forms.specs.Forest.{Forest, bare}
 use Rattle.forms.proofs.Shapes.{begin-with-mark}
 use Rattle.forms.proofs.Growing.{forest-from}
 use Rattle.pieces.specs.Cutting.{cut, joined, putFront}
-use Rattle.pieces.specs.Kinds.{piecesOf, closesPiece, opensPiece}
+use Rattle.pieces.specs.Kinds.{kindPieces, closesPiece, opensPiece}
 use Rattle.places.specs.Places.{kindsOf}
 use Rattle.places.proofs.Laws.{kinds-length}
-use Rattle.tree.specs.Answers.{terminalsIn, wordsOf}
-use Rattle.tree.specs.Items.{unlike, readingOfPiece, rowsRead, rowsOfPiece, pieceWords, itemWords, itemsIn, itemRows}
+use Rattle.tree.specs.code.Answers.{terminalsIn}
+use Rattle.forms.specs.Words.{wordsOf}
+use Rattle.tree.specs.code.PieceRows.{unlike, readingOfPiece, rowsRead, rowsOfPiece, pieceWords, piecesWords, itemsIn, itemRows}
 use Rattle.tree.proofs.Zeros.{zeros, zeros-size}
-use Rattle.tree.proofs.Final.{words-size}
+use Rattle.forms.proofs.Words.{words-size}
 use Rattle.tree.proofs.Lists.{terminals-length}
 use Rattle.tree.proofs.Pieces.{rows-few}
 
@@ -44,10 +46,10 @@ abbrev pub total : List (List ℕ) → ℕ
 total [] = 0
 total (p ∷ ps) = length p + total ps
 
-pub items-size : (ps : List (List ℕ)) → length (itemWords ps) ≡ 5 * total ps
-unfolding itemWords
+pub items-size : (ps : List (List ℕ)) → length (piecesWords ps) ≡ 5 * total ps
+unfolding piecesWords
 items-size [] = refl
-items-size (p ∷ ps) = omega (arith, length-append (pieceWords p) (itemWords ps), piece-size p, items-size ps)
+items-size (p ∷ ps) = omega (arith, length-append (pieceWords p) (piecesWords ps), piece-size p, items-size ps)
 
 -- the pieces have all elements
 total-front : (x : ℕ) (ps : List (List ℕ)) → total (putFront closesPiece opensPiece x ps) ≡ suc (total ps)
@@ -58,25 +60,25 @@ total-joined : (b : Bool) (x : ℕ) (ps : List (List ℕ)) → total (joined clo
 total-joined true x ps = omega arith
 total-joined false x ps = total-front x ps
 
-pub total-pieces : (ks : List ℕ) → total (piecesOf ks) ≡ length ks
+pub total-pieces : (ks : List ℕ) → total (kindPieces ks) ≡ length ks
 unfolding cut
 total-pieces [] = refl
 total-pieces (x ∷ []) = refl
-total-pieces (x ∷ (y ∷ l)) = total-joined (closesPiece x || opensPiece y) x (piecesOf (y ∷ l)) ∙ ap suc (total-pieces (y ∷ l))
+total-pieces (x ∷ (y ∷ l)) = total-joined (closesPiece x || opensPiece y) x (kindPieces (y ∷ l)) ∙ ap suc (total-pieces (y ∷ l))
 
 -- the words of a piece, between those before it and those after it
-items-split : (before after : List (List ℕ)) (p : List ℕ) → itemWords (before ++ (p ∷ after)) ≡ itemWords before ++ (pieceWords p ++ itemWords after)
-unfolding itemWords
+items-split : (before after : List (List ℕ)) (p : List ℕ) → piecesWords (before ++ (p ∷ after)) ≡ piecesWords before ++ (pieceWords p ++ piecesWords after)
+unfolding piecesWords
 items-split [] after p = refl
-items-split (q ∷ before) after p = ap (λ (l : List ℕ). pieceWords q ++ l) (items-split before after p) ∙ sym (append-assoc (pieceWords q) (itemWords before) (pieceWords p ++ itemWords after))
+items-split (q ∷ before) after p = ap (λ (l : List ℕ). pieceWords q ++ l) (items-split before after p) ∙ sym (append-assoc (pieceWords q) (piecesWords before) (pieceWords p ++ piecesWords after))
 
-pub items-at : (before after : List (List ℕ)) (p rest : List ℕ) → take (5 * length p) (drop (5 * total before) (itemWords (before ++ (p ∷ after)) ++ rest)) ≡ pieceWords p
+pub items-at : (before after : List (List ℕ)) (p rest : List ℕ) → take (5 * length p) (drop (5 * total before) (piecesWords (before ++ (p ∷ after)) ++ rest)) ≡ pieceWords p
 items-at before after p rest =
     ap (λ (l : List ℕ). take (5 * length p) (drop (5 * total before) (l ++ rest))) (items-split before after p)
-    ∙ ap (λ (l : List ℕ). take (5 * length p) (drop (5 * total before) l)) (append-assoc (itemWords before) (pieceWords p ++ itemWords after) rest)
-    ∙ ap (take (5 * length p)) (drop-at (itemWords before) ((pieceWords p ++ itemWords after) ++ rest) (5 * total before) (items-size before))
-    ∙ ap (take (5 * length p)) (append-assoc (pieceWords p) (itemWords after) rest)
-    ∙ take-at (pieceWords p) (itemWords after ++ rest) (5 * length p) (piece-size p)
+    ∙ ap (λ (l : List ℕ). take (5 * length p) (drop (5 * total before) l)) (append-assoc (piecesWords before) (pieceWords p ++ piecesWords after) rest)
+    ∙ ap (take (5 * length p)) (drop-at (piecesWords before) ((pieceWords p ++ piecesWords after) ++ rest) (5 * total before) (items-size before))
+    ∙ ap (take (5 * length p)) (append-assoc (pieceWords p) (piecesWords after) rest)
+    ∙ take-at (pieceWords p) (piecesWords after ++ rest) (5 * length p) (piece-size p)
 
 module _ (table : List ℕ) (count words : ℕ) where
   -- all elements count where the row table and the size allow it
@@ -84,19 +86,19 @@ module _ (table : List ℕ) (count words : ℕ) where
   all-count h k = omega arith
 
   -- the rows of a piece in the row table
-  pub item-rows-at : (before after : List (List ℕ)) (p : List ℕ) → piecesOf (kindsOf (itemsIn table count words) table) ≡ before ++ (p ∷ after)
+  pub item-rows-at : (before after : List (List ℕ)) (p : List ℕ) → kindPieces (kindsOf (itemsIn table count words) table) ≡ before ++ (p ∷ after)
       → take (5 * length p) (drop (5 * total before) (itemRows table count words)) ≡ pieceWords p
   unfolding itemRows
   item-rows-at before after p e =
-      ap (λ (ps : List (List ℕ)). take (5 * length p) (drop (5 * total before) (itemWords ps ++ zeros (words - 5 * itemsIn table count words)))) e
+      ap (λ (ps : List (List ℕ)). take (5 * length p) (drop (5 * total before) (piecesWords ps ++ zeros (words - 5 * itemsIn table count words)))) e
       ∙ items-at before after p (zeros (words - 5 * itemsIn table count words))
 
   pub item-rows-size : length (itemRows table count words) ≡ words
   unfolding itemRows
   item-rows-size =
       let n = itemsIn table count words in
-      let ps = piecesOf (kindsOf n table) in
-      omega (arith, length-append (itemWords ps) (zeros (words - 5 * n)), items-size ps, total-pieces (kindsOf n table), kinds-length n table, zeros-size (words - 5 * n))
+      let ps = kindPieces (kindsOf n table) in
+      omega (arith, length-append (piecesWords ps) (zeros (words - 5 * n)), items-size ps, total-pieces (kindsOf n table), kinds-length n table, zeros-size (words - 5 * n))
 
 -- what the rows of a piece are, from a symbol and its form
 module _ (from : Sym) (form : ℕ) (item : IsItem from) (p : List ℕ) (is : readingOfPiece p ≡ readingFrom from unlike (terminalsIn p))

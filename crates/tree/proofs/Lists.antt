@@ -5,13 +5,13 @@ use mathlib.Core.List.{List, [], _∷_, _++_, append-assoc}
 use native.Mathlib.Omega.{arith}
 use lib.ListN.{length, getD, take, drop, set, length-set, drop-of-length-le}
 use lib.Seq.{drop-cons, drop-length, getD-set-same, drop-set-lt, sets, sets-eq, drop-at, length-take-le}
-use Rattle.grammars.specs.Grammar.{Sym, tok, look}
-use Rattle.forms.specs.Kinds.{kindCount, terminalOf}
-use Rattle.form_table.specs.Symbols.{symOf, syms}
+use Rattle.grammars.specs.code.Grammar.{Sym, tok, look}
+use Rattle.forms.specs.code.Kinds.{kindCount, terminalOf}
+use Rattle.form_table.specs.code.Symbols.{symOf, syms}
 use Rattle.form_table.proofs.Tables.{terminal-small}
 use Rattle.places.specs.Places.{cellAt, kindsOf}
 use Rattle.places.proofs.Laws.{kinds-length, kind-at}
-use Rattle.tree.specs.Answers.{terminalsIn, terminalsOf}
+use Rattle.tree.specs.code.Answers.{terminalsIn, terminalsOf}
 
 pub look-at : (l : List ℕ) (i : ℕ) → i < length l → look (drop i l) ≡ getD l i 0
 look-at l i h = rw (drop-cons l i 0 h)

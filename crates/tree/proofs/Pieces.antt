@@ -10,24 +10,26 @@ use lib.Dec.{eqb}
 use lib.ListN.{length, getD}
 use lib.Seq.{sets}
 use Rattle.laws.proofs.Laws.{clash}
-use Rattle.grammars.specs.Actions.{End, read, bad, stopped, spent}
+use Rattle.grammars.specs.code.Actions.{End, read, bad, stopped, spent}
 use Rattle.same_names.specs.Alike.{sameName}
-use Rattle.forms.specs.Names.{constant, subtype}
-use Rattle.forms.specs.Tree.{Row, State, Refusal, rowsOf}
-use Rattle.forms.specs.Reading.{readingFrom}
-use Rattle.forms.specs.Items.{IsItem}
+use Rattle.forms.specs.code.Names.{constant, subtype}
+use Rattle.forms.specs.Tree.{Row}
+use Rattle.forms.specs.code.Frames.{State, Refusal, rowsOf}
+use Rattle.forms.specs.code.Reading.{readingFrom}
+use Rattle.forms.specs.code.ItemReading.{IsItem}
 use Rattle.forms.proofs.Items.{reads-items, kinds-alone, fewer-rows}
-use Rattle.form_table.specs.Symbols.{symOf}
-use Rattle.form_table.specs.Bytes.{encode}
+use Rattle.form_table.specs.code.Symbols.{symOf}
+use Rattle.form_table.specs.code.Bytes.{encode}
 use Rattle.pieces.specs.Kinds.{word-constant, word-subtype}
 use Rattle.places.specs.Places.{cellAt, kindsOf}
 use Rattle.places.proofs.Laws.{cell-in, kinds-length}
 use Rattle.refusals.specs.declared.StrictRefusal.{StrictRefusal}
 use Rattle.tree.specs.declared.Answer.{Answer}
 use Rattle.tree.specs.declared.Answer.the-variants.{Tree, Refused}
-use Rattle.tree.specs.Answers.{terminalsIn, terminalsOf, wordsOf}
+use Rattle.tree.specs.code.Answers.{terminalsIn, terminalsOf}
+use Rattle.forms.specs.Words.{wordsOf}
 use Rattle.tree.specs.code.Held.{Spans, Starts, Tells}
-use Rattle.tree.specs.Items.{unlike, readingBy, readingOfPiece, rowsRead, rowsOfPiece, startOf}
+use Rattle.tree.specs.code.PieceRows.{unlike, readingBy, readingOfPiece, rowsRead, rowsOfPiece, startOf}
 use Rattle.tree.proofs.Lists.{terminals-length}
 use Rattle.tree.proofs.Final.{unread}
 

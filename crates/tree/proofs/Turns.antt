@@ -8,20 +8,20 @@ use native.Mathlib.Numerals.{add-one}
 use lib.ListN.{length, getD, drop, set, length-append, length-drop, drop-of-length-le}
 use lib.Seq.{drop-cons}
 use borrow.Author.Tests.{lt-ltb, le-ltb}
-use Rattle.grammars.specs.Grammar.{Sym, tok, nt, act, look}
-use Rattle.grammars.specs.Actions.{End}
+use Rattle.grammars.specs.code.Grammar.{Sym, tok, nt, act, look}
+use Rattle.grammars.specs.code.Actions.{End}
 use Rattle.grammars.proofs.Budget.{due, due-grow}
-use Rattle.forms.specs.Kinds.{kindCount}
-use Rattle.forms.specs.Rules.{forms, body}
-use Rattle.forms.specs.Names.{file, constant, subtype, nameNumber}
+use Rattle.forms.specs.code.Kinds.{kindCount}
+use Rattle.forms.specs.code.Rules.{forms, body}
+use Rattle.forms.specs.code.Names.{file, constant, subtype, nameNumber}
 use Rattle.forms.specs.code.Picks.{predict}
-use Rattle.forms.specs.Tree.{State, Refusal}
-use Rattle.forms.specs.Reading.{readingFrom}
+use Rattle.forms.specs.code.Frames.{State, Refusal}
+use Rattle.forms.specs.code.Reading.{readingFrom}
 use Rattle.forms.proofs.Tests as tests
 use Rattle.same_names.specs.Alike.{sameName}
-use Rattle.form_table.specs.Symbols.{firstAction, symOf, syms}
+use Rattle.form_table.specs.code.Symbols.{firstAction, symOf, syms}
 use Rattle.tree.specs.code.Room.{bottom, stackWords, outermost, framesWords, mostRows}
-use Rattle.tree.specs.Answers.{terminalsOf}
+use Rattle.tree.specs.code.Answers.{terminalsOf}
 use Rattle.tree.specs.code.Held.{Starts}
 use Rattle.tree.proofs.Lists.{length-syms, terminals-size, drop-set-here, four-pushed}
 use Rattle.tree.proofs.Going as going

@@ -7,7 +7,7 @@ use native.Mathlib.Numerals.{add-one}
 use lib.ListN.{length, getD, set}
 use lib.Seq.{sets}
 use Rattle.forms.specs.Tree.{Row}
-use Rattle.tree.specs.Answers.{wordsOf}
+use Rattle.forms.specs.Words.{wordsOf}
 use Rattle.forms.specs.Words.{rowAt}
 use Rattle.tree.specs.code.Held.{Linked, none, more, Spans, empty, join}
 use Rattle.tree.proofs.Holding.{spans-le, spans-one}

@@ -7,12 +7,12 @@ use lib.ListN.{length, getD, take, drop, length-append, length-drop, drop-of-len
 use lib.Seq.{sets, drop-drop, take-at, drop-at, length-take-le}
 use Rattle.classes.proofs.Laws.{part-rest}
 use Rattle.pieces.specs.Cutting.{pieceSize, cut}
-use Rattle.pieces.specs.Kinds.{piecesOf, closesPiece, opensPiece}
+use Rattle.pieces.specs.Kinds.{kindPieces, closesPiece, opensPiece}
 use Rattle.places.specs.Places.{rowsFrom, kindsOf}
 use Rattle.places.proofs.Laws.{kinds-length, kinds-end}
 use Rattle.pieces.proofs.Laws.{size-some, size-inside, at-less, first-piece}
-use Rattle.tree.specs.Answers.{wordsOf}
-use Rattle.tree.specs.Items.{rowsOfPiece, pieceWords, itemWords, itemsIn, itemRows}
+use Rattle.forms.specs.Words.{wordsOf}
+use Rattle.tree.specs.code.PieceRows.{rowsOfPiece, pieceWords, piecesWords, itemsIn, itemRows}
 use Rattle.tree.proofs.Zeros.{zeros, zeros-size, zeros-append}
 use Rattle.tree.proofs.Final.{filled}
 use Rattle.tree.proofs.Pieces.{rows-few}
@@ -45,7 +45,7 @@ pub record Written (n : ℕ) (t rows : List ℕ) (words at : ℕ) : Type 0 where
   pub ready : List ℕ
   pub many : length ready ≡ 5 * at
   pub stands : rows ≡ ready ++ zeros (words - 5 * at)
-  pub rest : ready ++ itemWords (piecesOf (drop at (kindsOf n t))) ≡ itemWords (piecesOf (kindsOf n t))
+  pub rest : ready ++ piecesWords (kindPieces (drop at (kindsOf n t))) ≡ piecesWords (kindPieces (kindsOf n t))
 
 pub written-start : (n : ℕ) (t rows : List ℕ) → rows ≡ zeros (length rows) → Written n t rows (length rows) 0
 written-start n t rows e = let z : length rows ≡ length rows - 5 * 0 = omega arith in record { ready = []; many = refl; stands = e ∙ ap zeros z; rest = refl }
@@ -119,15 +119,15 @@ module _ (n : ℕ) (t : List ℕ) (at r words : ℕ) (room : 3 * n ≤ length t)
         ∙ sym (append-assoc (g .ready) (pieceWords piece) (zeros (words - 5 * (at + r))))
 
     pub turn-written : Written n t (take (5 * at) rows ++ (ys ++ drop (length rows - 5 * at) (drop (5 * at) rows))) words (at + r)
-    unfolding itemWords
+    unfolding piecesWords
     turn-written =
         record {
           ready = g .ready ++ pieceWords piece;
           many = omega (arith, length-append (g .ready) (pieceWords piece), g .many, piece-size piece, piece-length);
           stands = now-is;
           rest =
-              append-assoc (g .ready) (pieceWords piece) (itemWords (piecesOf (drop (at + r) (kindsOf n t))))
-              ∙ ap (λ (ps : List (List ℕ)). g .ready ++ itemWords ps) (sym (first-piece n t at r sized l))
+              append-assoc (g .ready) (pieceWords piece) (piecesWords (kindPieces (drop (at + r) (kindsOf n t))))
+              ∙ ap (λ (ps : List (List ℕ)). g .ready ++ piecesWords ps) (sym (first-piece n t at r sized l))
               ∙ g .rest;
         }
 
@@ -136,12 +136,12 @@ module _ (n : ℕ) (t : List ℕ) (at r words : ℕ) (room : 3 * n ≤ length t)
         let i = turn-inside in
         omega (arith, ap length now-is, length-append (g .ready ++ pieceWords piece) (zeros (words - 5 * (at + r))), length-append (g .ready) (pieceWords piece), g .many, piece-size piece, piece-length, zeros-size (words - 5 * (at + r)))
 
-pub written-end : (n : ℕ) (t rows : List ℕ) (words at : ℕ) → at ≤ n → n ≤ at → Written n t rows words at → rows ≡ itemWords (piecesOf (kindsOf n t)) ++ zeros (words - 5 * n)
-unfolding itemWords cut
+pub written-end : (n : ℕ) (t rows : List ℕ) (words at : ℕ) → at ≤ n → n ≤ at → Written n t rows words at → rows ≡ piecesWords (kindPieces (kindsOf n t)) ++ zeros (words - 5 * n)
+unfolding piecesWords cut
 written-end n t rows words at h k g =
     let z : words - 5 * at ≡ words - 5 * n = omega arith in
-    let d : g .ready ≡ itemWords (piecesOf (kindsOf n t)) =
-    sym (append-nil (g .ready)) ∙ sym (ap (λ (x : List ℕ). g .ready ++ itemWords (piecesOf x)) (kinds-end t n at k)) ∙ g .rest in
+    let d : g .ready ≡ piecesWords (kindPieces (kindsOf n t)) =
+    sym (append-nil (g .ready)) ∙ sym (ap (λ (x : List ℕ). g .ready ++ piecesWords (kindPieces x)) (kinds-end t n at k)) ∙ g .rest in
     g .stands ∙ ap₂ (λ (x : List ℕ) (y : ℕ). x ++ zeros y) d z
 
 -- the whole table
@@ -155,8 +155,8 @@ module _ (t : List ℕ) (count n m words room : ℕ) (same : room ≡ words) (a 
   pub all-room : 5 * n ≤ room
   all-room = omega arith
 
-  pub all-rows : (rows : List ℕ) → rows ≡ itemWords (piecesOf (kindsOf n t)) ++ zeros (room - 5 * n) → rows ≡ itemRows t count words
+  pub all-rows : (rows : List ℕ) → rows ≡ piecesWords (kindPieces (kindsOf n t)) ++ zeros (room - 5 * n) → rows ≡ itemRows t count words
   unfolding itemRows
   all-rows rows e =
       let z : n ≡ itemsIn t count words = omega arith in
-      e ∙ ap₂ (λ (k w : ℕ). itemWords (piecesOf (kindsOf k t)) ++ zeros (w - 5 * k)) z same
+      e ∙ ap₂ (λ (k w : ℕ). piecesWords (kindPieces (kindsOf k t)) ++ zeros (w - 5 * k)) z same

@@ -1,3 +1,1 @@
 pub mod code
-pub mod Answers
-pub mod Items

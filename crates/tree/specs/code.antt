@@ -1,2 +1,4 @@
 pub mod Room
 pub mod Held
+pub mod PieceRows
+pub mod Answers

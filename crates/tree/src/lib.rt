@@ -2,6 +2,11 @@
 // they are kept in the order of completion, in a list to each base, and written out at the end, so that a text costs by its elements. The
 // table and the arrays are made once, in `read_tree` and `read_items`, and lent: made anew at each use, or for each piece of a package,
 // they would cost more than all else.
+use form_numbers::COUNT;
+use form_numbers::FIRST;
+use form_numbers::OPERATOR;
+use form_numbers::ROW_NUMBERS;
+use form_numbers::ROWS;
 use form_table::KINDS;
 use form_table::NAMES;
 use places::ElementNumber;
@@ -13,40 +18,48 @@ ghost use Prim.Native.Nat.{ℕ, _+_, _-_, _*_, _/_, _≤_, _<_, min};
 ghost use lib.ListN.{length, drop, getD, set, replicate};
 ghost use lib.Seq.{sets};
 ghost use Rattle.places.specs.Sizes.{mostElements};
-ghost use Rattle.grammars.specs.Grammar.{look};
-ghost use Rattle.forms.specs.Kinds.{kindCount};
-ghost use Rattle.forms.specs.Names.{nameCount};
-ghost use Rattle.forms.specs.Rules.{body, forms as grammar};
+ghost use Rattle.grammars.specs.code.Grammar.{look};
+ghost use Rattle.forms.specs.code.Kinds.{kindCount};
+ghost use Rattle.forms.specs.code.Names.{nameCount};
+ghost use Rattle.forms.specs.code.Rules.{body, forms as grammar};
 ghost use Rattle.forms.specs.code.Picks.{predict};
 ghost use Rattle.forms.specs.Words.{rowNumbers};
-ghost use Rattle.forms.specs.Tree.{State, Row, mostOpen, isNamed, does};
-ghost use Rattle.forms.specs.Reading.{readingFrom};
+ghost use Rattle.forms.specs.code.Frames.{State, isNamed, does};
+ghost use Rattle.forms.specs.Tree.{Row, mostOpen};
+ghost use Rattle.forms.specs.code.Reading.{readingFrom};
 ghost use Rattle.same_names.specs.Alike.{sameName};
-ghost use Rattle.form_table.specs.Symbols.{symOf, syms};
-ghost use Rattle.form_table.specs.Bytes.{formBytes};
+ghost use Rattle.form_table.specs.code.Symbols.{symOf, syms};
+ghost use Rattle.form_table.specs.code.Bytes.{formBytes};
 ghost use Rattle.tree.specs.declared.Did.the-variants.{Went};
-ghost use Rattle.tree.specs.Answers.{elementsIn, terminalsOf, readingIn, wordsOf, answerOf, tableOf};
-ghost use Rattle.pieces.specs.Kinds.{piecesOf};
+ghost use Rattle.tree.specs.code.Answers.{elementsIn, terminalsOf, readingIn, answerOf, tableOf};
+ghost use Rattle.forms.specs.Words.{wordsOf};
+ghost use Rattle.pieces.specs.Kinds.{kindPieces};
 ghost use Rattle.places.specs.Places.{rowWords, kindsOf};
-ghost use Rattle.tree.specs.code.Room.{Room, bottom, stackWords, frameWords, outermost, framesWords, mostRows};
-ghost use Rattle.tree.specs.Items.{startOf, rowsOfPiece, itemWords, itemRows};
+ghost use Rattle.tree.specs.code.Room.{Room, bottom, stackWords, frameWords, frameOperator, frameBase, frameName, outermost, framesWords, mostRows};
+ghost use Rattle.tree.specs.code.PieceRows.{startOf, rowsOfPiece, piecesWords, itemRows};
 ghost use Rattle.tree.specs.code.Held.{Held, Spans, Done, Tells, Starts, usedAfter};
 
-// The stack's words, and the last of them; those of the frames, four to each, and where the outermost stands; and how many rows there may be,
-// of five words each.
+// The stack's words, and the last of them; those of a frame, of which the first is its first element; those of the frames, and where the
+// outermost stands; and how many rows there may be.
 const STACK: usize = 2176;
 
 const BOTTOM: usize = STACK - 1;
 
 const FRAME: usize = 4;
 
-const FRAMES: usize = FRAME * 2177;
+const FRAME_OPERATOR: usize = 1;
+
+const FRAME_BASE: usize = 2;
+
+const FRAME_NAME: usize = 3;
+
+const TWO_FRAMES: usize = FRAME + FRAME;
+
+const FRAMES: usize = FRAME * (STACK + 1);
 
 const OUTERMOST: usize = FRAMES - FRAME;
 
-const ROW: usize = 5;
-
-const ROWS: usize = 10368;
+const MOST_ROWS: usize = 10368;
 
 // Where the names and the actions begin among the symbols, and the names from which is read: a file, a constant and a subtype.
 const FIRST_NAME: u64 = KINDS as u64;
@@ -59,12 +72,8 @@ const CONSTANT: u64 = FIRST_NAME + 14;
 
 const SUBTYPE: u64 = FIRST_NAME + 15;
 
-// The kind of the forms that is any other, and the kinds of the words constant and subtype.
+// The kind of the forms that is any other.
 const OTHER: u64 = 67;
-
-const WORD_CONSTANT: u64 = 53;
-
-const WORD_SUBTYPE: u64 = 129;
 
 // The actions, by the names that the rules give them; from `ROW_OF` on, a row of each form.
 const OPENS: u64 = 0;
@@ -186,12 +195,12 @@ fn put_row(
     requires { ⌜ (rowNumbers * used + rowNumbers ≤ length (now cells)) × (used < length (now next)) × (used + 1 < length (now heads)) × (base ≤ used) ⌝ }
     ensures { λ _. ⌜ (now (cells .exit) ≡ sets (now (cells .entry)) (rowNumbers * used) (form ∷ first ∷ count ∷ rows ∷ operator ∷ [])) × (now (next .exit) ≡ set (now (next .entry)) used (getD (now (heads .entry)) base 0)) × (now (heads .exit) ≡ set (set (now (heads .entry)) base (used + 1)) (used + 1) 0) ⌝ }
 {
-    let at = ROW * used;
+    let at = ROW_NUMBERS * used;
     cells[at] = form;
-    cells[at + 1] = first;
-    cells[at + 2] = count;
-    cells[at + 3] = rows;
-    cells[at + 4] = operator;
+    cells[at + FIRST] = first;
+    cells[at + COUNT] = count;
+    cells[at + ROWS] = rows;
+    cells[at + OPERATOR] = operator;
     next[used] = heads[base];
     heads[base] = (used + 1) as u64;
     heads[used + 1] = 0;
@@ -200,21 +209,21 @@ fn put_row(
 // A frame more, below the others.
 fn open_frame(k: u64, frames: &mut [u64], fp: usize, used: usize)
     requires { ⌜ (frameWords ≤ fp) × (fp ≤ length (now frames)) ⌝ }
-    ensures { λ _. ⌜ now (frames .exit) ≡ set (set (set (set (now (frames .entry)) (fp - frameWords) k) (fp - frameWords + 1) k) (fp - frameWords + 2) used) (fp - frameWords + 3) 0 ⌝ }
+    ensures { λ _. ⌜ now (frames .exit) ≡ set (set (set (set (now (frames .entry)) (fp - frameWords) k) (fp - frameWords + frameOperator) k) (fp - frameWords + frameBase) used) (fp - frameWords + frameName) 0 ⌝ }
 {
     let p = fp - FRAME;
     frames[p] = k;
-    frames[p + 1] = k;
-    frames[p + 2] = used as u64;
-    frames[p + 3] = 0;
+    frames[p + FRAME_OPERATOR] = k;
+    frames[p + FRAME_BASE] = used as u64;
+    frames[p + FRAME_NAME] = 0;
 }
 
 // Whether the element just read is the name of the innermost frame.
 fn is_named(text: &[u8], elements: &[u64], frames: &[u64], fp: usize, k: u64) -> bool
     requires { ⌜ fp + frameWords ≤ length (now frames) ⌝ }
-    ensures { λ r. ⌜ r ≡ isNamed (sameName (now (text .entry)) (now (elements .entry))) (getD (now (frames .entry)) (fp + 3) 0) (k - 1) ⌝ }
+    ensures { λ r. ⌜ r ≡ isNamed (sameName (now (text .entry)) (now (elements .entry))) (getD (now (frames .entry)) (fp + frameName) 0) (k - 1) ⌝ }
 {
-    let n = frames[fp + 3];
+    let n = frames[fp + FRAME_NAME];
     if n == 0 {
         return false;
     }
@@ -233,12 +242,12 @@ fn complete_row(
     fp: usize,
     used: usize,
 )
-    requires { ⌜ (fp + frameWords ≤ length (now frames)) × (rowNumbers * used + rowNumbers ≤ length (now cells)) × (used < length (now next)) × (used + 1 < length (now heads)) × (getD (now frames) (fp + 2) 0 ≤ used) ⌝ }
-    ensures { λ _. ⌜ (now (cells .exit) ≡ sets (now (cells .entry)) (rowNumbers * used) (form ∷ getD (now (frames .entry)) fp 0 ∷ (k - getD (now (frames .entry)) fp 0) ∷ (used - getD (now (frames .entry)) (fp + 2) 0 + 1) ∷ getD (now (frames .entry)) (fp + 1) 0 ∷ [])) × (now (next .exit) ≡ set (now (next .entry)) used (getD (now (heads .entry)) (getD (now (frames .entry)) (fp + 2) 0) 0)) × (now (heads .exit) ≡ set (set (now (heads .entry)) (getD (now (frames .entry)) (fp + 2) 0) (used + 1)) (used + 1) 0) ⌝ }
+    requires { ⌜ (fp + frameWords ≤ length (now frames)) × (rowNumbers * used + rowNumbers ≤ length (now cells)) × (used < length (now next)) × (used + 1 < length (now heads)) × (getD (now frames) (fp + frameBase) 0 ≤ used) ⌝ }
+    ensures { λ _. ⌜ (now (cells .exit) ≡ sets (now (cells .entry)) (rowNumbers * used) (form ∷ getD (now (frames .entry)) fp 0 ∷ (k - getD (now (frames .entry)) fp 0) ∷ (used - getD (now (frames .entry)) (fp + frameBase) 0 + 1) ∷ getD (now (frames .entry)) (fp + frameOperator) 0 ∷ [])) × (now (next .exit) ≡ set (now (next .entry)) used (getD (now (heads .entry)) (getD (now (frames .entry)) (fp + frameBase) 0) 0)) × (now (heads .exit) ≡ set (set (now (heads .entry)) (getD (now (frames .entry)) (fp + frameBase) 0) (used + 1)) (used + 1) 0) ⌝ }
 {
     let i = frames[fp];
-    let o = frames[fp + 1];
-    let base = frames[fp + 2] as usize;
+    let o = frames[fp + FRAME_OPERATOR];
+    let base = frames[fp + FRAME_BASE] as usize;
     let rows = (used - base + 1) as u64;
     put_row(
         cells,
@@ -274,7 +283,7 @@ fn do_act(
     depth: usize,
     used: usize,
 ) -> Did
-    requires { ⌜ (frameWords ≤ fp) × (fp + frameWords ≤ length (now frames)) × (rowNumbers * used + rowNumbers ≤ length (now cells)) × (used < length (now next)) × (used + 1 < length (now heads)) × (used < 1000000) × (depth ≤ mostOpen) × (getD (now frames) (fp + 2) 0 ≤ used) ⌝ }
+    requires { ⌜ (frameWords ≤ fp) × (fp + frameWords ≤ length (now frames)) × (rowNumbers * used + rowNumbers ≤ length (now cells)) × (used < length (now next)) × (used + 1 < length (now heads)) × (used < mostRows) × (depth ≤ mostOpen) × (getD (now frames) (fp + frameBase) 0 ≤ used) ⌝ }
     ensures { λ r. ⌜ ((s : State) → Held (now (frames .entry)) (now (cells .entry)) (now (next .entry)) (now (heads .entry)) fp used (s .frames) → s .depth ≡ depth → Done r (now (frames .exit)) (now (cells .exit)) (now (next .exit)) (now (heads .exit)) (usedAfter a used) k (does (sameName (now (text .entry)) (now (elements .entry))) a k s)) ⌝ }
 {
     if a == OPENS {
@@ -282,17 +291,17 @@ fn do_act(
         return went(fp - FRAME, depth, used);
     }
     if a == CLOSES {
-        if fp + 2 * FRAME <= frames.len() {
+        if fp + TWO_FRAMES <= frames.len() {
             return went(fp + FRAME, depth, used);
         }
         return went(fp, depth, used);
     }
     if a == MARKS {
-        frames[fp + 1] = minus(k, 1);
+        frames[fp + FRAME_OPERATOR] = minus(k, 1);
         return went(fp, depth, used);
     }
     if a == NAMED {
-        frames[fp + 3] = k;
+        frames[fp + FRAME_NAME] = k;
         return went(fp, depth, used);
     }
     if a == SAME {
@@ -321,9 +330,9 @@ fn begin(from: u64, stk: &mut [u64], frames: &mut [u64], heads: &mut [u64])
 {
     stk[BOTTOM] = from;
     frames[OUTERMOST] = 0;
-    frames[OUTERMOST + 1] = 0;
-    frames[OUTERMOST + 2] = 0;
-    frames[OUTERMOST + 3] = 0;
+    frames[OUTERMOST + FRAME_OPERATOR] = 0;
+    frames[OUTERMOST + FRAME_BASE] = 0;
+    frames[OUTERMOST + FRAME_NAME] = 0;
     heads[0] = 0;
 }
 
@@ -417,13 +426,13 @@ fn write_out(cells: &[u64], next: &[u64], heads: &[u64], used: usize, tab: &mut 
             link = heads[base] as usize;
             base += 1;
         } else {
-            let from = ROW * (link - 1);
-            let to = ROW * out;
+            let from = ROW_NUMBERS * (link - 1);
+            let to = ROW_NUMBERS * out;
             tab[to] = cells[from];
-            tab[to + 1] = cells[from + 1];
-            tab[to + 2] = cells[from + 2];
-            tab[to + 3] = cells[from + 3];
-            tab[to + 4] = cells[from + 4];
+            tab[to + FIRST] = cells[from + FIRST];
+            tab[to + COUNT] = cells[from + COUNT];
+            tab[to + ROWS] = cells[from + ROWS];
+            tab[to + OPERATOR] = cells[from + OPERATOR];
             link = next[link - 1] as usize;
             out += 1;
         }
@@ -447,9 +456,9 @@ pub fn read_tree(text: &[u8], elements: &[u64], count: usize, tree: &mut [u64]) 
     let n = least(count, elements.len() / places::ROW_WORDS, MOST_ELEMENTS);
     let mut stk = [0u64; STACK];
     let mut frames = [0u64; FRAMES];
-    let mut cells = [0u64; ROW * ROWS];
-    let mut next = [0u64; ROWS];
-    let mut heads = [0u64; ROWS];
+    let mut cells = [0u64; ROW_NUMBERS * MOST_ROWS];
+    let mut next = [0u64; MOST_ROWS];
+    let mut heads = [0u64; MOST_ROWS];
     let forms = form_table::forms();
     let found = scan(
         FILE,
@@ -466,7 +475,7 @@ pub fn read_tree(text: &[u8], elements: &[u64], count: usize, tree: &mut [u64]) 
     let Answer::Tree(used) = found else {
         return found;
     };
-    let rows = tree.len() / ROW;
+    let rows = tree.len() / ROW_NUMBERS;
     if rows < used {
         return Answer::Refused(StrictRefusal::TreeShort(rows));
     }
@@ -478,10 +487,10 @@ pub fn read_tree(text: &[u8], elements: &[u64], count: usize, tree: &mut [u64]) 
 fn start_of(kind: u64) -> u64
     ensures { λ r. ⌜ r ≡ startOf kind ⌝ }
 {
-    if kind == WORD_CONSTANT {
+    if kind == pieces::WORD_CONSTANT {
         return CONSTANT;
     }
-    if kind == WORD_SUBTYPE {
+    if kind == pieces::WORD_SUBTYPE {
         return SUBTYPE;
     }
     0
@@ -538,12 +547,12 @@ fn read_pieces(
     rows: &mut [u64],
 )
     requires { ⌜ (rowWords * n ≤ length (now elements)) × (n ≤ mostElements) × (rowNumbers * n ≤ length (now rows)) × (now rows ≡ replicate (length (now rows)) 0) × Room (now stk) (now frames) (now cells) (now next) (now heads) × (now forms ≡ formBytes) ⌝ }
-    ensures { λ _. ⌜ now (rows .exit) ≡ itemWords (piecesOf (kindsOf n (now (elements .entry)))) ++ replicate (length (now (rows .entry)) - rowNumbers * n) 0 ⌝ }
+    ensures { λ _. ⌜ now (rows .exit) ≡ piecesWords (kindPieces (kindsOf n (now (elements .entry)))) ++ replicate (length (now (rows .entry)) - rowNumbers * n) 0 ⌝ }
 {
     let mut at: usize = 0;
     while at < n {
         let size = pieces::piece_size(elements, n, at);
-        let row = ROW * at;
+        let row = ROW_NUMBERS * at;
         read_piece(
             places::rows_from(elements, ElementNumber(at)),
             size,
@@ -568,13 +577,13 @@ pub fn read_items(elements: &[u64], count: usize, rows: &mut [u64])
     let n = least(
         count,
         elements.len() / places::ROW_WORDS,
-        least(rows.len() / ROW, MOST_ELEMENTS, MOST_ELEMENTS),
+        least(rows.len() / ROW_NUMBERS, MOST_ELEMENTS, MOST_ELEMENTS),
     );
     let mut stk = [0u64; STACK];
     let mut frames = [0u64; FRAMES];
-    let mut cells = [0u64; ROW * ROWS];
-    let mut next = [0u64; ROWS];
-    let mut heads = [0u64; ROWS];
+    let mut cells = [0u64; ROW_NUMBERS * MOST_ROWS];
+    let mut next = [0u64; MOST_ROWS];
+    let mut heads = [0u64; MOST_ROWS];
     let forms = form_table::forms();
     read_pieces(
         elements,

@@ -8,7 +8,7 @@ use Rattle.words.specs.Words.{bytesOf}
 use Rattle.forms.specs.Words.{rowNumbers}
 use Rattle.puts.specs.Decimals.{decimalOf, fieldsOf, lineFeed}
 use Rattle.puts.specs.Lines.{linesFrom}
-use Rattle.refused_line.specs.Refused.{count, lineBy, linesBy}
+use Rattle.refused_line.specs.Refused.{counted, lineBy, linesBy}
 
 -- where the strict reading's answer has whether the file passes, and the first row that is not supported
 abbrev pub passes : ℕ
@@ -21,31 +21,31 @@ row = 4
 unfoldable pub failsOf : ℕ → List ℕ
 failsOf r = bytesOf " passes no at " ++ (decimalOf r ++ (lineFeed ∷ []))
 
-unfoldable pub verdictOf : ℕ → ℕ → List ℕ
-verdictOf p r = cond (eqb p 1) (bytesOf " passes yes\n") (failsOf r)
+unfoldable pub verdictText : ℕ → ℕ → List ℕ
+verdictText p r = cond (eqb p 1) (bytesOf " passes yes\n") (failsOf r)
 
 unfoldable pub headOf : ℕ → ℕ → ℕ → List ℕ
-headOf rows p r = bytesOf "rows " ++ (decimalOf rows ++ verdictOf p r)
+headOf rows p r = bytesOf "rows " ++ (decimalOf rows ++ verdictText p r)
 
 -- the numbers of a row, none where the table has no such row
 unfoldable pub numbersAt : List ℕ → ℕ → List ℕ
 numbersAt tree i = cond (ltb i (length tree / rowNumbers)) (take rowNumbers (drop (rowNumbers * i) tree)) []
 
 -- "`ROW FORM FIRST COUNT SUBTREE OPERATOR`: `ROW` counts from 0; the other five are the row's numbers as 01 lists them."
-unfoldable pub rowOf : List ℕ → ℕ → List ℕ
-rowOf tree i = decimalOf i ++ (fieldsOf (numbersAt tree i) ++ (lineFeed ∷ []))
+unfoldable pub rowText : List ℕ → ℕ → List ℕ
+rowText tree i = decimalOf i ++ (fieldsOf (numbersAt tree i) ++ (lineFeed ∷ []))
 
 -- "The head, then one line to each row of the tree, in table order": the lines by their numbers
 unfoldable pub listedLine : List ℕ → List ℕ → ℕ → List ℕ
-listedLine tree answer zero = headOf (getD answer count 0) (getD answer passes 0) (getD answer row 0)
-listedLine tree answer (suc i) = rowOf tree i
+listedLine tree answer zero = headOf (getD answer counted 0) (getD answer passes 0) (getD answer row 0)
+listedLine tree answer (suc i) = rowText tree i
 
 -- those of any answer, and how many there are: no more rows are listed than the table has
 unfoldable pub treeLine : List ℕ → List ℕ → ℕ → List ℕ
 treeLine tree answer = lineBy answer (listedLine tree answer)
 
 unfoldable pub treeLines : List ℕ → List ℕ → ℕ
-treeLines tree answer = linesBy answer (suc (min (getD answer count 0) (length tree / rowNumbers)))
+treeLines tree answer = linesBy answer (suc (min (getD answer counted 0) (length tree / rowNumbers)))
 
 -- the listing: all of them
 unfoldable pub treeListing : List ℕ → List ℕ → List ℕ

@@ -1,5 +1,6 @@
 // The lines of a tree's listing, put into a lent buffer. Every function takes any table, numbers and buffer, and puts what specs/Lines.antt
 // defines.
+use form_numbers::ROW_NUMBERS;
 use puts::Filled;
 use refused_line::COUNT;
 use refused_line::PLACE;
@@ -8,10 +9,7 @@ ghost use mathlib.Core.Path.{_≡_};
 ghost use lib.ListN.{length};
 ghost use Rattle.puts.specs.Puts.{Wrote};
 ghost use Rattle.puts.specs.Lines.{Part};
-ghost use Rattle.tree_lines.specs.Lines.{failsOf, verdictOf, headOf, numbersAt, rowOf, treeLine, treeLines};
-
-// How many numbers a row of the tree has.
-const ROW_NUMBERS: usize = 5;
+ghost use Rattle.tree_lines.specs.Lines.{failsOf, verdictText, headOf, numbersAt, rowText, treeLine, treeLines};
 
 // Where the strict reading's answer has whether the file passes, and the first row that is not supported.
 const PASSES: usize = 3;
@@ -27,7 +25,7 @@ fn put_fails(row: u64, out: &mut [u8], at: usize) -> usize
 }
 
 fn put_verdict(passes: u64, row: u64, out: &mut [u8], at: usize) -> usize
-    ensures { λ r. ⌜ Wrote (now (out .entry)) at (verdictOf passes row) (now (out .exit)) r ⌝ }
+    ensures { λ r. ⌜ Wrote (now (out .entry)) at (verdictText passes row) (now (out .exit)) r ⌝ }
 {
     if passes == 1 {
         return puts::put_bytes(b" passes yes\n", out, at);
@@ -56,7 +54,7 @@ fn numbers_at(tree: &[u64], i: usize) -> &[u64]
 
 // The line of a row: its number and its five numbers.
 pub fn put_row(tree: &[u64], i: usize, out: &mut [u8], at: usize) -> usize
-    ensures { λ r. ⌜ Wrote (now (out .entry)) at (rowOf (now (tree .entry)) i) (now (out .exit)) r ⌝ }
+    ensures { λ r. ⌜ Wrote (now (out .entry)) at (rowText (now (tree .entry)) i) (now (out .exit)) r ⌝ }
 {
     let a = puts::put_decimal(i as u64, out, at);
     let b = puts::put_fields(numbers_at(tree, i), out, a);

@@ -9,12 +9,13 @@ use native.Mathlib.Nat.{lt-of-not-le, eq-or-lt-of-le}
 use native.Mathlib.Omega.{arith}
 use lib.ListN.{length, drop, take-append-drop, List·getD-eq-default}
 use Rattle.laws.proofs.Laws.{clash}
-use Rattle.grammars.specs.Actions.{End, read, bad, stopped, spent}
+use Rattle.grammars.specs.code.Actions.{End, read, bad, stopped, spent}
 use Rattle.grammars.proofs.Acting as acting
-use Rattle.forms.specs.Rules.{forms}
+use Rattle.forms.specs.code.Rules.{forms}
 use Rattle.forms.specs.code.Picks.{predict}
-use Rattle.forms.specs.Tree.{Row, State, Refusal, name-differs, too-deep, does, IsFile, Reading, rowsOf}
-use Rattle.forms.specs.Reading.{readingOf, Begins}
+use Rattle.forms.specs.Tree.{Row}
+use Rattle.forms.specs.code.Frames.{State, Refusal, name-differs, too-deep, does, IsFile, Reading, rowsOf}
+use Rattle.forms.specs.code.Reading.{readingOf, Begins}
 use Rattle.forms.specs.Open.{openFrom, role, after}
 use Rattle.forms.specs.Closing.{Name, named, closesAt, closedBy, walkOver, unwalked, isNamedAs}
 use Rattle.forms.proofs.Meaning as meaning

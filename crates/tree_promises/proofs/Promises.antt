@@ -8,9 +8,9 @@ use lib.Dec.{leb}
 use lib.ListN.{length, replicate}
 use borrow.Author.Tests.{le-leb, lt-leb, leb-true, leb-false}
 use Rattle.laws.proofs.Laws.{clash}
-use Rattle.grammars.specs.Actions.{End, read, bad, stopped, spent}
+use Rattle.grammars.specs.code.Actions.{End, read, bad, stopped, spent}
 use Rattle.same_names.specs.Alike.{sameName}
-use Rattle.forms.specs.Tree.{State, Refusal, name-differs, too-deep, rowsOf}
+use Rattle.forms.specs.code.Frames.{State, Refusal, name-differs, too-deep, rowsOf}
 use Rattle.forms.specs.Forest.{Tiled}
 use Rattle.forms.specs.Owners.{LeavesAre}
 use Rattle.forms.proofs.Meaning as meaning
@@ -23,13 +23,14 @@ use Rattle.forms.proofs.Closing as closing
 use Rattle.forms.proofs.Tiling.{rows-tiled}
 use Rattle.forms.proofs.Leaves.{leaves-are}
 use Rattle.forms.proofs.Labels.{labels-lead}
-use Rattle.tree.specs.Answers.{readingIn, wordsOf, answerOf, tableOf, noFile, nameDiffers, tooDeep, tableShort}
+use Rattle.tree.specs.code.Answers.{readingIn, answerOf, tableOf, noFile, nameDiffers, tooDeep, tableShort}
+use Rattle.forms.specs.Words.{wordsOf}
 use Rattle.refusals.specs.Refusals.{strictPlace}
 use Rattle.refusals.specs.declared.StrictRefusal.the-variants as refusal
 use Rattle.tree.specs.declared.Answer.{Answer}
 use Rattle.tree.specs.declared.Answer.the-variants.{Tree, Refused}
 use Rattle.tree.proofs.Lists.{terminals-size}
-use Rattle.tree_promises.specs.Promises.{Elements, Answered, Accepts, HasRows, OneTree, NoFileExactly, NameDiffersExactly, TooDeepExactly, FileExactly, IsShort, ZerosElse, RowsNest, LeavesInOrder, OperatorColumn, RowsFitLines, EachLabelLeads}
+use Rattle.tree_promises.specs.code.Promises.{Elements, Answered, Accepts, HasRows, OneTree, NoFileExactly, NameDiffersExactly, TooDeepExactly, FileExactly, IsShort, ZerosElse, RowsNest, LeavesInOrder, OperatorColumn, RowsFitLines, EachLabelLeads}
 use Rattle.tree_promises.proofs.Exactly as exactly
 
 -- an answer comes from one end of the reading

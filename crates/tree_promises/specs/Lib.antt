@@ -1,2 +1,2 @@
 pub mod Due
-pub mod Promises
+pub mod code

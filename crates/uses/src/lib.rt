@@ -1,4 +1,5 @@
 // What a name comes to where it is used, by the records above and the links of names. Every function takes any tables.
+use places::ElementNumber;
 use values::Value;
 ghost use mathlib.Core.Path.{_≡_};
 ghost use Rattle.uses.specs.code.Uses.{recordValue, useIn};
@@ -22,12 +23,12 @@ pub fn use_of(
     items: &[u64],
     links: &[u64],
     i: usize,
-    e: usize,
+    e: ElementNumber,
 ) -> Value
-    ensures { λ r. ⌜ r ≡ useIn (now (text .entry)) (now (elements .entry)) (now (items .entry)) (now (links .entry)) i e ⌝ }
+    ensures { λ r. ⌜ r ≡ useIn (now (text .entry)) (now (elements .entry)) (now (items .entry)) (now (links .entry)) i (e .0) ⌝ }
 {
     let language = names::language(text, elements, e);
-    let link = lent_tables::word_at(links, e);
+    let link = lent_tables::word_at(links, e.0);
     if language != 0 {
         if link != 0 {
             return Value::Without(states::LEANS);

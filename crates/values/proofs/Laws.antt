@@ -5,7 +5,8 @@ use native.Mathlib.Omega.{arith}
 use lib.IntN.{ℤ, pos, negsuc}
 use mir.Syntax.{w32}
 use mir.Val.{SFits}
-use Rattle.values.specs.Words.{wordOf, allWords, halves}
+use Rattle.places.specs.Places.{allWords}
+use Rattle.values.specs.Words.{wordOf, halves}
 use Rattle.values.specs.code.Used.{signedHalf, signedNumber}
 use Rattle.values.proofs.Steps.{half-low, half-high}
 

@@ -16,7 +16,8 @@ use Rattle.names.specs.Language.{name-integer, name-natural, name-positive, nam
 use Rattle.states.specs.States.{leans, unknown}
 use Rattle.values.specs.declared.Value.the-variants.{Without}
 use Rattle.values.specs.Values.{languageValue}
-use Rattle.values.specs.Words.{wordOf, allWords, halves, positives}
+use Rattle.places.specs.Places.{allWords}
+use Rattle.values.specs.Words.{wordOf, halves, positives}
 use Rattle.values.specs.code.Used.{signedHalf, signedNumber, usedConstant, usedSubtype, usedValue}
 
 -- ---- the language's names, and records that give nothing

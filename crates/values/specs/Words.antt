@@ -4,15 +4,13 @@ use Prim.Native.Nat.{ℕ, suc, _-_, _^_}
 use mathlib.Core.Bool.{Bool, true, false}
 use mathlib.Core.List.{List, [], _∷_}
 use lib.IntN.{ℤ, pos, negsuc}
+use Rattle.places.specs.Places.{allWords}
 use Rattle.integers.specs.Numbers.{integerKind, truthKind}
 use Rattle.states.specs.States.{leans}
 use Rattle.values.specs.declared.Value.{Value}
 use Rattle.values.specs.declared.Value.the-variants.{Number, Truth, Range, Truths, Without}
 
--- how many words of 64 bits there are, how many numbers of 32, and of these those that are not negative
-abbrev pub allWords : ℕ
-allWords = 2 ^ 64
-
+-- how many numbers of 32 bits there are, and of these those that are not negative
 abbrev pub halves : ℕ
 halves = 2 ^ 32
 

@@ -12,10 +12,11 @@ use lib.ListN.{length, getD, drop}
 use Rattle.laws.proofs.Laws.{clash}
 use Rattle.forms.specs.Tree.{Row}
 use Rattle.forms.specs.Words.{rowNumbers, rowsIn}
-use Rattle.forms.specs.Labels.{label, EachLeads, LabelsLead}
+use Rattle.form_numbers.specs.Forms.{while-loop, bare-loop, next-statement, exit-statement, null-statement, label, guard, block-is}
+use Rattle.forms.specs.Labels.{EachLeads, LabelsLead}
 use Rattle.verdict.specs.declared.Verdict.{Verdict}
 use Rattle.verdict.specs.declared.Verdict.the-variants.{Passes, NotSupported}
-use Rattle.verdict.specs.Verdict.{IsRow, while-loop, bare-loop, guard, block-is, next-statement, exit-statement, null-statement, FormFails, while-loops, bare-loops, guards, block-is-words, LabelFails, on-next, on-exit, on-null, Unsupported, form, labelled, Judged, passes, names}
+use Rattle.verdict.specs.Verdict.{IsRow, FormFails, while-loops, bare-loops, guards, block-is-words, LabelFails, on-next, on-exit, on-null, Unsupported, form, labelled, Judged, passes, names}
 use Rattle.verdict.specs.code.Judging.{unsupported, verdictFrom, formsIn, verdictOf}
 use Rattle.verdict.specs.code.Promises.{rowsHad, JudgedExactly, OneVerdict}
 

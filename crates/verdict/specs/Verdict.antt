@@ -3,8 +3,9 @@
 use Prim.Native.Nat.{ℕ, zero, suc, _<_}
 use mathlib.Core.Path.{_≡_}
 use mathlib.Core.List.{List, [], _∷_}
+use Rattle.form_numbers.specs.Forms.{while-loop, bare-loop, next-statement, exit-statement, null-statement, label, guard, block-is}
 use Rattle.forms.specs.Tree.{Row}
-use Rattle.forms.specs.Labels.{label, Leads}
+use Rattle.forms.specs.Labels.{Leads}
 use Rattle.verdict.specs.declared.Verdict.{Verdict}
 use Rattle.verdict.specs.declared.Verdict.the-variants.{Passes, NotSupported}
 
@@ -13,28 +14,6 @@ abbrev pub IsRow : List Row → ℕ → Row → Type 0
 IsRow [] j r = ⊥
 IsRow (x ∷ l) zero r = x ≡ r
 IsRow (x ∷ l) (suc j) r = IsRow l j r
-
--- the forms that 01's verdict names: loops by a condition or by nothing, a guard, the word is of a block; next, exit and null
-abbrev pub while-loop : ℕ
-while-loop = 19
-
-abbrev pub bare-loop : ℕ
-bare-loop = 20
-
-abbrev pub guard : ℕ
-guard = 32
-
-abbrev pub block-is : ℕ
-block-is = 33
-
-abbrev pub next-statement : ℕ
-next-statement = 21
-
-abbrev pub exit-statement : ℕ
-exit-statement = 22
-
-abbrev pub null-statement : ℕ
-null-statement = 23
 
 -- "not supported are forms 19, 20, 32, 33"
 pub data FormFails : ℕ → Type 0 where

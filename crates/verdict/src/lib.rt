@@ -1,27 +1,16 @@
 // The synthesis verdict on a tree: passes, or the first row that is not supported.
+use form_numbers::BARE_LOOP;
+use form_numbers::BLOCK_IS;
+use form_numbers::EXIT;
+use form_numbers::GUARD;
+use form_numbers::LABEL;
+use form_numbers::NEXT;
+use form_numbers::NULL;
+use form_numbers::ROW_NUMBERS;
+use form_numbers::WHILE_LOOP;
 ghost use mathlib.Core.Path.{_≡_};
 ghost use Prim.Native.Nat.{_+_, _/_, _<_, _*_};
 ghost use Rattle.verdict.specs.code.Judging.{unsupported, verdictOf};
-
-// "A row has five numbers".
-const ROW_NUMBERS: usize = 5;
-
-// 01's numbers of the forms that its verdict names.
-const WHILE_LOOP: u64 = 19;
-
-const BARE_LOOP: u64 = 20;
-
-const NEXT: u64 = 21;
-
-const EXIT: u64 = 22;
-
-const NULL: u64 = 23;
-
-const LABEL: u64 = 30;
-
-const GUARD: u64 = 32;
-
-const BLOCK_IS: u64 = 33;
 
 pub enum Verdict {
     Passes,

@@ -13,7 +13,7 @@ use lib.Dec.{eqb}
 use lib.ListN.{length, take, drop, getD, drop-of-length-le}
 use lib.Seq.{drop-cons, drop-drop, drop-append-seam}
 use Rattle.laws.proofs.Laws.{both-left, both-right}
-use Rattle.classes.specs.Bytes.{within, isLetter, lower}
+use Rattle.classes.specs.Bytes.{between, isLetter, lower}
 use Rattle.classes.proofs.Laws.{part-rest, by-test, within-low, within-high, not-upper, not-lower}
 use Rattle.words.specs.Words.{delimiters, bytesOf, begins, spells, placeFrom}
 use Rattle.words.specs.code.Packed.{searched, byteFrom}
@@ -111,7 +111,7 @@ place-none : (k : ℕ) (w : List ℕ) → placeFrom k w [] ≡ Nowhere
 unfolding placeFrom
 place-none k w = refl
 
--- a place is within the list
+-- a place is between the list
 pub place-below : (xs : List String) (k n : ℕ) (w : List ℕ) → placeFrom k w xs ≡ At n → n < k + length xs
 unfolding placeFrom
 place-below [] k n w e = let z : _≡_ {A = ℕ} 0 1 = cc in absurd (omega arith)
@@ -138,7 +138,7 @@ module _ (b : ℕ) (t : List ℕ) (i k : ℕ) (whole : Place) (v : byteFrom (k +
 -- what is no letter is spelled by itself alone
 lower-plain : (b x : ℕ) → isLetter x ≡ false → eqb (lower b) x ≡ eqb x b
 unfolding lower
-lower-plain b x p = by-test (λ (n : ℕ). eqb n x ≡ eqb x b) (within 65 90 b) (λ e. upper (within-low 65 90 b e) (within-high 65 90 b e)) (λ _. swap (eqb x b) refl)
+lower-plain b x p = by-test (λ (n : ℕ). eqb n x ≡ eqb x b) (between 65 90 b) (λ e. upper (within-low 65 90 b e) (within-high 65 90 b e)) (λ _. swap (eqb x b) refl)
   where
     upper : 65 ≤ b → b ≤ 90 → eqb (b + 32) x ≡ eqb x b
     upper l h = ne-eqb (b + 32) x (λ z. not-lower x p (omega arith) (omega arith)) ∙ sym (ne-eqb x b (λ z. not-upper x p (omega arith) (omega arith)))

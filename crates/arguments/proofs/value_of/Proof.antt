@@ -1,7 +1,7 @@
 -- The invariant: the number so far, with the digits that are left, is the whole's. Assumes nothing.
 use borrow.Author.Needs.{needs}
 use Rattle.arguments.proofs.Laws.{value-empty, value-some, value-broken, value-more, value-end}
-use Rattle.arguments.specs.Arguments.{valueFrom, valueOf}
+use Rattle.arguments.specs.Arguments.{valueFrom, amountOf}
 use lib.ListN.{length, drop}
 use native.Mathlib.Omega.{arith}
 use Prim.Native.Nat.{_-_, _≤_}
@@ -10,7 +10,7 @@ use Rattle.arguments.proofs.value_of.Statement.{statement}
 use Rattle.arguments.proofs.value_of.Tie as tie
 
 abbrev Inv-loop : tie.InvT-loop
-Inv-loop s most v₀ i₀ v i = (v ≤ most) × (valueFrom most v (drop i s) ≡ valueOf most s)
+Inv-loop s most v₀ i₀ v i = (v ≤ most) × (valueFrom most v (drop i s) ≡ amountOf most s)
 
 abbrev μ-loop : tie.MeasureT-loop
 μ-loop s most v₀ i₀ v i = length s - i

@@ -2,7 +2,7 @@
 use Rattle.classes.proofs.Laws.{turn-on, turn-stop, turn-end}
 use mathlib.Core.Path.{_≡_}
 use borrow.Author.Needs.{needs}
-use Rattle.classes.specs.Runs.{count, goesOn, run}
+use Rattle.classes.specs.Runs.{countWhile, goesOn, run}
 use lib.ListN.{length, drop}
 use native.Mathlib.Omega.{arith}
 use Prim.Native.Nat.{_+_, _-_, _≤_}
@@ -11,7 +11,7 @@ use Rattle.classes.proofs.run_length.Statement.{statement}
 use Rattle.classes.proofs.run_length.Tie as tie
 
 abbrev Inv-loop : tie.InvT-loop
-Inv-loop c s i₀ i = (i ≤ length s) × (i + count (goesOn c) (drop i s) ≡ count (goesOn c) s)
+Inv-loop c s i₀ i = (i ≤ length s) × (i + countWhile (goesOn c) (drop i s) ≡ countWhile (goesOn c) s)
 
 abbrev μ-loop : tie.MeasureT-loop
 μ-loop c s i₀ i = length s - i

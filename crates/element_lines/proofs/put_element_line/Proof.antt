@@ -47,8 +47,8 @@ returns-2 : tie.Need-returns-2
 returns-2 c = search head-element
 
 -- src/lib.rt:78:24
-sub-put-element : tie.Need-sub-put-element
-sub-put-element c = search needs
+sub-before : tie.Need-sub-before
+sub-before c = search needs
 
 -- src/lib.rt:78:5
 put-element-requires : tie.Need-put-element-requires
@@ -75,7 +75,7 @@ put-element-line-spec =
     put-head-requires
     same-length-2
     returns-2
-    sub-put-element
+    sub-before
     put-element-requires
     same-length-3
     returns-3)

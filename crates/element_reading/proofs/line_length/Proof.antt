@@ -3,7 +3,7 @@ use borrow.Author.Needs.{needs}
 use Rattle.element_reading.proofs.Turns.{end-found, end-further}
 use Rattle.element_reading.specs.code.Lines.{inLine}
 use Rattle.classes.proofs.Laws.{turn-end}
-use Rattle.classes.specs.Runs.{count}
+use Rattle.classes.specs.Runs.{countWhile}
 use lib.ListN.{length, drop}
 use native.Mathlib.Omega.{arith}
 use Prim.Native.Nat.{_+_, _-_, _≤_}
@@ -12,7 +12,7 @@ use Rattle.element_reading.proofs.line_length.Statement.{statement}
 use Rattle.element_reading.proofs.line_length.Tie as tie
 
 abbrev Inv-loop : tie.InvT-loop
-Inv-loop s i₀ i = (i ≤ length s) × (i + count inLine (drop i s) ≡ count inLine s)
+Inv-loop s i₀ i = (i ≤ length s) × (i + countWhile inLine (drop i s) ≡ countWhile inLine s)
 
 abbrev μ-loop : tie.MeasureT-loop
 μ-loop s i₀ i = length s - i

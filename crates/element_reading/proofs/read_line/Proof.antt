@@ -14,14 +14,14 @@ use Rattle.element_reading.proofs.read_line.Statement.{statement}
 use Rattle.element_reading.proofs.read_line.Tie as tie
 
 abbrev Inv-loop : tie.InvT-loop
-Inv-loop l at t₀ before i₀ n₀ ticks₀ t i n ticks = (i ≤ length l)
-    × (n ≤ at + i)
-    × (n + length (lineRows 0 (at + i) ticks (drop i l)) ≡ before + length (lineRows 0 at false l))
+Inv-loop l t₀ from first i₀ n₀ ticks₀ t i n ticks = (i ≤ length l)
+    × (n ≤ from + i)
+    × (n + length (lineRows 0 (from + i) ticks (drop i l)) ≡ first + length (lineRows 0 from false l))
     × (length t ≡ length t₀)
-    × (puts t n (lineRows 0 (at + i) ticks (drop i l)) ≡ puts t₀ before (lineRows 0 at false l))
+    × (puts t n (lineRows 0 (from + i) ticks (drop i l)) ≡ puts t₀ first (lineRows 0 from false l))
 
 abbrev μ-loop : tie.MeasureT-loop
-μ-loop l at t₀ before i₀ n₀ ticks₀ t i n ticks = length l - i
+μ-loop l t₀ from first i₀ n₀ ticks₀ t i n ticks = length l - i
 
 loop-holds : tie.Need-loop-holds Inv-loop μ-loop
 loop-holds c = (omega arith, omega arith, rw add-zero, refl, rw add-zero)
@@ -56,8 +56,8 @@ enum-known-kind c = search needs
 kind-number-requires : tie.Need-kind-number-requires Inv-loop μ-loop
 kind-number-requires c κs = search needs
 
-add-t22 : tie.Need-add-t22 Inv-loop μ-loop
-add-t22 c = search needs
+add-t24 : tie.Need-add-t24 Inv-loop μ-loop
+add-t24 c = search needs
 
 put-row-requires : tie.Need-put-row-requires Inv-loop μ-loop
 put-row-requires c κs = search needs
@@ -100,7 +100,7 @@ read-line-spec =
     loop-again
     enum-known-kind
     kind-number-requires
-    add-t22
+    add-t24
     put-row-requires
     ticks-after-requires
     add-n

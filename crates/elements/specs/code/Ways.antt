@@ -18,51 +18,51 @@ use Rattle.numbers.specs.declared.Number.the-variants.{Integer, Real, Neither}
 use Rattle.quoted.specs.Quoted.{closed}
 use Rattle.quoted.specs.declared.Closed.{Closed}
 use Rattle.quoted.specs.declared.Closed.the-variants.{After, Never}
-use Rattle.elements.specs.Element.{unreadable, string, apostrophe, delimiterBy, spoilsNumber}
+use Rattle.elements.specs.Element.{unreadable, string, apostrophe, longDelimiter, delimiterBy, spoilsNumber}
 use Rattle.elements.specs.declared.Kind.{Kind}
 use Rattle.elements.specs.declared.Literal.{Literal}
 use Rattle.elements.specs.declared.Opens.{Opens}
-use Rattle.elements.specs.declared.Found.{Found}
-use Rattle.elements.specs.declared.Found.the-variants.{Skip, Element}
+use Rattle.elements.specs.declared.Front.{Front}
+use Rattle.elements.specs.declared.Front.the-variants.{Skip, Element}
 
 -- an identifier or a reserved word, and the byte after it
-unfoldable pub nameAt : List ℕ → Found
+unfoldable pub nameAt : List ℕ → Front
 nameAt s = cond (eqb (getD s (run Word s) 0) byte.quote) (unreadable s) (Element Kind.Identifier (run Word s))
 
-abbrev pub wordBy : Place → List ℕ → Found
+abbrev pub wordBy : Place → List ℕ → Front
 wordBy (At n) s = Element (Kind.Reserved n) (run Word s)
 wordBy Nowhere s = nameAt s
 
-unfoldable pub wordAt : List ℕ → Found
+unfoldable pub wordAt : List ℕ → Front
 wordAt s = cond (eqb (getD s (run Word s) 0) byte.underscore) (unreadable s) (wordBy (placeIn (take (run Word s) s) reservedWords) s)
 
 -- an extended identifier, and the byte after it
-abbrev pub extendedFrom : Closed → List ℕ → Found
+abbrev pub extendedFrom : Closed → List ℕ → Front
 extendedFrom (After n) s =
     cond (eqb n 1 || eqb (getD s (n + 1) 0) byte.underscore || eqb (getD s (n + 1) 0) byte.quote) (unreadable s) (Element Kind.Extended (n + 1))
 extendedFrom Never s = unreadable s
 
-unfoldable pub extendedAt : List ℕ → Found
+unfoldable pub extendedAt : List ℕ → Front
 extendedAt s = extendedFrom (closed byte.backslash (drop 1 s)) s
 
 -- a number, and the byte after it
-abbrev pub numeralFrom : Number → List ℕ → Found
+abbrev pub numeralFrom : Number → List ℕ → Front
 numeralFrom (Integer n) s = cond (spoilsNumber (getD s n 0)) (unreadable s) (Element (Kind.Literal Literal.Integer) n)
 numeralFrom (Real n) s = cond (spoilsNumber (getD s n 0)) (unreadable s) (Element (Kind.Literal Literal.Real) n)
 numeralFrom Neither s = unreadable s
 
-unfoldable pub numeralAt : List ℕ → Found
+unfoldable pub numeralAt : List ℕ → Front
 numeralAt s = numeralFrom (number s) s
 
 -- a delimiter of one byte, or of two
-unfoldable pub singleAt : List ℕ → Found
+unfoldable pub singleAt : List ℕ → Front
 singleAt s = delimiterBy (placeIn (take 1 s) delimiters) 1 (unreadable s)
 
-unfoldable pub delimiterAt : List ℕ → Found
-delimiterAt s = cond (ltb (length s) 2) (singleAt s) (delimiterBy (placeIn (take 2 s) delimiters) 2 (singleAt s))
+unfoldable pub delimiterAt : List ℕ → Front
+delimiterAt s = cond (ltb (length s) longDelimiter) (singleAt s) (delimiterBy (placeIn (take longDelimiter s) delimiters) longDelimiter (singleAt s))
 
 -- a comment, a form left out, or a delimiter
-unfoldable pub otherAt : List ℕ → Found
+unfoldable pub otherAt : List ℕ → Front
 otherAt s =
     cond (eqb (getD s 0 0) byte.hyphen && eqb (getD s 1 0) byte.hyphen) (Skip (length s))
     (cond (eqb (getD s 0 0) byte.slash && eqb (getD s 1 0) byte.star) (unreadable s)
@@ -79,7 +79,7 @@ opensOf b =
     (cond (eqb b byte.apostrophe) Opens.Apostrophe
     Opens.Other)))))
 
-abbrev pub openedBy : Opens → Bool → List ℕ → Found
+abbrev pub openedBy : Opens → Bool → List ℕ → Front
 openedBy Opens.Separator ticks s = Skip 1
 openedBy Opens.Letter ticks s = wordAt s
 openedBy Opens.Digit ticks s = numeralAt s
@@ -88,5 +88,5 @@ openedBy Opens.Backslash ticks s = extendedAt s
 openedBy Opens.Apostrophe ticks s = apostrophe ticks s
 openedBy Opens.Other ticks s = otherAt s
 
-unfoldable pub foundAt : Bool → List ℕ → Found
+unfoldable pub foundAt : Bool → List ℕ → Front
 foundAt ticks s = openedBy (opensOf (getD s 0 0)) ticks s

@@ -28,8 +28,8 @@ returns-2 c = search past-table
 returns-3 : tie.Need-returns-3
 returns-3 c = search past-piece
 
-add-result : tie.Need-add-result
-add-result c = search needs
+add-e : tie.Need-add-e
+add-e c = search needs
 
 returns-4 : tie.Need-returns-4
 returns-4 c = search in-piece
@@ -45,5 +45,5 @@ element-in-spec =
     sub-if2
     returns-2
     returns-3
-    add-result
+    add-e
     returns-4)

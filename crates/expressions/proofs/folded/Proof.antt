@@ -1,7 +1,7 @@
 -- The outcome, settled. Assumes nothing.
 use mathlib.Core.Path.{ap, _∙_}
 use borrow.Author.Needs.{needs}
-use Rattle.folding.specs.Outcomes.{settledOf}
+use Rattle.folding.specs.code.Outcomes.{settledOf}
 use Rattle.expressions.specs.Folds.{foldedOf}
 use Rattle.expressions.proofs.folded.Statement.{statement}
 use Rattle.expressions.proofs.folded.Tie as tie

@@ -10,7 +10,7 @@ use Rattle.integers.specs.declared.Kind.{Kind}
 use Rattle.folding.specs.declared.Sort.{Sort}
 use Rattle.folding.specs.declared.Sort.the-variants.{Of, Wrong}
 use Rattle.folding.specs.declared.Outcome.{Outcome}
-use Rattle.operands.specs.Leaves.{wrongLeaf}
+use Rattle.operands.specs.code.Leaves.{wrongLeaf}
 use Rattle.values.specs.Words.{wordOf, truthWord}
 use Rattle.values.specs.code.Used.{signedNumber}
 use Rattle.states.specs.States as state
@@ -55,12 +55,19 @@ foldedBy kind w = cond (eqb kind integerKind) (Whole (signedNumber w)) (cond (eq
 abbrev pub outcomeWords : ℕ
 outcomeWords = 3
 
+-- which of them are the kind of the folded answer, and the answer
+abbrev pub kindPlace : ℕ
+kindPlace = 1
+
+abbrev pub answerPlace : ℕ
+answerPlace = 2
+
 -- the outcome stored for row k
 unfoldable pub unpacked : List ℕ → ℕ → Outcome
 unpacked outs k =
     record {
       sort = sortBy (getD outs (outcomeWords * k) 0);
-      folded = foldedBy (getD outs (outcomeWords * k + 1) 0) (getD outs (outcomeWords * k + 2) 0);
+      folded = foldedBy (getD outs (outcomeWords * k + kindPlace) 0) (getD outs (outcomeWords * k + answerPlace) 0);
     }
 
 -- of n rows; a row past the last has no operand

@@ -2,7 +2,7 @@
 -- for the end of the text. In it stands the rule's number and one more, or 0. Assumes nothing: the LL(1) test is computed.
 use Prim.Native.Nat.{ℕ}
 use mathlib.Core.List.{List, [], _∷_}
-use Rattle.grammars.specs.Grammar.{predictBy}
+use Rattle.grammars.specs.code.Grammar.{predictBy}
 
 -- the table
 abbrev pub picks : List (List ℕ)

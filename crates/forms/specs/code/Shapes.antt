@@ -2,8 +2,8 @@
 -- same pattern. Assumes nothing: these are definitions.
 use Prim.Native.Nat.{ℕ}
 use mathlib.Core.List.{List, [], _∷_}
-use Rattle.grammars.specs.Grammar.{Sym}
-use Rattle.forms.specs.Kinds.{numberOf}
+use Rattle.grammars.specs.code.Grammar.{Sym}
+use Rattle.forms.specs.code.Kinds.{numberOf}
 use Rattle.forms.specs.Lines.{Pattern, one, sort}
 
 abbrev pub kindsOf : List Sym → List ℕ

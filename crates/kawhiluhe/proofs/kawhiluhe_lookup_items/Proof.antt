@@ -40,7 +40,7 @@ use denote.Triple.Walked.{says, Stays, stay-none-slice, walkOf, goes-none-slice,
 use denote.Exit.{yes}
 use Rattle.lookup.specs.Lookup.{foundOf}
 use Rattle.lookup.specs.Finds.{Finds}
-use Rattle.lookup.specs.Structs.{wordsOf}
+use Rattle.lookup.specs.Structs.{structWords}
 use Rattle.lookup.specs.declared.Item.{Item}
 use Rattle.lookup.specs.declared.Found.{Found}
 use Rattle.lookup.proofs.Promises.{found-exactly}
@@ -97,7 +97,7 @@ module _ {M : Type 1} (𝓤 : URA M) (H : Heap 𝓤) (A : Atoms 𝓤) (W : Given
 
   -- what the search finds, and the answer
   abbrev sought : Found
-  sought = foundOf (x₁ .now) (x₂ .now) (x₃ .now) (wordsOf (x₄ .now))
+  sought = foundOf (x₁ .now) (x₂ .now) (x₃ .now) (structWords (x₄ .now))
 
   abbrev answer : ℕ
   answer = foundNumber sought n
@@ -157,7 +157,7 @@ module _ {M : Type 1} (𝓤 : URA M) (H : Heap 𝓤) (A : Atoms 𝓤) (W : Given
   goes-search = qed W (Tok ∷ ‵ Owns ∷ []) ∵ join ! $ frame ! $ done !
 
   abbrev Sought : Found → Type 0
-  Sought r = Finds (x₁ .now) (x₂ .now) (x₃ .now) (wordsOf (x₄ .now)) r
+  Sought r = Finds (x₁ .now) (x₂ .now) (x₃ .now) (structWords (x₄ .now)) r
 
   said-search : (r : Found) → ent 𝓤 (ensured 𝓤 H A search.ended (search.clauses 𝓤 H A mem run) (κ, tt) args tt r) (fact 𝓤 (Sought r))
   said-search r = exE 𝓤 _ (λ ws. snd∗ 𝓤 (sem 𝓤 H A (lasts search.ended (κ, tt) args ws)) (fact 𝓤 (Sought r)))
@@ -231,7 +231,7 @@ module _ {M : Type 1} (𝓤 : URA M) (H : Heap 𝓤) (A : Atoms 𝓤) (W : Given
         returns ! (look ! 19 refl) $ forget ! 5 refl $ forget ! 7 refl $ forget ! 9 refl $ forget ! 11 refl $ forget ! 13 refl $ forget ! 15 refl $ forget ! 17 refl $ forget ! 19 refl $
         move ! (19 ∷ 20 ∷ []) $ free1 ! $ move ! (17 ∷ 18 ∷ []) $ free1 ! $ move ! (15 ∷ 16 ∷ []) $ free1 ! $ move ! (13 ∷ 14 ∷ []) $ free1 ! $ move ! (11 ∷ 12 ∷ []) $ free1 ! $
         move ! (9 ∷ 10 ∷ []) $ free1 ! $ move ! (7 ∷ 8 ∷ []) $ free1 ! $ move ! (5 ∷ 6 ∷ []) $ free1 ! $ free0 ! $
-        by ! (exits m v′ (e₂ ∙ ap (λ (x : Found). foundNumber x n) (found-exactly (x₁ .now) (x₂ .now) (x₃ .now) (wordsOf (x₄ .now)) r .0 e₁)) is′)))))))))
+        by ! (exits m v′ (e₂ ∙ ap (λ (x : Found). foundNumber x n) (found-exactly (x₁ .now) (x₂ .now) (x₃ .now) (structWords (x₄ .now)) r .0 e₁)) is′)))))))))
 
   walk : (𝓣 : Tables 𝓤 H) (fm : FmC 𝓤 H (W .laws) (𝓣 .C)) (known-search : Triple 𝓤 (𝓣 .C #lookup·lookup-items) (Search 𝓤 H A mem run)) (known-numbered : Triple 𝓤 (𝓣 .C #kawhiluhe·found-number) (Numbered 𝓤 H A mem run))
       → Room u8 (length (x₁ .now)) → Room u64 (length (x₂ .now)) → Room u8 (length (x₃ .now)) → Room R n

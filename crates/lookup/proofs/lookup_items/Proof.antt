@@ -50,7 +50,7 @@ use denote.Triple.Table.{entered, cited}
 use denote.Triple.Walked.{says, Stays, stay-none-slice, walkOf, goes-none-slice, ends-at, walked, walk-meets}
 use denote.Exit.{yes}
 use Rattle.lookup.specs.Lookup.{claimsName, foundFrom, foundOf}
-use Rattle.lookup.specs.Structs.{noItem, claimsBy, wordsOf}
+use Rattle.lookup.specs.Structs.{noItem, claimsBy, structWords}
 use Rattle.lookup.specs.declared.Item.{Item}
 use Rattle.lookup.specs.declared.Found.{Found}
 use Rattle.lookup.specs.declared.Found.the-variants.{At, Nothing}
@@ -124,10 +124,10 @@ module _ {M : Type 1} (𝓤 : URA M) (H : Heap 𝓤) (A : Atoms 𝓤) (W : Given
 
   -- the first record that claims, of m from the i-th on; and the answer
   abbrev onward : ℕ → ℕ → Found
-  onward i m = foundFrom (claimsName (x₁ .now) (x₂ .now) (x₃ .now) (wordsOf ys)) i m
+  onward i m = foundFrom (claimsName (x₁ .now) (x₂ .now) (x₃ .now) (structWords ys)) i m
 
   abbrev answer : Found
-  answer = foundOf (x₁ .now) (x₂ .now) (x₃ .now) (wordsOf ys)
+  answer = foundOf (x₁ .now) (x₂ .now) (x₃ .now) (structWords ys)
 
   abbrev p : Item → Bool
   p = claimsBy (x₁ .now) (x₂ .now) (x₃ .now)
@@ -172,7 +172,7 @@ module _ {M : Type 1} (𝓤 : URA M) (H : Heap 𝓤) (A : Atoms 𝓤) (W : Given
   exits : (r : Found) (v : Val) → r ≡ answer → Is FR r (v ∷ []) → ent 𝓤 (⋆ 𝓤 H A (Tok ∷ ‵ O₁ ∷ ‵ O₂ ∷ ‵ O₃ ∷ ‵ O₄ ∷ [])) (Post v)
   exits r v e is =
       qed W (Tok ∷ ‵ O₁ ∷ ‵ O₂ ∷ ‵ O₃ ∷ ‵ O₄ ∷ []) ∵
-      suffices ! _ (ends-at 𝓤 H A lookup.ended stayed (lookup.clauses 𝓤 H A mem run) W (((κ, tt), (q, tt), tt, args, at), tt) v r (tt, (tt, (tt, (tt, tt)))) (tt, (tt, (tt, (tt, tt))))) $ says ! (found-exactly (x₁ .now) (x₂ .now) (x₃ .now) (wordsOf ys) r .1 e) $ frame ! $
+      suffices ! _ (ends-at 𝓤 H A lookup.ended stayed (lookup.clauses 𝓤 H A mem run) W (((κ, tt), (q, tt), tt, args, at), tt) v r (tt, (tt, (tt, (tt, tt)))) (tt, (tt, (tt, (tt, tt))))) $ says ! (found-exactly (x₁ .now) (x₂ .now) (x₃ .now) (structWords ys) r .1 e) $ frame ! $
       nothing ! $ move ! (4 ∷ 0 ∷ []) $ fjoin ! $ move ! (3 ∷ 0 ∷ []) $ fjoin ! $ move ! (2 ∷ 0 ∷ []) $ fjoin ! $ move ! (1 ∷ 0 ∷ []) $ fjoin ! $ frame ! $
       owned ! FR (Is FR) (EL.makes F.the-type F′.the-plain 𝓤 H A) r _ is $ done !
 

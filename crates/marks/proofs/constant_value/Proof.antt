@@ -5,7 +5,7 @@ use mir.Val.{SFits}
 use mir.ValLaws.{toZ-ofZ}
 use borrow.Author.Needs.{needs}
 use Rattle.values.specs.declared.Value.the-variants.{Number, Truth, Range, Truths, Without}
-use Rattle.marks.specs.Marks.{valueIn}
+use Rattle.marks.specs.code.Marks.{valueIn}
 use Rattle.marks.proofs.Steps.{no-number, no-truth, constant-by}
 use Rattle.marks.proofs.constant_value.Tie as tie
 use Rattle.marks.proofs.constant_value.Statement.{statement}

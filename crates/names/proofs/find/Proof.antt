@@ -7,7 +7,7 @@ use Rattle.names.proofs.find.Statement.{statement}
 use Rattle.names.proofs.find.Tie as tie
 
 abbrev Inv-loop : tie.InvT-loop
-Inv-loop text elements items heads next e h₀ h = Searching text elements items e h
+Inv-loop text elements items heads next e h₀ h = Searching text elements items (e .0) h
 
 abbrev μ-loop : tie.MeasureT-loop
 μ-loop text elements items heads next e h₀ h = leftOf (recordsIn items) h

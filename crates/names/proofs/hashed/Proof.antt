@@ -7,10 +7,10 @@ use Rattle.names.proofs.hashed.Statement.{statement}
 use Rattle.names.proofs.hashed.Tie as tie
 
 abbrev Inv-loop : tie.InvT-loop
-Inv-loop text from n basic h₀ i₀ h i = (i ≤ n) × (h < hashes) × Hashing basic text from n i h
+Inv-loop text n basic from h₀ i₀ h i = (i ≤ n) × (h < hashes) × Hashing basic text from n i h
 
 abbrev μ-loop : tie.MeasureT-loop
-μ-loop text from n basic h₀ i₀ h i = n - i
+μ-loop text n basic from h₀ i₀ h i = n - i
 
 loop-holds : tie.Need-loop-holds Inv-loop μ-loop
 loop-holds c = (search needs, search needs, hash-start _ _ _ _)

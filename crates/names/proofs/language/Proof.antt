@@ -1,6 +1,7 @@
 -- By the kind and the length. Assumes nothing.
 use Rattle.names.proofs.Speaking.{language-other, language-four, language-five, language-seven, language-eight, language-none}
 use borrow.Author.Needs.{needs}
+use Rattle.words.specs.Words.{bytesOf}
 use Rattle.names.proofs.language.Statement.{statement}
 use Rattle.names.proofs.language.Tie as tie
 
@@ -35,15 +36,18 @@ told-requires-3 : tie.Need-told-requires-3
 told-requires-3 c κs = search needs
 
 returns-2 : tie.Need-returns-2
+unfolding bytesOf
 returns-2 c = search language-four
 
 returns-3 : tie.Need-returns-3
+unfolding bytesOf
 returns-3 c = search language-five
 
 returns-4 : tie.Need-returns-4
 returns-4 c = search language-seven
 
 returns-5 : tie.Need-returns-5
+unfolding bytesOf
 returns-5 c = search language-eight
 
 returns-6 : tie.Need-returns-6

@@ -32,8 +32,8 @@ own-links-requires c κs =
     let start = at-least .before .before .before .before .before .before .before in
     (records-most (start .args .items .now) _ (at-least .least .ensures), chained-all _ _ (at-least .least .ensures) _ _ _ (at-chain-names .chain-names .ensures), refl, still-filled _ _ _ _ (at-write-links .write-links .ensures))
 
-mark-twins-requires : tie.Need-mark-twins-requires
-mark-twins-requires c κs =
+find-twins-requires : tie.Need-find-twins-requires
+find-twins-requires c κs =
     let at-own-links = c .before .before in
     let at-least = at-own-links .before .before .before .before .before .before .before .before .before .before .before .before .before .before .before .before in
     let start = at-least .before .before .before .before .before .before .before in
@@ -61,8 +61,8 @@ returns : tie.Need-returns
 returns c =
     let at-write-words2 = c .before .before in
     let at-write-words = at-write-words2 .before .before .before .before .before in
-    let at-mark-twins = at-write-words .before .before .before in
-    let at-own-links = at-mark-twins .before .before .before in
+    let at-find-twins = at-write-words .before .before .before in
+    let at-own-links = at-find-twins .before .before .before in
     let at-write-links = at-own-links .before .before .before .before .before .before .before in
     let at-least2 = at-write-links .before .before .before .before in
     let at-rows-in = at-least2 .before in
@@ -71,7 +71,7 @@ returns c =
     let s = start .args in
     let n = at-least .least in
     let w = at-own-links .own-links in
-    let m = at-mark-twins .mark-twins in (
+    let m = at-find-twins .find-twins in (
       answer-whole (s .items .now) _ (n .ensures) _ _ (w .last .1 .1 .1 .1 .1 .1 .1 .1 .0) (w .ensures) _ _ (m .ensures),
       (
         links-whole _ (s .elements .now) _ _ _ _ _ _ (at-rows-in .rows-in .ensures) (at-least2 .least2 .ensures) (at-write-links .write-links .ensures),
@@ -92,7 +92,7 @@ link-names-spec =
     least-requires-2
     write-links-requires
     own-links-requires
-    mark-twins-requires
+    find-twins-requires
     write-words-requires
     write-words-requires-2
     same-length

@@ -1,6 +1,7 @@
 -- The three names, one after the other. Assumes nothing.
 use Rattle.names.proofs.Speaking.{seven-first, seven-second, seven-third}
 use borrow.Author.Needs.{needs}
+use Rattle.words.specs.Words.{bytesOf}
 use Rattle.names.proofs.seven.Statement.{statement}
 use Rattle.names.proofs.seven.Tie as tie
 
@@ -11,6 +12,7 @@ spelled-as-requires : tie.Need-spelled-as-requires
 spelled-as-requires c κs = search needs
 
 returns : tie.Need-returns
+unfolding bytesOf
 returns c = search seven-first
 
 slice-aggregate-spelled-as-2 : tie.Need-slice-aggregate-spelled-as-2
@@ -20,6 +22,7 @@ spelled-as-requires-2 : tie.Need-spelled-as-requires-2
 spelled-as-requires-2 c κs = search needs
 
 returns-2 : tie.Need-returns-2
+unfolding bytesOf
 returns-2 c = search seven-second
 
 slice-aggregate-told : tie.Need-slice-aggregate-told
@@ -29,6 +32,7 @@ told-requires : tie.Need-told-requires
 told-requires c κs = search needs
 
 returns-3 : tie.Need-returns-3
+unfolding bytesOf
 returns-3 c = search seven-third
 
 pub seven-spec : {M : Type 1} → statement M

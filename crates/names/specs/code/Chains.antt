@@ -7,7 +7,7 @@ use mathlib.Core.List.{List}
 use lib.Dec.{eqb}
 use lib.ListN.{getD}
 use Rattle.same_names.specs.Alike.{counts}
-use Rattle.places.specs.Places.{cellAt, within}
+use Rattle.places.specs.Places.{kindColumn, firstColumn, sizeColumn, cellAt, within}
 use Rattle.records.specs.Records.{wordAt, isClaim}
 use Rattle.pieces.specs.Columns as column
 use Rattle.places.specs.Kinds.{identifier}
@@ -43,7 +43,7 @@ chainOf h = h / perChain
 -- which chain element e's name is of
 unfoldable pub bucketOf : List ℕ → List ℕ → ℕ → ℕ
 bucketOf s table e =
-    cond (within s (cellAt table e 1) (cellAt table e 2)) (chainOf (hashFrom (eqb (cellAt table e 0) identifier) s (cellAt table e 1) (cellAt table e 2) 0)) 0
+    cond (within s (cellAt table e firstColumn) (cellAt table e sizeColumn)) (chainOf (hashFrom (eqb (cellAt table e kindColumn) identifier) s (cellAt table e firstColumn) (cellAt table e sizeColumn) 0)) 0
 
 -- record j claims a name of chain b
 unfoldable pub inBucket : List ℕ → List ℕ → List ℕ → ℕ → ℕ → Bool
@@ -67,11 +67,11 @@ pub record Twin (own : List ℕ) (n i : ℕ) : Type 0 where
 abbrev pub First : List ℕ → ℕ → Type 0
 First own n = (i f : ℕ) → i < n → getD own i 0 ≡ suc f → (f < n) × (getD own f 0 ≡ suc f)
 
--- the marks when the first i of n records were looked at
-pub record Marking (own : List ℕ) (n i : ℕ) (marks : List ℕ) (any : Bool) : Type 0 where
-  pub small : (k : ℕ) → getD marks k 0 ≤ 1
-  pub sound : (k : ℕ) → getD marks k 0 ≡ 1 → Twin own n k
-  pub complete : (k f : ℕ) → k < i → getD own k 0 ≡ suc f → (k ≡ f → ⊥) → (getD marks k 0 ≡ 1) × (getD marks f 0 ≡ 1) × (any ≡ true)
+-- the flags when the first i of n records were looked at
+pub record Flagging (own : List ℕ) (n i : ℕ) (flags : List ℕ) (any : Bool) : Type 0 where
+  pub small : (k : ℕ) → getD flags k 0 ≤ 1
+  pub sound : (k : ℕ) → getD flags k 0 ≡ 1 → Twin own n k
+  pub complete : (k f : ℕ) → k < i → getD own k 0 ≡ suc f → (k ≡ f → ⊥) → (getD flags k 0 ≡ 1) × (getD flags f 0 ≡ 1) × (any ≡ true)
   pub some : any ≡ true → (k : ℕ) × Twin own n k
 
 -- a name of the language is told by its length first: the number of one of seven letters

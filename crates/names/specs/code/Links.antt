@@ -12,7 +12,7 @@ use Rattle.pieces.specs.Columns.{recordWords}
 use Rattle.pieces.specs.Columns as column
 use Rattle.records.specs.Records.{wordAt, isClaim}
 use Rattle.records.specs.Tallies.{oneIf}
-use Rattle.names.specs.Names.{share}
+use Rattle.names.specs.code.Names.{share}
 
 -- how many records there are, "a survey at most 1,024 pieces"
 unfoldable pub recordsIn : List ℕ → ℕ

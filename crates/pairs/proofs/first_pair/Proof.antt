@@ -6,7 +6,7 @@ use mathlib.Core.Path.{_≡_, refl, sym, ap, _∙_}
 use mathlib.Core.Logic.{⊎-elim}
 use Prim.Native.Nat.{_+_, _-_, _≤_, _<_}
 use lib.ListN.{length, getD}
-use Rattle.pairs.specs.Pairs.{sameNumber, laterOf, pairFrom, pairOf}
+use Rattle.pairs.specs.code.Pairs.{sameNumber, laterOf, pairFrom, pairOf}
 use Rattle.pairs.specs.declared.Pair.the-variants.{Both}
 use Rattle.pairs.proofs.first_pair.Statement.{statement}
 use Rattle.pairs.proofs.first_pair.Tie as tie

@@ -1,5 +1,5 @@
 -- After `end` and perhaps `package`. Assumes nothing.
-use Rattle.pieces.proofs.Marks.{behind-two, behind-one}
+use Rattle.pieces.proofs.Classing.{behind-two, behind-one}
 use borrow.Author.Needs.{needs}
 use Rattle.pieces.proofs.behind_word.Statement.{statement}
 use Rattle.pieces.proofs.behind_word.Tie as tie

@@ -1,5 +1,5 @@
 -- The three tests of a closing. Assumes nothing.
-use Rattle.pieces.proofs.Marks.{ends-at}
+use Rattle.pieces.proofs.Classing.{ends-at}
 use borrow.Author.Needs.{needs}
 use Rattle.pieces.proofs.closes_with.Statement.{statement}
 use Rattle.pieces.proofs.closes_with.Tie as tie

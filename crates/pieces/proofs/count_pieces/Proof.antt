@@ -4,13 +4,13 @@ use Rattle.pieces.proofs.Laws.{size-inside, at-fits, at-less, count-bou
 use Prim.Native.Nat.{_-_, _≤_, _+_}
 use mathlib.Core.Path.{_≡_}
 use lib.ListN.{length, drop}
-use Rattle.pieces.specs.Kinds.{piecesOf}
+use Rattle.pieces.specs.Kinds.{kindPieces}
 use Rattle.places.specs.Places.{kindsOf}
 use Rattle.pieces.proofs.count_pieces.Statement.{statement}
 use Rattle.pieces.proofs.count_pieces.Tie as tie
 
 abbrev Inv-loop : tie.InvT-loop
-Inv-loop elements n at₀ c₀ at c = (at ≤ n) × ((c ≤ at) × (c + length (piecesOf (drop at (kindsOf n elements))) ≡ length (piecesOf (kindsOf n elements))))
+Inv-loop elements n at₀ c₀ at c = (at ≤ n) × ((c ≤ at) × (c + length (kindPieces (drop at (kindsOf n elements))) ≡ length (kindPieces (kindsOf n elements))))
 
 abbrev μ-loop : tie.MeasureT-loop
 μ-loop elements n at₀ c₀ at c = n - at

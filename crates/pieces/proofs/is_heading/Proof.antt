@@ -1,5 +1,5 @@
 -- The four tests of a heading. Assumes nothing.
-use Rattle.pieces.proofs.Marks.{heading-other, heading-is}
+use Rattle.pieces.proofs.Classing.{heading-other, heading-is}
 use borrow.Author.Needs.{needs}
 use Rattle.pieces.proofs.is_heading.Statement.{statement}
 use Rattle.pieces.proofs.is_heading.Tie as tie

@@ -1,5 +1,5 @@
 -- A row's kind, or 0 past the piece. Assumes nothing.
-use Rattle.pieces.proofs.Marks.{piece-kind, piece-past}
+use Rattle.pieces.proofs.Classing.{piece-kind, piece-past}
 use borrow.Author.Needs.{needs}
 use Rattle.pieces.proofs.kind_in.Statement.{statement}
 use Rattle.pieces.proofs.kind_in.Tie as tie

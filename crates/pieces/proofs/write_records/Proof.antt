@@ -8,14 +8,14 @@ use Prim.Native.Nat.{_-_, _≤_, _+_, _*_}
 use mathlib.Core.Path.{_≡_, refl}
 use lib.ListN.{length, drop}
 use lib.Seq.{sets}
-use Rattle.pieces.specs.Kinds.{piecesOf}
+use Rattle.pieces.specs.Kinds.{kindPieces}
 use Rattle.places.specs.Places.{kindsOf}
 use Rattle.pieces.specs.Records.{pendingRecords}
 use Rattle.pieces.proofs.write_records.Statement.{statement}
 use Rattle.pieces.proofs.write_records.Tie as tie
 
 abbrev Inv-loop : tie.InvT-loop
-Inv-loop elements n items₀ at₀ w₀ items at w = (at ≤ n) × (w + recordWords * length (piecesOf (drop at (kindsOf n elements))) ≤ length items) × (length items ≡ length items₀) × (sets items w (pendingRecords at (piecesOf (drop at (kindsOf n elements)))) ≡ sets items₀ 0 (pendingRecords 0 (piecesOf (kindsOf n elements))))
+Inv-loop elements n items₀ at₀ w₀ items at w = (at ≤ n) × (w + recordWords * length (kindPieces (drop at (kindsOf n elements))) ≤ length items) × (length items ≡ length items₀) × (sets items w (pendingRecords at (kindPieces (drop at (kindsOf n elements)))) ≡ sets items₀ 0 (pendingRecords 0 (kindPieces (kindsOf n elements))))
 
 abbrev μ-loop : tie.MeasureT-loop
 μ-loop elements n items₀ at₀ w₀ items at w = n - at
@@ -26,8 +26,8 @@ loop-holds c = (search needs, omega arith, refl, refl)
 size-at-requires : tie.Need-size-at-requires Inv-loop μ-loop
 size-at-requires c κs = search needs
 
-mark-piece-requires : tie.Need-mark-piece-requires Inv-loop μ-loop
-mark-piece-requires c κs = (search needs, search size-inside)
+piece-class-requires : tie.Need-piece-class-requires Inv-loop μ-loop
+piece-class-requires c κs = (search needs, search size-inside)
 
 write-record-requires : tie.Need-write-record-requires Inv-loop μ-loop
 write-record-requires c κs = (search room-here, search place-fits)
@@ -58,7 +58,7 @@ write-records-spec =
     μ-loop
     loop-holds
     size-at-requires
-    mark-piece-requires
+    piece-class-requires
     write-record-requires
     add-at
     add-w

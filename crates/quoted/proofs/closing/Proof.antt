@@ -9,25 +9,25 @@ use Rattle.quoted.proofs.closing.Statement.{statement}
 use Rattle.quoted.proofs.closing.Tie as tie
 
 abbrev Inv-loop : tie.InvT-loop
-Inv-loop mark s n₀ n = closedFrom mark n (drop n s) ≡ closedFrom mark 0 s
+Inv-loop quote s n₀ n = closedFrom quote n (drop n s) ≡ closedFrom quote 0 s
 
 abbrev μ-loop : tie.MeasureT-loop
-μ-loop mark s n₀ n = length s - n
+μ-loop quote s n₀ n = length s - n
 
 loop-holds : tie.Need-loop-holds Inv-loop μ-loop
 loop-holds c = refl
 
-sub-mark-at : tie.Need-sub-mark-at Inv-loop μ-loop
-sub-mark-at c = search needs
+sub-next-at : tie.Need-sub-next-at Inv-loop μ-loop
+sub-next-at c = search needs
 
-part-mark-at-start : tie.Need-part-mark-at-start Inv-loop μ-loop
-part-mark-at-start c = search needs
+part-next-at-start : tie.Need-part-next-at-start Inv-loop μ-loop
+part-next-at-start c = search needs
 
-part-mark-at-end : tie.Need-part-mark-at-end Inv-loop μ-loop
-part-mark-at-end c = search needs
+part-next-at-end : tie.Need-part-next-at-end Inv-loop μ-loop
+part-next-at-end c = search needs
 
-mark-at-requires : tie.Need-mark-at-requires Inv-loop μ-loop
-mark-at-requires c κs = search needs
+next-at-requires : tie.Need-next-at-requires Inv-loop μ-loop
+next-at-requires c κs = search needs
 
 enum-told : tie.Need-enum-told Inv-loop μ-loop
 enum-told c = search needs
@@ -78,10 +78,10 @@ closing-spec =
     Inv-loop
     μ-loop
     loop-holds
-    sub-mark-at
-    part-mark-at-start
-    part-mark-at-end
-    mark-at-requires
+    sub-next-at
+    part-next-at-start
+    part-next-at-end
+    next-at-requires
     enum-told
     add-n
     loop-less

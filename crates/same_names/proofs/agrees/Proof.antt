@@ -7,13 +7,13 @@ use Rattle.same_names.proofs.agrees.Statement.{statement}
 use Rattle.same_names.proofs.agrees.Tie as tie
 
 abbrev Inv-loop : tie.InvT-loop
-Inv-loop s x y n basic i₀ i = (i ≤ n) × Same basic s x y n i
+Inv-loop s n basic a b i₀ i = (i ≤ n) × Same basic s a b n i
 
 abbrev μ-loop : tie.MeasureT-loop
-μ-loop s x y n basic i₀ i = n - i
+μ-loop s n basic a b i₀ i = n - i
 
 loop-holds : tie.Need-loop-holds Inv-loop μ-loop
-loop-holds c = (omega arith, agree-start (c .before .args .basic) (c .before .args .s .now) (c .before .args .x) (c .before .args .y) (c .before .args .n))
+loop-holds c = (omega arith, agree-start (c .before .args .basic) (c .before .args .s .now) (c .before .args .x .0) (c .before .args .y .0) (c .before .args .n))
 
 add-counted : tie.Need-add-counted Inv-loop μ-loop
 add-counted c = omega arith
@@ -40,7 +40,7 @@ returns c =
     let at-loop-test = at-counted .before .before in
     let at-loop = at-loop-test .before in
     let start = at-loop .before .before in
-    agree-not (start .args .basic) (start .args .s .now) (start .args .x) (start .args .y) (start .args .n) (at-loop .loop .i) _ _ (at-loop .loop .inv .1) (at-loop-test .loop-test .taken) (at-counted .counted .ensures) (at-counted2 .counted2 .ensures) (c .if1 .taken)
+    agree-not (start .args .basic) (start .args .s .now) (start .args .x .0) (start .args .y .0) (start .args .n) (at-loop .loop .i) _ _ (at-loop .loop .inv .1) (at-loop-test .loop-test .taken) (at-counted .counted .ensures) (at-counted2 .counted2 .ensures) (c .if1 .taken)
 
 add-i : tie.Need-add-i Inv-loop μ-loop
 add-i c = omega arith
@@ -55,13 +55,13 @@ loop-again c =
     let at-loop-test = at-counted .before .before in
     let at-loop = at-loop-test .before in
     let start = at-loop .before .before in
-    (omega arith, agree-more (start .args .basic) (start .args .s .now) (start .args .x) (start .args .y) (start .args .n) (at-loop .loop .i) _ _ (at-loop .loop .inv .1) (at-loop-test .loop-test .taken) (at-counted .counted .ensures) (at-counted2 .counted2 .ensures) (c .if1 .left))
+    (omega arith, agree-more (start .args .basic) (start .args .s .now) (start .args .x .0) (start .args .y .0) (start .args .n) (at-loop .loop .i) _ _ (at-loop .loop .inv .1) (at-loop-test .loop-test .taken) (at-counted .counted .ensures) (at-counted2 .counted2 .ensures) (c .if1 .left))
 
 returns-2 : tie.Need-returns-2 Inv-loop μ-loop
 returns-2 c =
     let at-loop = c .before in
     let start = at-loop .before .before in
-    agree-end (start .args .basic) (start .args .s .now) (start .args .x) (start .args .y) (start .args .n) (at-loop .loop .i) (at-loop .loop .inv .1) (omega arith)
+    agree-end (start .args .basic) (start .args .s .now) (start .args .x .0) (start .args .y .0) (start .args .n) (at-loop .loop .i) (at-loop .loop .inv .1) (omega arith)
 
 pub agrees-spec : {M : Type 1} → statement M
 agrees-spec =

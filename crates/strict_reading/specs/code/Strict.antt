@@ -5,13 +5,14 @@ use mathlib.Core.Bool.{true, false}
 use mathlib.Core.List.{List, [], _∷_}
 use lib.Dec.{eqb}
 use lib.ListN.{length, replicate}
+use Rattle.places.specs.Kinds.{unreadable}
 use Rattle.places.specs.Places.{kindsOf}
 use Rattle.element_reading.specs.Reading.{readingOf}
 use Rattle.element_reading.specs.Reading as elements
 use Rattle.element_reading.specs.declared.Reading.{Reading}
 use Rattle.element_reading.specs.declared.Reading.the-variants as R
-use Rattle.tree.specs.Answers.{elementsIn, readingIn, answerOf}
-use Rattle.tree.specs.Answers as trees
+use Rattle.tree.specs.code.Answers.{elementsIn, readingIn, answerOf}
+use Rattle.tree.specs.code.Answers as trees
 use Rattle.tree.specs.declared.Answer.{Answer}
 use Rattle.tree.specs.declared.Answer.the-variants as A
 use Rattle.verdict.specs.code.Judging.{verdictOf}
@@ -21,10 +22,10 @@ use Rattle.refusals.specs.declared.StrictRefusal.the-variants as S
 use Rattle.strict_reading.specs.declared.Strict.{Strict}
 use Rattle.strict_reading.specs.declared.Strict.the-variants.{Read, Refused}
 
--- 2: "an unreadable element, the first": of elements of these kinds, the first of which is number i; 7 is the kind
+-- 2: "an unreadable element, the first": of elements of these kinds, the first of which is number i
 unfoldable pub unreadableFrom : ℕ → List ℕ → Unread
 unreadableFrom i [] = U.Nothing
-unreadableFrom i (k ∷ ks) = elim (eqb k 7) [ true ↦ U.At i | false ↦ unreadableFrom (suc i) ks ]
+unreadableFrom i (k ∷ ks) = elim (eqb k unreadable) [ true ↦ U.At i | false ↦ unreadableFrom (suc i) ks ]
 
 -- the words of a tree table of so many words, once n elements of an element table were read as a file
 unfoldable pub treeTable : List ℕ → List ℕ → ℕ → ℕ → List ℕ

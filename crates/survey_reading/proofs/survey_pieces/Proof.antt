@@ -1,4 +1,4 @@
--- Marked, too many, or too many for the table. Assumes nothing.
+-- Recorded, too many, or too many for the table. Assumes nothing.
 use borrow.Author.Needs.{needs}
 use Rattle.survey_reading.proofs.survey_pieces.Statement.{statement}
 use Rattle.survey_reading.proofs.survey_pieces.Tie as tie
@@ -7,12 +7,12 @@ use Rattle.survey_reading.proofs.survey_pieces.Lts as lts
 use Rattle.lent_tables.proofs.clear.Reads as clear-reads
 use Rattle.survey_reading.proofs.refused.Reads as refused-reads
 use Rattle.survey_reading.proofs.survey_items.Reads as survey-items-reads
-use Rattle.pieces.proofs.mark_pieces.Reads as mark-pieces-reads
+use Rattle.pieces.proofs.record_pieces.Reads as record-pieces-reads
 use Rattle.survey_reading.proofs.Laws.{way-done, way-many, way-short}
 use lib.ListN.{length}
 
-mark-pieces-requires : tie.Need-mark-pieces-requires
-mark-pieces-requires c κs = search needs
+record-pieces-requires : tie.Need-record-pieces-requires
+record-pieces-requires c κs = search needs
 
 enum-known-n : tie.Need-enum-known-n
 enum-known-n c = search needs
@@ -50,7 +50,7 @@ returns c = let v = c .before .before in
     let k = m .before .before .before .before in
     let s = k .before .before .before .before .before .before in
     let a = s .args in
-    way-done (a .text .now) (a .elements .now) _ (a .count) (length (a .items .now)) _ (k .mark-pieces .ensures .0) (k .mark-pieces .ensures .1) _ _ _ (m .n .given .1) (v .survey-items .ensures .0) (v .survey-items .ensures .1)
+    way-done (a .text .now) (a .elements .now) _ (a .count) (length (a .items .now)) _ (k .record-pieces .ensures .0) (k .record-pieces .ensures .1) _ _ _ (m .n .given .1) (v .survey-items .ensures .0) (v .survey-items .ensures .1)
 
 same-length-3 : tie.Need-same-length-3
 same-length-3 c = search needs
@@ -63,7 +63,7 @@ returns-2 c = let m = c .before .before .before .before .before in
     let k = m .before .before .before .before in
     let s = k .before .before .before .before .before .before in
     let a = s .args in
-    way-many (a .text .now) (a .elements .now) _ (a .count) (length (a .items .now)) _ (k .mark-pieces .ensures .0) (k .mark-pieces .ensures .1) _ _ (m .enum-told .given .1) (c .before .before .before .clear .ensures) (c .refused .ensures)
+    way-many (a .text .now) (a .elements .now) _ (a .count) (length (a .items .now)) _ (k .record-pieces .ensures .0) (k .record-pieces .ensures .1) _ _ (m .enum-told .given .1) (c .before .before .before .clear .ensures) (c .refused .ensures)
 
 same-length-5 : tie.Need-same-length-5
 same-length-5 c = search needs
@@ -76,13 +76,13 @@ returns-3 c = let m = c .before .before .before .before .before .before in
     let k = m .before .before .before .before in
     let s = k .before .before .before .before .before .before in
     let a = s .args in
-    way-short (a .text .now) (a .elements .now) _ (a .count) (length (a .items .now)) _ (k .mark-pieces .ensures .0) (k .mark-pieces .ensures .1) _ _ _ (m .rows .given .1) (c .before .before .before .clear2 .ensures) (c .refused2 .ensures)
+    way-short (a .text .now) (a .elements .now) _ (a .count) (length (a .items .now)) _ (k .record-pieces .ensures .0) (k .record-pieces .ensures .1) _ _ _ (m .rows .given .1) (c .before .before .before .clear2 .ensures) (c .refused2 .ensures)
 
 pub survey-pieces-spec : {M : Type 1} → statement M
 survey-pieces-spec =
     tie.close
     (tie.spec
-    mark-pieces-requires
+    record-pieces-requires
     enum-known-n
     survey-items-requires
     enum-told

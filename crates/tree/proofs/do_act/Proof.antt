@@ -29,9 +29,6 @@ returns c =
     let start = at-if1 .before .before .before .before .before .before .before in
     λ s h d. subst (λ (x : Did). acts.After (start .args .frames .now) (start .args .cells .now) (start .args .next .now) (start .args .heads .now) (start .args .fp) (start .args .used) (start .args .depth) (start .args .k) (sameName (start .args .text .now) (start .args .elements .now)) s h d x (at-open-frame .open-frame .last .1 .0) (start .args .cells .now) (start .args .next .now) (start .args .heads .now) (start .args .a)) (sym (c .went .ensures)) (acts.act-opens (start .args .frames .now) (start .args .cells .now) (start .args .next .now) (start .args .heads .now) (start .args .fp) (start .args .used) (start .args .depth) (start .args .k) (sameName (start .args .text .now) (start .args .elements .now)) s h d (start .args .a) (at-open-frame .open-frame .last .1 .0) (at-if1 .if1 .taken) (start .pre .0) (omega arith) (at-open-frame .open-frame .ensures))
 
-mul-if3 : tie.Need-mul-if3
-mul-if3 c = search needs
-
 add-if3 : tie.Need-add-if3
 add-if3 c = search needs
 
@@ -225,7 +222,6 @@ do-act-spec =
     went-requires
     same-length
     returns
-    mul-if3
     add-if3
     add-went
     went-requires-2

@@ -1,7 +1,7 @@
 -- `tree::next_kind` meets its contract. The next element by its row of the element table, 0 at the end. Assumes nothing.
 use mathlib.Core.Path.{_∙_}
 use native.Mathlib.Omega.{arith}
-use Rattle.forms.specs.Kinds.{numberOf, other}
+use Rattle.forms.specs.code.Kinds.{numberOf, other}
 use Rattle.form_table.proofs.Tables.{forms-size, kind-at, kind-past}
 use Rattle.tree.proofs.Lists.{terminals-at, terminals-end}
 use borrow.Author.Needs.{needs}

@@ -5,8 +5,8 @@ use Prim.Native.Nat.{_+_, _-_, _≤_}
 use mathlib.Core.Path.{_≡_, refl, _∙_, ap}
 use mathlib.Core.List.{_++_}
 use lib.ListN.{length, drop, length-set}
-use Rattle.forms.specs.Rules.{body}
-use Rattle.form_table.specs.Symbols.{symOf, syms}
+use Rattle.forms.specs.code.Rules.{body}
+use Rattle.form_table.specs.code.Symbols.{symOf, syms}
 use Rattle.form_table.proofs.Tables.{forms-size}
 use Rattle.form_table.proofs.Lines.{ruled, body-place, body-is}
 use Rattle.tree.proofs.Lists.{push-start, push-more, push-end}

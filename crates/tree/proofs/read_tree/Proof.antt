@@ -4,7 +4,7 @@ use mathlib.Core.Logic.{inl}
 use native.Mathlib.Omega.{arith}
 use lib.ListN.{length}
 use Rattle.tree.specs.code.Room.{stackWords, framesWords, mostRows, cellsWords}
-use Rattle.tree.specs.Answers.{readingIn, elementsIn}
+use Rattle.tree.specs.code.Answers.{readingIn, elementsIn}
 use Rattle.tree.proofs.Zeros.{zeros, zeros-size}
 use Rattle.tree.proofs.Final.{says-tree, says-short, says-unread, whole-asks, in-table, in-size, rooms, told}
 use borrow.Author.Needs.{needs}

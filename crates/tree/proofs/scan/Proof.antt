@@ -4,13 +4,13 @@ use mathlib.Core.Path.{_≡_, sym, _∙_, ap}
 use native.Mathlib.Omega.{arith}
 use borrow.Author.Needs.{needs}
 use lib.ListN.{length, getD, drop}
-use Rattle.forms.specs.Kinds.{kindCount}
+use Rattle.forms.specs.code.Kinds.{kindCount}
 use Rattle.forms.specs.code.Picks.{predict}
-use Rattle.form_table.specs.Symbols.{symOf, syms}
+use Rattle.form_table.specs.code.Symbols.{symOf, syms}
 use Rattle.same_names.specs.Alike.{sameName}
-use Rattle.forms.specs.Reading.{readingFrom}
+use Rattle.forms.specs.code.Reading.{readingFrom}
 use Rattle.tree.specs.code.Room.{stackWords, framesWords, mostRows, cellsWords}
-use Rattle.tree.specs.Answers.{terminalsOf}
+use Rattle.tree.specs.code.Answers.{terminalsOf}
 use Rattle.tree.proofs.Going as going
 use Rattle.tree.proofs.Going.{Going}
 use Rattle.tree.proofs.Lists.{kind-small}

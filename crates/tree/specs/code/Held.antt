@@ -10,17 +10,18 @@ use mathlib.Core.List.{List, [], _∷_, _++_}
 use lib.Dec.{leb}
 use lib.ListN.{length, getD, drop}
 use Rattle.places.specs.Sizes.{mostElements}
-use Rattle.grammars.specs.Actions.{Step, go, stop, End, read, bad, stopped, spent}
-use Rattle.forms.specs.Names.{file, constant, subtype}
+use Rattle.grammars.specs.code.Actions.{Step, go, stop, End, read, bad, stopped, spent}
+use Rattle.forms.specs.code.Names.{firstRow, file, constant, subtype}
 use Rattle.forms.specs.Words.{rowAt}
-use Rattle.forms.specs.Tree.{Row, Frame, State, Refusal, rowsOf}
-use Rattle.form_table.specs.Bytes.{encode}
+use Rattle.forms.specs.Tree.{Row}
+use Rattle.forms.specs.code.Frames.{Frame, State, Refusal, rowsOf}
+use Rattle.form_table.specs.code.Bytes.{encode}
 use Rattle.refusals.specs.declared.StrictRefusal.the-variants as refusal
 use Rattle.tree.specs.declared.Answer.{Answer}
 use Rattle.tree.specs.declared.Answer.the-variants.{Tree, Refused}
 use Rattle.tree.specs.declared.Did.{Did}
 use Rattle.tree.specs.declared.Did.the-variants.{Went, Stopped}
-use Rattle.tree.specs.Answers.{stoppedAt}
+use Rattle.tree.specs.code.Answers.{stoppedAt}
 use Rattle.tree.specs.code.Room.{frameWords}
 
 -- the list of rows that begins at h
@@ -57,7 +58,7 @@ pickUsed true u = u + 1
 pickUsed false u = u
 
 abbrev pub usedAfter : ℕ → ℕ → ℕ
-usedAfter a u = pickUsed (leb 7 a) u
+usedAfter a u = pickUsed (leb firstRow a) u
 
 -- what an action of the code did, when k elements were read, is what the action makes of the state
 abbrev pub Done : Did → List ℕ → List ℕ → List ℕ → List ℕ → (used k : ℕ) → Step State Refusal → Type 0

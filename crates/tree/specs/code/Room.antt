@@ -17,6 +17,16 @@ stackWords = bottom + 1
 abbrev pub frameWords : ℕ
 frameWords = 4
 
+-- which of them are its operator, its base and its name; the first is its first element
+abbrev pub frameOperator : ℕ
+frameOperator = 1
+
+abbrev pub frameBase : ℕ
+frameBase = 2
+
+abbrev pub frameName : ℕ
+frameName = 3
+
 abbrev pub outermost : ℕ
 outermost = frameWords * stackWords
 

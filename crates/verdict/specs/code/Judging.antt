@@ -5,9 +5,8 @@ use mathlib.Core.Bool.{Bool, _&&_, _||_, cond}
 use mathlib.Core.List.{List, [], _∷_}
 use lib.Dec.{eqb}
 use lib.ListN.{length, getD, drop}
-use Rattle.forms.specs.Labels.{label}
+use Rattle.form_numbers.specs.Forms.{while-loop, bare-loop, next-statement, exit-statement, null-statement, label, guard, block-is}
 use Rattle.forms.specs.Words.{rowNumbers}
-use Rattle.verdict.specs.Verdict.{while-loop, bare-loop, guard, block-is, next-statement, exit-statement, null-statement}
 use Rattle.verdict.specs.declared.Verdict.{Verdict}
 use Rattle.verdict.specs.declared.Verdict.the-variants.{Passes, NotSupported}
 

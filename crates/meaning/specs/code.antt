@@ -1,0 +1,2 @@
+pub mod PieceValues
+pub mod Promises
