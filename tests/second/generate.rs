@@ -2,8 +2,11 @@
 //! A stream depends on style and seed alone, and each case on its number too.
 
 mod elements;
+mod names;
+mod store;
 mod strict;
 mod survey;
+mod unstore;
 
 use crate::elements::{cut, MOST_ELEMENTS};
 use crate::forms::Forms;
@@ -112,6 +115,8 @@ pub fn cases(out: &mut impl Write, style: &str, seed: u64, count: usize) -> Resu
         "elements" => elements::case,
         "strict" => strict::case,
         "survey" => survey::case,
+        "store" => store::case,
+        "unstore" => unstore::case,
         _ => return Err(format!("unknown style {style}")),
     };
     for number in 0..count {
@@ -143,6 +148,11 @@ pub fn rows(chance: &mut Chance, needed: usize, most: usize, share: usize) -> us
 /// Rows for the element table of a text.
 pub fn element_rows(chance: &mut Chance, text: &[u8], share: usize) -> usize {
     rows(chance, cut(text).len(), MOST_ELEMENTS, share)
+}
+
+/// A text behind its room, as the modes have it that write bytes.
+pub fn with_room(room: usize, text: &[u8]) -> Vec<u8> {
+    [&(room as u32).to_be_bytes()[1..], text].concat()
 }
 
 /// One byte deleted, put in, replaced or doubled, or two neighbours swapped.

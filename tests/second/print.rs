@@ -2,6 +2,7 @@
 
 use crate::elements::{self, Element, Kind, Literal, Refusal};
 use crate::forms::Forms;
+use crate::stored::{self, Value};
 use crate::survey::{class, Record, Survey, TRUTH};
 use crate::{strict, survey, verdict};
 use std::io::Write;
@@ -159,6 +160,40 @@ pub fn records(
     }
 }
 
+/// `unstore`: the package, then a line for each item, from 0; names as stored, so as bytes.
+pub fn stored(out: &mut Vec<u8>, bytes: &[u8], item_rows: usize) {
+    match stored::read(bytes, item_rows) {
+        Err(refusal) => refused(out, refusal),
+        Ok(table) => {
+            out.extend_from_slice(b"package ");
+            out.extend_from_slice(&table.package);
+            line(out, format_args!(" items {}", table.items.len()));
+            for (number, item) in table.items.iter().enumerate() {
+                let word = match item.value {
+                    Value::Integer(_) | Value::Truth(_) => "constant",
+                    Value::Range { .. } | Value::Boolean => "subtype",
+                };
+                write!(out, "{number} {word} ").unwrap();
+                out.extend_from_slice(&item.name);
+                match item.value {
+                    Value::Integer(number) => line(out, format_args!(" value {number}")),
+                    Value::Truth(truth) => line(out, format_args!(" value {truth}")),
+                    Value::Range { low, high } => line(out, format_args!(" value {low} to {high}")),
+                    Value::Boolean => line(out, format_args!(" value false to true")),
+                }
+            }
+        }
+    }
+}
+
+/// Bytes as a line of a stream: two digits to each, base 16, letters in upper case.
+pub fn hexadecimal(out: &mut Vec<u8>, bytes: &[u8]) {
+    for byte in bytes {
+        write!(out, "{byte:02X}").unwrap();
+    }
+    out.push(b'\n');
+}
+
 fn yes(holds: bool) -> &'static str {
     if holds {
         "yes"
@@ -181,7 +216,7 @@ fn kind_word(element: &Element) -> &'static str {
     }
 }
 
-fn refused(out: &mut Vec<u8>, refusal: Refusal) {
+pub fn refused(out: &mut Vec<u8>, refusal: Refusal) {
     line(
         out,
         format_args!("refused {} at {}", refusal.number, refusal.place),

@@ -245,6 +245,11 @@ fn first_pair(claims: &Claims) -> Option<(usize, usize)> {
         .min()
 }
 
+/// Whether a name, basic ones in lower case, is claimed by the language already.
+pub fn is_language(key: &[u8]) -> bool {
+    language(key).is_some()
+}
+
 /// What the language's own names mean; integer begins at -2147483647.
 fn language(key: &[u8]) -> Option<Meaning> {
     let most = folding::MOST_SIZE;

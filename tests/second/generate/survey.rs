@@ -73,14 +73,14 @@ pub fn case(chance: &mut Chance, _: &Forms) -> Case {
     }
 }
 
-fn words(line: &str) -> Vec<Word> {
+pub fn words(line: &str) -> Vec<Word> {
     line.split(' ')
         .map(|word| word.as_bytes().to_vec())
         .collect()
 }
 
 /// Words without any order, of those that matter to a survey.
-fn soup(chance: &mut Chance) -> Vec<Word> {
+pub fn soup(chance: &mut Chance) -> Vec<Word> {
     let count = chance.below(60);
     let mut words = Vec::new();
     for _ in 0..count {
@@ -122,7 +122,7 @@ fn many_pieces(chance: &mut Chance) -> Vec<Word> {
 }
 
 /// The words of a package, line by line.
-fn package(chance: &mut Chance) -> Vec<Word> {
+pub fn package(chance: &mut Chance) -> Vec<Word> {
     let count = match chance.weigh(&[60, 35, 5]) {
         0 => chance.below(8),
         1 => chance.below(25),

@@ -1,0 +1,5 @@
+pub mod Rows
+pub mod Refusals
+pub mod Permitted
+pub mod Promises
+pub mod code
