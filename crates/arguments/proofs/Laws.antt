@@ -10,7 +10,7 @@ use lib.Dec.{eqb}
 use lib.ListN.{length, drop, getD, drop-of-length-le}
 use lib.Seq.{drop-cons}
 use Rattle.classes.specs.Bytes.{isDigit, digitValue}
-use Rattle.arguments.specs.Arguments.{valueFrom, amountOf, same}
+use Rattle.arguments.specs.Arguments.{valueFrom, amountOf, sameArgument}
 use Rattle.arguments.specs.declared.Amount.{Amount}
 use Rattle.arguments.specs.declared.Amount.the-variants.{Is, Nothing}
 
@@ -36,27 +36,27 @@ unfolding valueFrom
 value-end most s i v whole k h = rw (drop-of-length-le s h) at k
 
 -- two words: of other lengths, or byte by byte
-pub same-length : (a b : List ℕ) → (length a ≡ length b → ⊥) → false ≡ same a b
-unfolding same
+pub same-length : (a b : List ℕ) → (length a ≡ length b → ⊥) → false ≡ sameArgument a b
+unfolding sameArgument
 same-length [] [] n = absurd (n refl)
 same-length [] (x ∷ b) n = refl
 same-length (y ∷ a) [] n = refl
 same-length (y ∷ a) (x ∷ b) n = go (eqb y x) (same-length a b (λ e. n (ap suc e)))
   where
-    go : (z : Bool) → false ≡ same a b → false ≡ (z && same a b)
+    go : (z : Bool) → false ≡ sameArgument a b → false ≡ (z && sameArgument a b)
     go true h = h
     go false h = refl
 
-module _ (a b : List ℕ) (i : ℕ) (whole : Bool) (k : same (drop i a) (drop i b) ≡ whole) (l : length a ≡ length b) where
+module _ (a b : List ℕ) (i : ℕ) (whole : Bool) (k : sameArgument (drop i a) (drop i b) ≡ whole) (l : length a ≡ length b) where
   pub same-end : length a ≤ i → true ≡ whole
-  unfolding same
+  unfolding sameArgument
   same-end h = rw (drop-of-length-le a h, drop-of-length-le b {i = i} (omega arith)) at k
 
   module _ (h : i < length a) where
     pub same-not : (getD a i 0 ≡ getD b i 0 → ⊥) → false ≡ whole
-    unfolding same
+    unfolding sameArgument
     same-not n = rw (drop-cons a i 0 h, drop-cons b i 0 (omega arith), ne-eqb _ _ n) at k
 
-    pub same-more : getD a i 0 ≡ getD b i 0 → same (drop (i + 1) a) (drop (i + 1) b) ≡ whole
-    unfolding same
+    pub same-more : getD a i 0 ≡ getD b i 0 → sameArgument (drop (i + 1) a) (drop (i + 1) b) ≡ whole
+    unfolding sameArgument
     same-more e = rw add-one (rw (drop-cons a i 0 h, drop-cons b i 0 (omega arith), eq-eqb _ _ e) at k)

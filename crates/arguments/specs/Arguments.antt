@@ -17,8 +17,8 @@ unfoldable pub amountOf : ℕ → List ℕ → Amount
 amountOf most s = cond (eqb (length s) 0) Nothing (valueFrom most 0 s)
 
 -- the same bytes
-unfoldable pub same : List ℕ → List ℕ → Bool
-same [] [] = true
-same [] (x ∷ t) = false
-same (b ∷ s) [] = false
-same (b ∷ s) (x ∷ t) = eqb b x && same s t
+unfoldable pub sameArgument : List ℕ → List ℕ → Bool
+sameArgument [] [] = true
+sameArgument [] (x ∷ t) = false
+sameArgument (b ∷ s) [] = false
+sameArgument (b ∷ s) (x ∷ t) = eqb b x && sameArgument s t

@@ -2,7 +2,7 @@
 ghost use mathlib.Core.Path.{_≡_};
 ghost use Prim.Native.Nat.{_+_, _*_, _≤_, min};
 ghost use Rattle.classes.specs.Bytes.{ten, digitValue};
-ghost use Rattle.arguments.specs.Arguments.{amountOf, same};
+ghost use Rattle.arguments.specs.Arguments.{amountOf, sameArgument};
 
 pub enum Amount {
     Is(usize),
@@ -49,7 +49,7 @@ fn wide(b: u8) -> usize
 }
 
 pub fn same_bytes(a: &[u8], b: &[u8]) -> bool
-    ensures { λ r. ⌜ r ≡ same (now (a .entry)) (now (b .entry)) ⌝ }
+    ensures { λ r. ⌜ r ≡ sameArgument (now (a .entry)) (now (b .entry)) ⌝ }
 {
     if a.len() != b.len() {
         return false;

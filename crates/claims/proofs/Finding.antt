@@ -9,7 +9,7 @@ use borrow.Author.Tests.{le-leb}
 use lib.ListN.{length}
 use Rattle.laws.proofs.Laws.{clash}
 use Rattle.places.specs.Places.{cellAt}
-use Rattle.same_names.specs.Spelling.{spelledAs}
+use Rattle.same_names.specs.Alike.{spelledAs}
 use Rattle.element_reading.specs.Rows.{rowsOf}
 use Rattle.element_reading.proofs.Promises.{stand-in-order}
 use Rattle.records.specs.Records.{wordAt, isClaim}
@@ -17,9 +17,10 @@ use Rattle.lookup.specs.Lookup.{isNamed, claimsName, foundFrom}
 use Rattle.lookup.specs.declared.Found.{Found}
 use Rattle.lookup.specs.declared.Found.the-variants.{At, Nothing}
 use Rattle.operands.specs.code.Operands.{bytesAt}
-use Rattle.meaning.specs.Elements.{Piece, at, piecesOf}
+use Rattle.meaning.specs.Elements.{Piece, at}
+use Rattle.meaning.specs.Pieces.{piecesOf, classOf}
 use Rattle.meaning.proofs.Tables.{elementAt, cell-word, element-at, row-within}
-use Rattle.meaning.specs.Names.{classOf, ownName, Done}
+use Rattle.meaning.specs.Names.{ownName, Done}
 use Rattle.meaning.proofs.Records.{piecesDone}
 use Rattle.meaning.proofs.Places.{tableOf}
 use Rattle.meaning.proofs.Words.{pieceAt, itemTable}

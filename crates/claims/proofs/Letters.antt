@@ -10,8 +10,11 @@ use borrow.Author.Tests.{eqb-true}
 use lib.Dec.{eqb}
 use lib.ListN.{length, getD, take, drop}
 use lib.Seq.{getD-take, getD-drop}
-use Rattle.classes.specs.Bytes.{endsLine, separates, isLetter, isDigit, isGraphic}
+use Rattle.places.specs.Kinds.{identifierKind, extendedKind}
+use Rattle.classes.specs.Bytes.{isLetter, isDigit}
+use Rattle.classes.specs.Signs.{endsLine, separates, isGraphic}
 use Rattle.classes.specs.Bytes as bytes
+use Rattle.classes.specs.Signs as signs
 use Rattle.classes.specs.Runs.{run}
 use Rattle.classes.specs.declared.Run.the-variants.{Word}
 use Rattle.words.specs.Words.{placeIn, reservedWords, delimiters}
@@ -23,20 +26,20 @@ use Rattle.numbers.specs.declared.Number.the-variants as N
 use Rattle.quoted.specs.Quoted.{closed}
 use Rattle.quoted.specs.declared.Closed.{Closed}
 use Rattle.quoted.specs.declared.Closed.the-variants as Q
-use Rattle.elements.specs.Kinds.{kindNumber, ticksAfter}
-use Rattle.elements.specs.Element.{firstIs, firstAre, unreadable, identifierBy, identifier, extendedBy, extended, numeralBy, stringBy, string, apostrophe, delimiterBy, delimiter, ruled, spoils, unlessSpoilt, elementAt}
+use Rattle.elements.specs.Kinds.{kindNumber}
+use Rattle.elements.specs.Element.{firstIs, firstAre, unreadableFront, identifierBy, identifierFront, extendedBy, extendedFront, numeralBy, stringBy, stringFront, apostropheFront, delimiterBy, delimiterFront, ruled, spoils, unlessSpoilt, elementAt, ticksAfter}
 use Rattle.elements.specs.declared.Kind.{Kind}
 use Rattle.elements.specs.declared.Literal.{Literal}
 use Rattle.elements.specs.declared.Front.{Front}
 use Rattle.elements.specs.declared.Front.the-variants.{Skip, Element}
-use Rattle.element_reading.specs.Rows.{Row, onto, linesOf, lineRows, linesRows, rowsOf}
+use Rattle.element_reading.specs.Rows.{ElementRow, onto, linesOf, lineRows, linesRows, rowsOf}
 use Rattle.element_reading.specs.Promises.{InOrder}
 use Rattle.element_reading.proofs.TextLaws.{lines-ended, lines-byte}
 use Rattle.element_reading.proofs.Promises.{stand-in-order}
 use Rattle.pieces.specs.Cutting.{cut, joined}
-use Rattle.meaning.specs.Elements.{Piece, closes, opens, at, elementsOf, piecesOf}
+use Rattle.meaning.specs.Elements.{Piece, at}
+use Rattle.meaning.specs.Pieces.{cutsAfter, cutsBefore, elementsOf, piecesOf}
 use Rattle.meaning.specs.Elements as worded
-use Rattle.claims.specs.Claims.{identifierKind, extendedKind, backslash}
 
 -- ---- one element
 
@@ -57,28 +60,28 @@ fits-cond : (b : ℕ) (c : Bool) (x y : Front) → Fits b x → Fits b y → Fit
 fits-cond b true x y f g = f
 fits-cond b false x y f g = g
 
-fits-unreadable : (b : ℕ) (s : List ℕ) → Fits b (unreadable s)
-unfolding unreadable
+fits-unreadable : (b : ℕ) (s : List ℕ) → Fits b (unreadableFront s)
+unfolding unreadableFront
 fits-unreadable b s = tt
 
 fits-when : (b : ℕ) (c : Bool) (x y : Front) → (c ≡ true → Fits b x) → Fits b y → Fits b (cond c x y)
 fits-when b true x y f g = f refl
 fits-when b false x y f g = g
 
-fits-identifier : (b : ℕ) (s : List ℕ) → isLetter b ≡ true → Fits b (identifier s)
-unfolding identifier
+fits-identifier : (b : ℕ) (s : List ℕ) → isLetter b ≡ true → Fits b (identifierFront s)
+unfolding identifierFront
 fits-identifier b s h = go (placeIn (take (run Word s) s) reservedWords)
   where
     go : (p : Place) → Fits b (identifierBy p (run Word s))
     go (W.At n) = tt
     go W.Nowhere = h
 
-fits-extended : (b : ℕ) (s : List ℕ) → b ≡ bytes.backslash → Fits b (extended s)
-unfolding extended
-fits-extended b s h = go (closed bytes.backslash (drop 1 s))
+fits-extended : (b : ℕ) (s : List ℕ) → b ≡ signs.backslash → Fits b (extendedFront s)
+unfolding extendedFront
+fits-extended b s h = go (closed signs.backslash (drop 1 s))
   where
     go : (c : Closed) → Fits b (extendedBy c s)
-    go (Q.After n) = fits-cond b (eqb n 1) (unreadable s) (Element Kind.Extended (n + 1)) (fits-unreadable b s) h
+    go (Q.After n) = fits-cond b (eqb n 1) (unreadableFront s) (Element Kind.Extended (n + 1)) (fits-unreadable b s) h
     go Q.Never = fits-unreadable b s
 
 fits-numeral : (b : ℕ) (n : Number) (s : List ℕ) → Fits b (numeralBy n s)
@@ -86,28 +89,28 @@ fits-numeral b (N.Integer n) s = tt
 fits-numeral b (N.Real n) s = tt
 fits-numeral b N.Neither s = fits-unreadable b s
 
-fits-string : (b : ℕ) (s : List ℕ) → Fits b (string s)
-unfolding string
-fits-string b s = go (closed bytes.quote (drop 1 s))
+fits-string : (b : ℕ) (s : List ℕ) → Fits b (stringFront s)
+unfolding stringFront
+fits-string b s = go (closed signs.quote (drop 1 s))
   where
     go : (c : Closed) → Fits b (stringBy c s)
     go (Q.After n) = tt
     go Q.Never = fits-unreadable b s
 
-fits-apostrophe : (b : ℕ) (ticks : Bool) (s : List ℕ) → Fits b (apostrophe ticks s)
-unfolding apostrophe
+fits-apostrophe : (b : ℕ) (ticks : Bool) (s : List ℕ) → Fits b (apostropheFront ticks s)
+unfolding apostropheFront
 fits-apostrophe b ticks s =
-    fits-cond b (not ticks && eqb (getD s 2 0) bytes.apostrophe) _ _ (fits-cond b (isGraphic (getD s 1 0)) _ (unreadable s) tt (fits-unreadable b s)) tt
+    fits-cond b (not ticks && eqb (getD s 2 0) signs.apostrophe) _ _ (fits-cond b (isGraphic (getD s 1 0)) _ (unreadableFront s) tt (fits-unreadable b s)) tt
 
 fits-delimiter : (b : ℕ) (p : Place) (n : ℕ) (x : Front) → Fits b x → Fits b (delimiterBy p n x)
 fits-delimiter b (W.At k) n x h = tt
 fits-delimiter b W.Nowhere n x h = h
 
-fits-delimiters : (b : ℕ) (s : List ℕ) → Fits b (delimiter s)
-unfolding delimiter
+fits-delimiters : (b : ℕ) (s : List ℕ) → Fits b (delimiterFront s)
+unfolding delimiterFront
 fits-delimiters b s =
     fits-delimiter b (placeIn (take 2 s) delimiters) (length (take 2 s)) _
-    (fits-delimiter b (placeIn (take 1 s) delimiters) (length (take 1 s)) (unreadable s) (fits-unreadable b s))
+    (fits-delimiter b (placeIn (take 1 s) delimiters) (length (take 1 s)) (unreadableFront s) (fits-unreadable b s))
 
 -- by the rule that holds
 fits-ruled : (ticks : Bool) (s : List ℕ) → Fits (getD s 0 0) (ruled ticks s)
@@ -116,17 +119,17 @@ fits-ruled ticks s =
     let b : ℕ = getD s 0 0 in
     fits-cond b (separates b) (Skip 1) _ tt
     (fits-cond b (firstAre bytes.hyphen bytes.hyphen s) (Skip (length s)) _ tt
-    (fits-when b (isLetter b) (identifier s) _ (fits-identifier b s)
-    (fits-when b (firstIs bytes.backslash s) (extended s) _ (λ e. fits-extended b s (eqb-true b bytes.backslash e))
+    (fits-when b (isLetter b) (identifierFront s) _ (fits-identifier b s)
+    (fits-when b (firstIs signs.backslash s) (extendedFront s) _ (λ e. fits-extended b s (eqb-true b signs.backslash e))
     (fits-cond b (isDigit b) (numeralBy (number s) s) _ (fits-numeral b (number s) s)
-    (fits-cond b (firstIs bytes.quote s) (string s) _ (fits-string b s)
-    (fits-cond b (firstIs bytes.apostrophe s) (apostrophe ticks s) _ (fits-apostrophe b ticks s)
-    (fits-cond b (firstAre bytes.slash bytes.star s) (unreadable s) (delimiter s) (fits-unreadable b s)
+    (fits-cond b (firstIs signs.quote s) (stringFront s) _ (fits-string b s)
+    (fits-cond b (firstIs signs.apostrophe s) (apostropheFront ticks s) _ (fits-apostrophe b ticks s)
+    (fits-cond b (firstAre signs.slash signs.star s) (unreadableFront s) (delimiterFront s) (fits-unreadable b s)
     (fits-delimiters b s))))))))
 
 fits-unless : (b : ℕ) (s : List ℕ) (f : Front) → Fits b f → Fits b (unlessSpoilt s f)
 fits-unless b s (Skip n) h = tt
-fits-unless b s (Element k n) h = fits-cond b (spoils k (getD s n 0)) (unreadable s) (Element k n) (fits-unreadable b s) h
+fits-unless b s (Element k n) h = fits-cond b (spoils k (getD s n 0)) (unreadableFront s) (Element k n) (fits-unreadable b s) h
 
 fits : (ticks : Bool) (s : List ℕ) → Fits (getD s 0 0) (elementAt ticks s)
 unfolding elementAt
@@ -135,18 +138,18 @@ fits ticks s = fits-unless (getD s 0 0) s (ruled ticks s) (fits-ruled ticks s)
 -- ---- the rows of a text
 
 -- rows that begin at the byte `from` or after it, where the text goes on with these bytes
-abbrev Begun : ℕ → List ℕ → List Row → Type 0
+abbrev Begun : ℕ → List ℕ → List ElementRow → Type 0
 Begun from s [] = Unit {0}
 Begun from s (r ∷ rs) = (from ≤ r .first) × Begins (r .kind) (getD s (r .first - from) 0) × Begun from s rs
 
-begun-next : (from b : ℕ) (s : List ℕ) (rs : List Row) → Begun (suc from) s rs → Begun from (b ∷ s) rs
+begun-next : (from b : ℕ) (s : List ℕ) (rs : List ElementRow) → Begun (suc from) s rs → Begun from (b ∷ s) rs
 begun-next from b s [] h = tt
 begun-next from b s (r ∷ rs) h =
     let z : r .first - from ≡ suc (r .first - suc from) = omega (arith, h .0) in
     (omega (arith, h .0), subst (λ (i : ℕ). Begins (r .kind) (getD (b ∷ s) i 0)) (sym z) (h .1), begun-next from b s rs (h .2))
 
 -- the rows of lines, the first of which is the rest of one
-abbrev restRows : ℕ → ℕ → Bool → List (List ℕ) → List Row
+abbrev restRows : ℕ → ℕ → Bool → List (List ℕ) → List ElementRow
 restRows k from ticks [] = []
 restRows k from ticks (l ∷ ls) = lineRows k from ticks l ++ linesRows (suc (from + length l)) ls
 
@@ -193,7 +196,7 @@ begun-lines (b ∷ s) k from ticks = go (endsLine b) refl (lines-first s) (λ k 
         → Begun from (b ∷ s) (restRows k from ticks (linesOf (b ∷ s)))
     go true e (l, ls, f) ih =
         subst (λ m. Begun from (b ∷ s) (restRows k from ticks m)) (sym (lines-ended b s e ∙ ap (λ (m : List (List ℕ)). [] ∷ m) f))
-        (subst (λ (rs : List Row). Begun from (b ∷ s) rs) (sym (ended k (l ∷ ls))) (begun-next from b s (linesRows (suc from) (l ∷ ls)) (subst (λ m. Begun (suc from) s (restRows 0 (suc from) false m)) f (ih 0 false))))
+        (subst (λ (rs : List ElementRow). Begun from (b ∷ s) rs) (sym (ended k (l ∷ ls))) (begun-next from b s (linesRows (suc from) (l ∷ ls)) (subst (λ m. Begun (suc from) s (restRows 0 (suc from) false m)) f (ih 0 false))))
     go false e (l, ls, f) ih =
         subst (λ m. Begun from (b ∷ s) (restRows k from ticks m)) (sym (lines-byte b s e ∙ ap (onto b) f))
         (byte b s l ls k from ticks (λ k ticks. subst (λ m. Begun (suc from) s (restRows k (suc from) ticks m)) f (ih k ticks)))
@@ -209,7 +212,7 @@ begun-rows s = go (lines-first s) (begun-lines s 0 0 false)
 
 -- an element that is a name begins as its kind says
 abbrev pub Named : worded.Element → Type 0
-Named x = (x .kind ≡ identifierKind → isLetter (getD (x .bytes) 0 0) ≡ true) × (x .kind ≡ extendedKind → getD (x .bytes) 0 0 ≡ backslash)
+Named x = (x .kind ≡ identifierKind → isLetter (getD (x .bytes) 0 0) ≡ true) × (x .kind ≡ extendedKind → getD (x .bytes) 0 0 ≡ signs.backslash)
 
 abbrev AllNamed : Piece → Type 0
 AllNamed [] = Unit {0}
@@ -219,7 +222,7 @@ abbrev EachNamed : List Piece → Type 0
 EachNamed [] = Unit {0}
 EachNamed (p ∷ ps) = AllNamed p × EachNamed ps
 
-by-kind : (k : Kind) (b : ℕ) → Begins k b → (kindNumber k ≡ identifierKind → isLetter b ≡ true) × (kindNumber k ≡ extendedKind → b ≡ backslash)
+by-kind : (k : Kind) (b : ℕ) → Begins k b → (kindNumber k ≡ identifierKind → isLetter b ≡ true) × (kindNumber k ≡ extendedKind → b ≡ signs.backslash)
 by-kind Kind.Identifier b h = ((λ e. h), λ e. absurd (omega arith))
 by-kind Kind.Extended b h = ((λ e. absurd (omega arith)), λ e. h)
 by-kind (Kind.Literal Literal.Integer) b h = ((λ e. absurd (omega arith)), λ e. absurd (omega arith))
@@ -230,7 +233,7 @@ by-kind Kind.Unreadable b h = ((λ e. absurd (omega arith)), λ e. absurd (omega
 by-kind (Kind.Delimiter n) b h = ((λ e. absurd (omega arith)), λ e. absurd (omega arith))
 by-kind (Kind.Reserved n) b h = ((λ e. absurd (omega arith)), λ e. absurd (omega arith))
 
-elements-named : (s : List ℕ) (from end : ℕ) (rs : List Row) → InOrder from rs end → Begun 0 s rs → AllNamed (elementsOf s rs)
+elements-named : (s : List ℕ) (from end : ℕ) (rs : List ElementRow) → InOrder from rs end → Begun 0 s rs → AllNamed (elementsOf s rs)
 unfolding elementsOf
 elements-named s from end [] o h = tt
 elements-named s from end (r ∷ rs) o h = (by-kind (r .kind) (getD (take (r .size) (drop (r .first) s)) 0 0) (subst (Begins (r .kind)) (sym first) (h .1)), elements-named s (r .first + r .size) end rs (o .2) (h .2))
@@ -241,13 +244,13 @@ elements-named s from end (r ∷ rs) o h = (by-kind (r .kind) (getD (take (r .si
         let p : 0 < r .size = omega (arith, o .1) in
         getD-take (r .size) (drop (r .first) s) 0 0 p ∙ getD-drop (r .first) s 0 0 ∙ ap (λ (i : ℕ). getD s i 0) z
 
-cut-named : (p : Piece) → AllNamed p → EachNamed (cut closes opens p)
+cut-named : (p : Piece) → AllNamed p → EachNamed (cut cutsAfter cutsBefore p)
 unfolding cut
 cut-named [] h = tt
 cut-named (x ∷ []) h = (h, tt)
-cut-named (x ∷ y ∷ p) h = front (closes x || opens y) (cut closes opens (y ∷ p)) (cut-named (y ∷ p) (h .1))
+cut-named (x ∷ y ∷ p) h = front (cutsAfter x || cutsBefore y) (cut cutsAfter cutsBefore (y ∷ p)) (cut-named (y ∷ p) (h .1))
   where
-    front : (b : Bool) (ps : List Piece) → EachNamed ps → EachNamed (joined closes opens b x ps)
+    front : (b : Bool) (ps : List Piece) → EachNamed ps → EachNamed (joined cutsAfter cutsBefore b x ps)
     front true ps k = ((h .0, tt), k)
     front false [] k = ((h .0, tt), tt)
     front false (q ∷ ps) k = ((h .0, k .0), k .1)

@@ -12,6 +12,8 @@ use lib.Dec.{leb}
 use lib.ListN.{length, getD, length-append}
 use Rattle.laws.proofs.Laws.{clash}
 use Rattle.classes.specs.Bytes.{isLetter, lower}
+use Rattle.classes.specs.Signs as sign
+use Rattle.places.specs.Kinds.{extendedKind}
 use Rattle.element_reading.specs.Rows.{rowsOf}
 use Rattle.element_reading.proofs.Answers.{taken-read, table-read}
 use Rattle.pieces.specs.Records.{recordWords}
@@ -20,7 +22,8 @@ use Rattle.lookup.specs.Finds.{Finds}
 use Rattle.lookup.proofs.Promises.{found-exactly}
 use Rattle.lookup.specs.declared.Found.{Found}
 use Rattle.lookup.specs.declared.Found.the-variants.{At, Nothing}
-use Rattle.meaning.specs.Elements.{Piece, at, piecesOf}
+use Rattle.meaning.specs.Elements.{Piece, at}
+use Rattle.meaning.specs.Pieces.{piecesOf}
 use Rattle.meaning.specs.Names.{Done}
 use Rattle.meaning.specs.code.PieceValues.{doneOf, donesFrom, donesOf, recordsOf}
 use Rattle.meaning.proofs.Records.{piecesDone}
@@ -28,13 +31,13 @@ use Rattle.meaning.proofs.Places.{tableOf}
 use Rattle.meaning.proofs.Words.{items-length}
 use Rattle.meaning.proofs.Words as held
 use Rattle.meaning.proofs.Claims.{dones-length}
-use Rattle.survey_reading.specs.code.Survey.{surveyOf, elementsAfter, itemsAfter, itemTable}
+use Rattle.survey_reading.specs.code.Survey.{surveyOf, elementsAfterSurvey, itemsAfter, itemTable}
 use Rattle.survey_reading.specs.declared.Summary.{Summary}
 use Rattle.survey_reading.specs.declared.Ended.the-variants as O
-use Rattle.survey_reading.proofs.Promises.{surveyed, says-of-records}
+use Rattle.survey_reading.proofs.Promises.{surveyed-exactly, says-of-records}
 use Rattle.survey_reading.proofs.Permits.{left-so}
 use Rattle.kawhiluhe.specs.Numbers.{foundNumber}
-use Rattle.claims.specs.Claims.{extendedKind, backslash, lowered, IsCalled, NoneClaims, FirstClaims, SaysFirst, FindsFirst, ByBackslash, FindsInStructs, FindsNumber}
+use Rattle.claims.specs.Claims.{lowered, IsCalled, NoneClaims, FirstClaims, SaysFirst, FindsFirst, ByBackslash, FindsInStructs, FindsNumber}
 use Rattle.claims.proofs.Finding.{claims-at, firstOf, first-of, at-same, at-first, first-at, nothing-none, none-nothing}
 use Rattle.claims.proofs.Letters.{Named, piece-named}
 
@@ -73,10 +76,10 @@ module _ (s : List ℕ) (name : List ℕ) where
 -- ---- over the tables that a survey leaves
 
 pub found-after : (s : List ℕ) (e w : ℕ) (x : Summary) → surveyOf s e w .outcome ≡ O.Done x → (name : List ℕ)
-    → foundOf s (elementsAfter s e w) name (itemsAfter s e w) ≡ firstOf name (piecesOf s) 0
+    → foundOf s (elementsAfterSurvey s e w) name (itemsAfter s e w) ≡ firstOf name (piecesOf s) 0
 found-after s e w x h name =
     let r = says-of-records s e w x h in
-    let t = surveyed s e w .0 (x, h) in
+    let t = surveyed-exactly s e w .0 (x, h) in
     ap₂ (λ (a b : List ℕ). foundOf s a name b) (r .1 ∙ table-read s e (taken-read s e (t .0))) (r .0) ∙ found-held s name (e - 3 * length (rowsOf s)) w
 
 says-first : (name : List ℕ) (ps : List Piece) (x : Found) → x ≡ firstOf name ps 0 → SaysFirst name ps x
@@ -112,18 +115,18 @@ lowered-first [] = refl
 lowered-first (b ∷ l) = refl
 
 -- no letter is a backslash in lower case
-no-letter : (b : ℕ) → isLetter b ≡ true → lower b ≡ backslash → ⊥
+no-letter : (b : ℕ) → isLetter b ≡ true → lower b ≡ sign.backslash → ⊥
 unfolding isLetter lower
 no-letter b h e = go (leb 65 b) (leb b 90) (leb 97 b) refl refl h e
   where
-    go : (u v w : Bool) → leb 65 b ≡ u → leb 97 b ≡ w → ((u && v) || (w && leb b 122)) ≡ true → cond (u && v) (b + 32) b ≡ backslash → ⊥
+    go : (u v w : Bool) → leb 65 b ≡ u → leb 97 b ≡ w → ((u && v) || (w && leb b 122)) ≡ true → cond (u && v) (b + 32) b ≡ sign.backslash → ⊥
     go true true w l m h e = omega (arith, leb-true 65 b l)
     go true false true l m h e = omega (arith, leb-true 97 b m)
     go true false false l m h e = false≢true h
     go false v true l m h e = omega (arith, leb-true 97 b m)
     go false v false l m h e = false≢true h
 
-lower-backslash : lower backslash ≡ backslash
+lower-backslash : lower sign.backslash ≡ sign.backslash
 unfolding lower
 lower-backslash = refl
 
@@ -133,7 +136,7 @@ by-backslash text name k f = go (f .claimed .1)
     named : Named (at (f .piece) 1)
     named = piece-named text (f .before) (f .piece) (f .after) 1 (f .split)
 
-    go : IsCalled name (at (f .piece) 1) → (at (f .piece) 1 .kind ≡ extendedKind) ↔ (getD name 0 0 ≡ backslash)
+    go : IsCalled name (at (f .piece) 1) → (at (f .piece) 1 .kind ≡ extendedKind) ↔ (getD name 0 0 ≡ sign.backslash)
     go (inl s) = (
       (λ e. absurd (omega (arith, s .0))),
       λ e. absurd

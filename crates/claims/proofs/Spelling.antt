@@ -8,8 +8,7 @@ use borrow.Author.Tests.{eq-eqb, eqb-true}
 use lib.Dec.{eqb}
 use Rattle.laws.proofs.Laws.{clash, both-left, both-right}
 use Rattle.classes.specs.Bytes.{lower}
-use Rattle.same_names.specs.Alike.{byKind}
-use Rattle.same_names.specs.Spelling.{spelt}
+use Rattle.same_names.specs.Spelling.{spelt, byKind}
 use Rattle.meaning.specs.Elements.{Element}
 use Rattle.claims.specs.Claims.{lowered, IsCalled}
 

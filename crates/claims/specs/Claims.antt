@@ -7,29 +7,20 @@ use mathlib.Core.Bool.{true}
 use mathlib.Core.List.{List, [], _∷_, _++_}
 use lib.ListN.{length, getD}
 use Rattle.classes.specs.Bytes.{lower}
-use Rattle.elements.specs.Kinds.{kindNumber}
-use Rattle.elements.specs.declared.Kind.{Kind}
+use Rattle.classes.specs.Signs as sign
+use Rattle.places.specs.Kinds.{identifierKind, extendedKind}
 use Rattle.pieces.specs.Kinds.{word-constant, word-subtype}
 use Rattle.pieces.specs.Records.{recordWords}
-use Rattle.meaning.specs.Elements.{Element, Piece, at, piecesOf}
+use Rattle.meaning.specs.Elements.{Element, Piece, at}
+use Rattle.meaning.specs.Pieces.{piecesOf}
 use Rattle.meaning.specs.Names.{claims}
 use Rattle.lookup.specs.Finds.{Finds}
 use Rattle.lookup.specs.Structs.{structWords}
 use Rattle.lookup.specs.declared.Item.{Item}
 use Rattle.lookup.specs.declared.Found.{Found}
 use Rattle.lookup.specs.declared.Found.the-variants.{At, Nothing}
-use Rattle.survey_reading.specs.Permitted.{Leaves}
+use Rattle.survey_reading.specs.Permitted.{LeavesTables}
 use Rattle.kawhiluhe.specs.Numbers.{foundNumber}
-
--- the kinds of elements that are names, and the byte at both ends of an extended one
-abbrev pub identifierKind : ℕ
-identifierKind = kindNumber Kind.Identifier
-
-abbrev pub extendedKind : ℕ
-extendedKind = kindNumber Kind.Extended
-
-abbrev pub backslash : ℕ
-backslash = 92
 
 -- bytes, each letter as its lower case
 unfoldable pub lowered : List ℕ → List ℕ
@@ -67,24 +58,24 @@ SaysFirst name ps f = ((k : ℕ) → (f ≡ At k) ↔ FirstClaims name ps k) × 
 -- "a lookup by name gives the first item that claims it, or none": over the tables that a survey leaves, for every text that is surveyed with
 -- tables of any size, for every name, and for every answer that the lookup's contract permits
 abbrev pub FindsFirst : Type 0
-FindsFirst = (text elements items name : List ℕ) (f : Found) → Leaves text elements items → Finds text elements name items f → SaysFirst name (piecesOf text) f
+FindsFirst = (text elements items name : List ℕ) (f : Found) → LeavesTables text elements items → Finds text elements name items f → SaysFirst name (piecesOf text) f
 
 -- "Extended identifiers .. equal no basic identifier": what is found is an extended identifier exactly where the name that is looked up begins
 -- with a backslash
 abbrev pub ByBackslash : Type 0
-ByBackslash = (text name : List ℕ) (k : ℕ) (f : FirstClaims name (piecesOf text) k) → (at (f .piece) 1 .kind ≡ extendedKind) ↔ (getD name 0 0 ≡ backslash)
+ByBackslash = (text name : List ℕ) (k : ℕ) (f : FirstClaims name (piecesOf text) k) → (at (f .piece) 1 .kind ≡ extendedKind) ↔ (getD name 0 0 ≡ sign.backslash)
 
 -- The same of `lookup_items`: item structs that hold the words of that table.
 abbrev pub FindsInStructs : Type 0
 FindsInStructs =
-    (text elements items name : List ℕ) (structs : List Item) (f : Found) → Leaves text elements items → structWords structs ≡ items
+    (text elements items name : List ℕ) (structs : List Item) (f : Found) → LeavesTables text elements items → structWords structs ≡ items
     → Finds text elements name (structWords structs) f → SaysFirst name (piecesOf text) f
 
 -- The same of the library, which answers the number of a record, or how many records the table has: the first piece that claims the name, or past
 -- them all.
 abbrev pub FindsNumber : Type 0
 FindsNumber =
-    (text elements items name : List ℕ) (f : Found) → Leaves text elements items → Finds text elements name items f
+    (text elements items name : List ℕ) (f : Found) → LeavesTables text elements items → Finds text elements name items f
     → ((k : ℕ) → k < length (piecesOf text) → (foundNumber f (length items / recordWords) ≡ k) ↔ FirstClaims name (piecesOf text) k)
     × ((length (piecesOf text) ≤ foundNumber f (length items / recordWords)) ↔ NoneClaims name (piecesOf text))
 
@@ -92,10 +83,10 @@ FindsNumber =
 abbrev pub basic : List ℕ → Element
 basic name = record { kind = identifierKind; bytes = name }
 
-abbrev pub extended : List ℕ → Element
-extended name = record { kind = extendedKind; bytes = name }
+abbrev pub extendedElement : List ℕ → Element
+extendedElement name = record { kind = extendedKind; bytes = name }
 
 -- A piece claims a name given as bytes exactly when, by the survey's own rule on claims, it claims the identifier or the extended identifier
 -- of these bytes.
 abbrev pub OneRule : Type 0
-OneRule = (name : List ℕ) (p : Piece) → ClaimsName name p ↔ ((claims (basic name) p ≡ true) ⊎ (claims (extended name) p ≡ true))
+OneRule = (name : List ℕ) (p : Piece) → ClaimsName name p ↔ ((claims (basic name) p ≡ true) ⊎ (claims (extendedElement name) p ≡ true))

@@ -2,19 +2,11 @@
 -- Assumes nothing.
 use Prim.Native.Nat.{ℕ, _+_, _-_}
 use mathlib.Core.Bool.{Bool, cond, _&&_, _||_}
-use lib.Dec.{leb, eqb}
+use lib.Dec.{leb}
 
 -- from one byte to another, both included
 abbrev pub between : ℕ → ℕ → ℕ → Bool
 between low high b = leb low b && leb b high
-
--- "Bytes 10, 11, 12 and 13 each end a line."
-unfoldable pub endsLine : ℕ → Bool
-endsLine b = between 10 13 b
-
--- "Bytes 9, 32 and 160 separate."
-unfoldable pub separates : ℕ → Bool
-separates b = eqb b 9 || eqb b 32 || eqb b 160
 
 -- "Letters are A-Z and a-z"
 unfoldable pub isLetter : ℕ → Bool
@@ -26,10 +18,6 @@ lower b = cond (between 65 90 b) (b + 32) b
 
 unfoldable pub isDigit : ℕ → Bool
 isDigit b = between 48 57 b
-
--- "Strings, extended identifiers and character literals hold bytes 32-126 and 160-255."
-unfoldable pub isGraphic : ℕ → Bool
-isGraphic b = between 32 126 b || between 160 255 b
 
 -- digits are decimal, and "base 2 to 16"
 abbrev pub ten : ℕ
@@ -45,33 +33,15 @@ greatestBase = 16
 unfoldable pub digitValue : ℕ → ℕ
 digitValue b = cond (isDigit b) (b - 48) (cond (between 65 70 b) (b - 55) (cond (between 97 102 b) (b - 87) greatestBase))
 
--- the bytes that 01 writes as signs or calls by name
-abbrev pub quote : ℕ
-quote = 34
-
+-- the bytes that 01 writes as signs or calls by name, in names and integers; `Signs` has the others
 abbrev pub hash : ℕ
 hash = 35
-
-abbrev pub apostrophe : ℕ
-apostrophe = 39
-
-abbrev pub star : ℕ
-star = 42
 
 abbrev pub plus : ℕ
 plus = 43
 
 abbrev pub hyphen : ℕ
 hyphen = 45
-
-abbrev pub point : ℕ
-point = 46
-
-abbrev pub slash : ℕ
-slash = 47
-
-abbrev pub backslash : ℕ
-backslash = 92
 
 abbrev pub underscore : ℕ
 underscore = 95

@@ -1,7 +1,8 @@
 // The classes of bytes and the runs of bytes that elements are made of. Every function takes any bytes.
 ghost use mathlib.Core.Path.{_≡_};
 ghost use lib.ListN.{getD};
-ghost use Rattle.classes.specs.Bytes.{endsLine, separates, isLetter, lower, isDigit, isGraphic, digitValue};
+ghost use Rattle.classes.specs.Bytes.{isLetter, lower, isDigit, digitValue};
+ghost use Rattle.classes.specs.Signs.{endsLine, separates, isGraphic};
 ghost use Rattle.classes.specs.Runs.{inRun, goesOn, run};
 
 // 01's bytes that no sign stands for: those that end a line, the separator 160, the last byte.

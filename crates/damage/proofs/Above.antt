@@ -7,18 +7,18 @@ use mathlib.Core.List.{List, [], _∷_, _++_, append-nil, append-assoc}
 use native.Mathlib.Nat.{zero-add, suc-add}
 use lib.Dec.{eqb}
 use lib.ListN.{length}
-use Rattle.records.specs.Tallies.{oneIf}
+use Rattle.records.specs.Counting.{oneIf}
 use Rattle.values.specs.Values.{languageValue}
 use Rattle.meaning.specs.Elements.{Element, Piece}
 use Rattle.meaning.specs.Names.{claims, language, claimsIn, Done, claimedAbove, firstAbove, useOf}
 use Rattle.meaning.specs.code.PieceValues.{valueOf, doneOf, donesFrom}
-use Rattle.damage.specs.Places.{Part, bare, bareEach}
+use Rattle.damage.specs.Places.{PlacedPiece, bare, bareEach}
 use Rattle.damage.specs.Damage.{NoClaim}
 use Rattle.damage.proofs.Lines.{Before, before-never, before-both}
 use Rattle.damage.proofs.Cuts.{Ahead, ahead-never, ahead-both}
 use Rattle.damage.proofs.Order.{passing}
 
-pub each-append : (ps qs : List Part) → bareEach (ps ++ qs) ≡ bareEach ps ++ bareEach qs
+pub each-append : (ps qs : List PlacedPiece) → bareEach (ps ++ qs) ≡ bareEach ps ++ bareEach qs
 unfolding bareEach
 each-append [] qs = refl
 each-append (p ∷ ps) qs = ap (λ (l : List Piece). bare p ∷ l) (each-append ps qs)
@@ -32,16 +32,16 @@ dones-append all above (p ∷ ps) qs =
     (dones-append all (above ++ doneOf all above p ∷ []) ps qs
     ∙ ap (λ (l : List Done). donesFrom all (above ++ doneOf all above p ∷ []) ps ++ donesFrom all l qs) (append-assoc above (doneOf all above p ∷ []) (donesFrom all (above ++ doneOf all above p ∷ []) ps)))
 
-pub dones-length : (all : List Piece) (above : List Done) (ps : List Part) → length (donesFrom all above (bareEach ps)) ≡ length ps
+pub dones-length : (all : List Piece) (above : List Done) (ps : List PlacedPiece) → length (donesFrom all above (bareEach ps)) ≡ length ps
 unfolding donesFrom bareEach
 dones-length all above [] = refl
 dones-length all above (p ∷ ps) = ap suc (dones-length all (above ++ doneOf all above (bare p) ∷ []) ps)
 
 -- the pieces that claim x
-abbrev pub claimants : Element → List Part → List Part
+abbrev pub claimants : Element → List PlacedPiece → List PlacedPiece
 claimants x ps = passing (Ahead Before) (ahead-never Before before-never) (ahead-both Before before-both) (λ p. claims x (bare p)) ps
 
-pub claims-count : (x : Element) (ps : List Part) → claimsIn x (bareEach ps) ≡ length (claimants x ps) + oneIf (not (eqb (language x) 0))
+pub claims-count : (x : Element) (ps : List PlacedPiece) → claimsIn x (bareEach ps) ≡ length (claimants x ps) + oneIf (not (eqb (language x) 0))
 unfolding claimsIn bareEach
 claims-count x [] = sym (zero-add (oneIf (not (eqb (language x) 0))))
 claims-count x (p ∷ ps) = go (claims x (bare p)) (claims-count x ps)
@@ -52,19 +52,19 @@ claims-count x (p ∷ ps) = go (claims x (bare p)) (claims-count x ps)
     go false h = zero-add (claimsIn x (bareEach ps)) ∙ h
 
 -- the first of these that claims x
-pub record FirstClaim (x : Element) (ps : List Part) : Type 0 where
-  pub early : List Part
-  pub claimant : Part
-  pub late : List Part
+pub record FirstClaim (x : Element) (ps : List PlacedPiece) : Type 0 where
+  pub early : List PlacedPiece
+  pub claimant : PlacedPiece
+  pub late : List PlacedPiece
   pub split : ps ≡ early ++ claimant ∷ late
   pub unclaimed : NoClaim x early
   pub claimed : claims x (bare claimant) ≡ true
 
-pub first-claim : (x : Element) (ps : List Part) → FirstClaim x ps ⊎ NoClaim x ps
+pub first-claim : (x : Element) (ps : List PlacedPiece) → FirstClaim x ps ⊎ NoClaim x ps
 first-claim x [] = inr (λ q h. absurd h)
 first-claim x (p ∷ ps) = go (claims x (bare p)) refl (first-claim x ps)
   where
-    front : (qs : List Part) → claims x (bare p) ≡ false → NoClaim x qs → NoClaim x (p ∷ qs)
+    front : (qs : List PlacedPiece) → claims x (bare p) ≡ false → NoClaim x qs → NoClaim x (p ∷ qs)
     front qs e h q (inl k) = subst (λ r. claims x (bare r) ≡ false) k e
     front qs e h q (inr k) = h q k
 
@@ -75,24 +75,24 @@ first-claim x (p ∷ ps) = go (claims x (bare p)) refl (first-claim x ps)
           early = p ∷ f .early;
           claimant = f .claimant;
           late = f .late;
-          split = ap (λ (l : List Part). p ∷ l) (f .split);
+          split = ap (λ (l : List PlacedPiece). p ∷ l) (f .split);
           unclaimed = front (f .early) e (f .unclaimed);
           claimed = f .claimed;
         })
     go false e (inr h) = inr (front ps e h)
 
 module _ (all : List Piece) (x : Element) where
-  pub none-claimed : (above : List Done) (ps : List Part) → NoClaim x ps → claimedAbove x (donesFrom all above (bareEach ps)) ≡ not (eqb (language x) 0)
+  pub none-claimed : (above : List Done) (ps : List PlacedPiece) → NoClaim x ps → claimedAbove x (donesFrom all above (bareEach ps)) ≡ not (eqb (language x) 0)
   unfolding claimedAbove donesFrom bareEach
   none-claimed above [] h = refl
   none-claimed above (p ∷ ps) h = rw (h p (inl refl)) (none-claimed (above ++ doneOf all above (bare p) ∷ []) ps (λ q k. h q (inr k)))
 
-  pub none-first : (above : List Done) (ps : List Part) → NoClaim x ps → firstAbove x (donesFrom all above (bareEach ps)) ≡ languageValue (language x)
+  pub none-first : (above : List Done) (ps : List PlacedPiece) → NoClaim x ps → firstAbove x (donesFrom all above (bareEach ps)) ≡ languageValue (language x)
   unfolding firstAbove donesFrom bareEach
   none-first above [] h = refl
   none-first above (p ∷ ps) h = rw (h p (inl refl), firstAbove) (none-first (above ++ doneOf all above (bare p) ∷ []) ps (λ q k. h q (inr k)))
 
-  pub some-claimed : (above : List Done) (early : List Part) (p : Part) (late : List Part) → claims x (bare p) ≡ true → claimedAbove x (donesFrom all above (bareEach (early ++ p ∷ late))) ≡ true
+  pub some-claimed : (above : List Done) (early : List PlacedPiece) (p : PlacedPiece) (late : List PlacedPiece) → claims x (bare p) ≡ true → claimedAbove x (donesFrom all above (bareEach (early ++ p ∷ late))) ≡ true
   unfolding claimedAbove donesFrom bareEach
   some-claimed above [] p late h = rw h
   some-claimed above (q ∷ early) p late h = go (claims x (bare q)) (some-claimed (above ++ doneOf all above (bare q) ∷ []) early p late h)
@@ -101,7 +101,7 @@ module _ (all : List Piece) (x : Element) where
       go true e = refl
       go false e = e
 
-  pub some-first : (above : List Done) (early : List Part) (p : Part) (late : List Part) → NoClaim x early → claims x (bare p) ≡ true
+  pub some-first : (above : List Done) (early : List PlacedPiece) (p : PlacedPiece) (late : List PlacedPiece) → NoClaim x early → claims x (bare p) ≡ true
       → firstAbove x (donesFrom all above (bareEach (early ++ p ∷ late))) ≡ valueOf all (above ++ donesFrom all above (bareEach early)) (bare p)
   unfolding firstAbove donesFrom bareEach
   some-first above [] p late n h = rw (h, firstAbove) (ap (λ (l : List Done). valueOf all l (bare p)) (sym (append-nil above)))

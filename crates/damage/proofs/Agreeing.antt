@@ -19,11 +19,13 @@ use Rattle.expressions.specs.code.Expressions.{rowOutcome, outcomeIn, outcomeOf
 use Rattle.pieces.specs.Kinds.{anyDown}
 use Rattle.marks.specs.code.Marks.{operandOf, constantOf, rangedOf}
 use Rattle.values.specs.declared.Value.{Value}
-use Rattle.meaning.specs.Elements.{Element, Piece, at, kinds}
-use Rattle.meaning.specs.Names.{classOf, ownName, namesClaimed, claims, ownDoubled, Done, useOf}
+use Rattle.meaning.specs.Elements.{Element, Piece, at}
+use Rattle.meaning.specs.Pieces.{kindsInPiece, classOf}
+use Rattle.meaning.specs.Names.{ownName, claims, ownDoubled, Done, useOf}
 use Rattle.meaning.specs.code.PieceValues.{valued, bounded, marked, formed, unlessDoubled, valueOf}
 use Rattle.meaning.proofs.Sameness.{same-on}
 use Rattle.meaning.proofs.Trees.{tree-is}
+use Rattle.meaning.proofs.Begun.{names-by-class}
 use Rattle.meaning.proofs.Claimed.{claims-class, claims-name, claims-by}
 use Rattle.records.specs.Records.{isClaim}
 use Rattle.damage.specs.Places.{In}
@@ -33,12 +35,10 @@ use Rattle.damage.proofs.Ranges.{item-forms, third-form}
 
 -- a piece's own name is the one that it claims
 pub own-among : (p : Piece) → isClaim (classOf p) ≡ true → OwnName p (ownName p)
-unfolding namesClaimed
-own-among p h = rw h (inl refl)
+own-among p h = subst (λ (l : List Element). In (ownName p) l) (sym (names-by-class p)) (rw h (inl refl))
 
 pub own-is : (p : Piece) (x : Element) → OwnName p x → x ≡ ownName p
-unfolding namesClaimed
-own-is p x = go (isClaim (classOf p))
+own-is p x h = go (isClaim (classOf p)) (subst (λ (l : List Element). In x l) (names-by-class p) h)
   where
     go : (b : Bool) → In x (cond b (ownName p ∷ []) []) → x ≡ ownName p
     go true (inl h) = sym h
@@ -117,7 +117,7 @@ module _ (p : Piece) (used used′ : Element → Value) where
   bounded-on v (range ∷ rs) g m h =
       let k = nests-rest range rs m in
       let l = names-rest range rs (is-range (g range rs refl)) h in
-      ap₂ (λ (a b : Outcome). rangedOf v a b (anyDown (kinds p))) (valued-on rs k l) (valued-on (behind rs) (nests-behind rs k .0) (names-behind rs k l))
+      ap₂ (λ (a b : Outcome). rangedOf v a b (anyDown (kindsInPiece p))) (valued-on rs k l) (valued-on (behind rs) (nests-behind rs k .0) (names-behind rs k l))
     where
       is-range : range .form ≡ 10 → (range .form ≡ 25) ⊎ (range .form ≡ 26) → ⊥
       is-range e (inl k) = omega arith
@@ -130,7 +130,7 @@ module _ (p : Piece) (used used′ : Element → Value) where
       go true e = ap (constantOf v) (valued-on rs m h)
       go false e = bounded-on v rs (g e) m h
 
-  formed-on : (all : List Row) → rowsOfPiece (kinds p) ≡ all → ((x : Element) → UsesName p x → used x ≡ used′ x) → formed p used all ≡ formed p used′ all
+  formed-on : (all : List Row) → rowsOfPiece (kindsInPiece p) ≡ all → ((x : Element) → UsesName p x → used x ≡ used′ x) → formed p used all ≡ formed p used′ all
   formed-on [] e h = refl
   formed-on (item ∷ []) e h = refl
   formed-on (item ∷ mark ∷ rs) e h =
@@ -138,7 +138,7 @@ module _ (p : Piece) (used used′ : Element → Value) where
       (h (at p (mark .first)) (record { above = item ∷ []; row = mark; below = rs; tree = tree-is p item (mark ∷ rs) e; looked-up = inr (firsts .1); named = refl }))
       ∙ marked-on (used′ (at p (mark .first))) rs
       (λ n range more q. third-form p n item mark range more (e ∙ ap (λ (l : List Row). item ∷ mark ∷ l) q))
-      (nests-rest mark rs (nests-rest item (mark ∷ rs) (subst Nests e (0, length (kinds p), piece-forest (kinds p)))))
+      (nests-rest mark rs (nests-rest item (mark ∷ rs) (subst Nests e (0, length (kindsInPiece p), piece-forest (kindsInPiece p)))))
       (λ c r d q w f. h (at p (r .first))
       (record { above = item ∷ mark ∷ c; row = r; below = d; tree = tree-is p item (mark ∷ (c ++ r ∷ d)) (e ∙ ap (λ (l : List Row). item ∷ mark ∷ l) q); looked-up = inl (f, ((λ k. absurd (no-item (firsts .0) k)), ((λ k. absurd (no-mark k)), w))); named = refl }))
     where
@@ -160,4 +160,4 @@ pub value-on : (all all′ : List Piece) (ds ds′ : List Done) (p : Piece) → 
     → ((x : Element) → UsesName p x → useOf all ds x ≡ useOf all′ ds′ x) → valueOf all ds p ≡ valueOf all′ ds′ p
 unfolding valueOf
 value-on all all′ ds ds′ p e h =
-    ap₂ (λ (b : Bool) (v : Value). unlessDoubled b (rowsOfPiece (kinds p)) v) e (formed-on p (useOf all ds) (useOf all′ ds′) (rowsOfPiece (kinds p)) refl h)
+    ap₂ (λ (b : Bool) (v : Value). unlessDoubled b (rowsOfPiece (kindsInPiece p)) v) e (formed-on p (useOf all ds) (useOf all′ ds′) (rowsOfPiece (kindsInPiece p)) refl h)

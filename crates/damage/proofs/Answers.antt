@@ -4,7 +4,7 @@ use mathlib.Core.List.{List, _++_}
 use Prim.Native.Nat.{ℕ, _-_, _*_}
 use lib.ListN.{length, replicate}
 use Rattle.records.specs.Records.{wordAt}
-use Rattle.meaning.specs.Elements.{piecesOf}
+use Rattle.meaning.specs.Pieces.{piecesOf}
 use Rattle.meaning.specs.code.PieceValues.{recordsOf}
 use Rattle.survey_reading.specs.code.Survey.{surveyOf, itemsAfter, itemTable}
 use Rattle.survey_reading.specs.declared.Summary.{Summary}

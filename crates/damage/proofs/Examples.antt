@@ -7,13 +7,15 @@ use mathlib.Core.Bool.{true, not}
 use mathlib.Core.List.{List, [], _∷_, _++_}
 use native.Mathlib.Omega.{arith}
 use lib.ListN.{length, getD, take}
-use Rattle.classes.specs.Bytes.{endsLine, separates, isLetter, lower, isDigit, isGraphic, digitValue}
+use Rattle.classes.specs.Bytes.{isLetter, lower, isDigit, digitValue}
+use Rattle.classes.specs.Signs.{endsLine, separates, isGraphic}
 use Rattle.classes.specs.Runs.{inRun, countWhile, goesOn, run}
 use Rattle.words.specs.Words.{reservedWords, delimiters, bytesOf, begins, spells, placeFrom}
-use Rattle.numbers.specs.Numbers.{digits, digitIn, spelled, leading, exponentHead, exponent, belowBase, based, pointed, number}
-use Rattle.elements.specs.Element.{unreadable, identifier, delimiter, ruled, spoilsNumber, elementAt}
+use Rattle.numbers.specs.Numbers.{digits, exponent, belowBase, based, pointed, number}
+use Rattle.numbers.specs.Digits.{digitIn, valueSpelled, leading, exponentHead}
+use Rattle.elements.specs.Element.{unreadableFront, identifierFront, delimiterFront, ruled, spoilsNumber, elementAt}
 use Rattle.element_reading.specs.Rows.{linesOf, lineRows, linesRows, rowsOf}
-use Rattle.element_reading.specs.Promises.{Ended, Starts}
+use Rattle.element_reading.specs.Promises.{Ended, StartsLine}
 use Rattle.same_names.specs.Spelling.{spelt}
 use Rattle.grammars.specs.code.Actions.{runs}
 use Rattle.forms.specs.code.Kinds.{terminalOf}
@@ -23,7 +25,8 @@ use Rattle.forms.specs.code.Reading.{readingFrom}
 use Rattle.pieces.specs.Cutting.{cut}
 use Rattle.pieces.specs.Kinds.{isHeading, behindWord, hasName, endsAt, isClosing, claimClass, pieceClass}
 use Rattle.pieces.specs.Records.{nameOf}
-use Rattle.records.specs.Records.{wordAt, state, low, high}
+use Rattle.records.specs.Records.{wordAt}
+use Rattle.pieces.specs.Columns as column
 use Rattle.tree.specs.code.PieceRows.{readingOfPiece, rowsOfPiece}
 use Rattle.integers.specs.Integers.{sizedOf, dividedOf, toSign, powerOf}
 use Rattle.literals.specs.Literals as literals
@@ -33,23 +36,23 @@ use Rattle.operands.specs.code.Operands.{literalBy}
 use Rattle.values.specs.Values.{languageValue}
 use Rattle.marks.specs.code.Marks.{constantOf, rangedOf}
 use Rattle.expressions.specs.code.Expressions.{rowOutcome, outcomeIn}
-use Rattle.meaning.specs.Elements.{Element, at, kinds, elementsOf, piecesOf}
-use Rattle.meaning.specs.Sameness.{sameAs}
-use Rattle.meaning.specs.Names.{namesClaimed, claims, claimsIn, claimedAbove, firstAbove, useOf}
+use Rattle.meaning.specs.Elements.{Element, at}
+use Rattle.meaning.specs.Pieces.{kindsInPiece, elementsOf, piecesOf}
+use Rattle.meaning.specs.Names.{beginsClaim, namesClaimed, claims, claimsIn, claimedAbove, firstAbove, useOf, sameAs}
 use Rattle.meaning.specs.code.PieceValues.{valued, valueOf, donesFrom, donesOf, recordsOf}
 use Rattle.meaning.specs.Records.{recordOf, recordsFrom}
 use Rattle.meaning.proofs.Trees.{tree-is}
-use Rattle.survey_reading.specs.code.Survey.{surveyOf, elementsAfter, itemsAfter}
+use Rattle.survey_reading.specs.code.Survey.{surveyOf, elementsAfterSurvey, itemsAfter}
 use Rattle.survey_reading.specs.declared.Summary.{Summary}
 use Rattle.survey_reading.specs.declared.Ended.the-variants.{Done}
-use Rattle.survey_reading.proofs.Promises.{surveyed}
+use Rattle.survey_reading.proofs.Promises.{surveyed-exactly}
 use Rattle.survey_reading.proofs.Permits.{leaves-so}
-use Rattle.damage.specs.Places.{Part, placedRows, placedLines, placed, partsOf, bare}
+use Rattle.damage.specs.Places.{PlacedPiece, placedRows, placedLines, placed, partsOf, bare}
 use Rattle.damage.specs.Damage.{OneLine, olds, news, itself, Undisturbed}
 use Rattle.damage.proofs.Testing.{every, all-inside, is-outside, partAt, Kept, Keeps, kept, answered}
 
 -- two texts that differ in one line, by tests
-abbrev pub struck : (before middle changed after : List ℕ) → Starts before → every (λ b. not (endsLine b)) middle ≡ true → every (λ b. not (endsLine b)) changed ≡ true → Ended after
+abbrev pub struck : (before middle changed after : List ℕ) → StartsLine before → every (λ b. not (endsLine b)) middle ≡ true → every (λ b. not (endsLine b)) changed ≡ true → Ended after
     → OneLine (before ++ (middle ++ after)) (before ++ (changed ++ after))
 struck before middle changed after g i j e =
     record {
@@ -84,14 +87,14 @@ abbrev pub bad : List ℕ
 bad = above ++ (bad-line ++ below)
 
 -- the pieces of a text, computed
-unfoldable pieces : List ℕ → List ℕ → List ℕ → List Part
-unfolding endsLine separates isLetter lower isDigit isGraphic digitValue inRun countWhile goesOn run reservedWords delimiters bytesOf begins spells placeFrom digits digitIn spelled leading exponentHead exponent belowBase based pointed number unreadable identifier delimiter ruled spoilsNumber elementAt linesOf lineRows linesRows rowsOf cut placedRows placedLines placed partsOf
+unfoldable pieces : List ℕ → List ℕ → List ℕ → List PlacedPiece
+unfolding endsLine separates isLetter lower isDigit isGraphic digitValue inRun countWhile goesOn run reservedWords delimiters bytesOf begins spells placeFrom digits digitIn valueSpelled leading exponentHead exponent belowBase based pointed number unreadableFront identifierFront delimiterFront ruled spoilsNumber elementAt linesOf lineRows linesRows rowsOf cut placedRows placedLines placed partsOf
 pieces before middle after = partsOf (placed before middle after)
 
 -- what pieces claim and use, computed
-unfoldable rowsIn : Part → List Row
-unfolding pieces spelt runs terminalOf does readingFrom isHeading behindWord hasName endsAt isClosing claimClass pieceClass readingOfPiece rowsOfPiece at kinds sameAs claims namesClaimed bare
-rowsIn p = rowsOfPiece (kinds (bare p))
+unfoldable rowsIn : PlacedPiece → List Row
+unfolding pieces spelt runs terminalOf does readingFrom isHeading behindWord hasName endsAt isClosing claimClass pieceClass readingOfPiece rowsOfPiece at kindsInPiece sameAs kindOf beginsClaim claims namesClaimed bare
+rowsIn p = rowsOfPiece (kindsInPiece (bare p))
 
 abbrev pub damaged : OneLine good bad
 unfolding pieces
@@ -160,7 +163,7 @@ idle-kept = kept good bad damaged 4 4 idle-premises
 abbrev pub co2 : Element
 co2 = named (bytesOf "co2")
 
-abbrev pub total : Part
+abbrev pub total : PlacedPiece
 total = partAt (olds damaged) 3
 
 abbrev pub co2-used : Row
@@ -168,13 +171,13 @@ co2-used = record { form = 24; first = 7; count = 1; rows = 1; operator = 7 }
 
 -- and the rows above it
 abbrev pub co2-above : List Row
-co2-above = take 4 (rowsOfPiece (kinds (bare total)))
+co2-above = take 4 (rowsOfPiece (kindsInPiece (bare total)))
 
 pub total-disturbed : Undisturbed (olds damaged) (news damaged) total → ⊥
 unfolding rowsIn
 total-disturbed u =
     u co2
-    (inr (total, itself, record { above = co2-above; row = co2-used; below = []; tree = tree-is (bare total) (getD (rowsOfPiece (kinds (bare total))) 0 co2-used) _ refl; looked-up = inl (refl, is-outside co2-above refl); named = refl }))
+    (inr (total, itself, record { above = co2-above; row = co2-used; below = []; tree = tree-is (bare total) (getD (rowsOfPiece (kindsInPiece (bare total))) 0 co2-used) _ refl; looked-up = inl (refl, is-outside co2-above refl); named = refl }))
     (partAt (olds damaged) 2) (inl (inr (inr (inl refl)))) refl .2 .0 0 refl
 
 -- what the items come to, computed
@@ -183,7 +186,7 @@ unfolding rowsIn claimsIn claimedAbove firstAbove useOf valued valueOf donesFrom
 answers text = recordsOf text
 
 -- state 0 and 10,000, then state 5, "leans"
-pub total-changes : (wordAt (recordsOf good) 3 state ≡ 0) × (wordAt (recordsOf good) 3 low ≡ 10000) × (wordAt (recordsOf bad) 3 state ≡ 5)
+pub total-changes : (wordAt (recordsOf good) 3 column.state ≡ 0) × (wordAt (recordsOf good) 3 column.low ≡ 10000) × (wordAt (recordsOf bad) 3 column.state ≡ 5)
 unfolding answers
 total-changes = (refl, refl, refl)
 
@@ -215,14 +218,14 @@ unfolding answers
 pieces-bad = refl
 
 pub good-surveyed : (x : Summary) × (surveyOf good 24576 8192 .outcome ≡ Done x)
-good-surveyed = surveyed good 24576 8192 .1 ((omega (arith, bytes-good), omega (arith, rows-good), omega (arith, rows-good)), omega (arith, pieces-good), omega (arith, pieces-good))
+good-surveyed = surveyed-exactly good 24576 8192 .1 ((omega (arith, bytes-good), omega (arith, rows-good), omega (arith, rows-good)), omega (arith, pieces-good), omega (arith, pieces-good))
 
 pub bad-surveyed : (x : Summary) × (surveyOf bad 24576 8192 .outcome ≡ Done x)
-bad-surveyed = surveyed bad 24576 8192 .1 ((omega (arith, bytes-bad), omega (arith, rows-bad), omega (arith, rows-bad)), omega (arith, pieces-bad), omega (arith, pieces-bad))
+bad-surveyed = surveyed-exactly bad 24576 8192 .1 ((omega (arith, bytes-bad), omega (arith, rows-bad), omega (arith, rows-bad)), omega (arith, pieces-bad), omega (arith, pieces-bad))
 
-pub idle-answered : (k : ℕ) → state ≤ k → k ≤ high → wordAt (itemsAfter good 24576 8192) 4 k ≡ wordAt (itemsAfter bad 24576 8192) 4 k
+pub idle-answered : (k : ℕ) → column.state ≤ k → k ≤ column.high → wordAt (itemsAfter good 24576 8192) 4 k ≡ wordAt (itemsAfter bad 24576 8192) 4 k
 idle-answered =
-    answered good bad damaged 4 4 idle-premises (elementsAfter good 24576 8192) (itemsAfter good 24576 8192) (elementsAfter bad 24576 8192) (itemsAfter bad 24576 8192)
+    answered good bad damaged 4 4 idle-premises (elementsAfterSurvey good 24576 8192) (itemsAfter good 24576 8192) (elementsAfterSurvey bad 24576 8192) (itemsAfter bad 24576 8192)
     (leaves-so good 24576 8192 (good-surveyed .0) (good-surveyed .1)) (leaves-so bad 24576 8192 (bad-surveyed .0) (bad-surveyed .1))
 
 -- ---- a name inside a form 25 is not looked up: co2, which the damaged line claims, is no name that odd uses
@@ -300,6 +303,6 @@ pub leaning-kept : Keeps twice-damaged 4 4
 leaning-kept = kept (above ++ (good-line ++ twice)) (above ++ (bad-line ++ twice)) twice-damaged 4 4 leaning-premises
 
 -- state 5 before the damage and after it
-pub leaning : (wordAt (recordsOf (above ++ (good-line ++ twice))) 4 state ≡ 5) × (wordAt (recordsOf (above ++ (bad-line ++ twice))) 4 state ≡ 5)
+pub leaning : (wordAt (recordsOf (above ++ (good-line ++ twice))) 4 column.state ≡ 5) × (wordAt (recordsOf (above ++ (bad-line ++ twice))) 4 column.state ≡ 5)
 unfolding answers
 leaning = (refl, refl)

@@ -6,21 +6,21 @@ use mathlib.Core.Logic.{_⊎_, inl, inr}
 use mathlib.Core.List.{List, [], _∷_, _++_}
 use native.Mathlib.Omega.{arith}
 use lib.ListN.{length}
-use Rattle.element_reading.specs.Rows.{Row, linesOf, rowsOf}
+use Rattle.element_reading.specs.Rows.{ElementRow, linesOf, rowsOf}
 use Rattle.element_reading.specs.Promises.{InOrder}
 use Rattle.element_reading.proofs.Promises.{stand-in-order}
-use Rattle.damage.specs.Places.{In, Line, Above, Changed, Below, Placed, placedRows, placedLines, placed, Part}
+use Rattle.damage.specs.Places.{In, LineNumber, Above, Changed, Below, Placed, placedRows, placedLines, placed, PlacedPiece}
 use Rattle.damage.proofs.Order.{First, Rising, Apart, first-append, rising-append}
 
 -- ---- the order of elements
 
 -- a line is above the change, 0, of it, 1, or below it, 2; and it has its number there
-abbrev pub region : Line → ℕ
+abbrev pub region : LineNumber → ℕ
 region (Above k) = 0
 region (Changed k) = 1
 region (Below k) = 2
 
-abbrev pub number : Line → ℕ
+abbrev pub number : LineNumber → ℕ
 number (Above k) = k
 number (Changed k) = k
 number (Below k) = k
@@ -56,46 +56,46 @@ before-both x y z (inr h) (inl k) = inl (omega (arith, h .0))
 before-both x y z (inr h) (inr k) = inr (omega (arith, h .0, k .0), inner-both x y z (h .1) (k .1))
 
 -- elements of the region r, whose lines are m at least
-abbrev pub Lying : ℕ → ℕ → Part → Type 0
+abbrev pub Lying : ℕ → ℕ → PlacedPiece → Type 0
 Lying r m [] = Unit {0}
 Lying r m (x ∷ p) = (region (x .line) ≡ r) × (m ≤ number (x .line)) × Lying r m p
 
-pub lying-append : (r m : ℕ) (p q : Part) → Lying r m p → Lying r m q → Lying r m (p ++ q)
+pub lying-append : (r m : ℕ) (p q : PlacedPiece) → Lying r m p → Lying r m q → Lying r m (p ++ q)
 lying-append r m [] q h k = k
 lying-append r m (x ∷ p) q h k = (h .0, h .1, lying-append r m p q (h .2) k)
 
-pub lying-left : (r m : ℕ) (p q : Part) → Lying r m (p ++ q) → Lying r m p
+pub lying-left : (r m : ℕ) (p q : PlacedPiece) → Lying r m (p ++ q) → Lying r m p
 lying-left r m [] q h = tt
 lying-left r m (x ∷ p) q h = (h .0, h .1, lying-left r m p q (h .2))
 
-pub lying-right : (r m : ℕ) (p q : Part) → Lying r m (p ++ q) → Lying r m q
+pub lying-right : (r m : ℕ) (p q : PlacedPiece) → Lying r m (p ++ q) → Lying r m q
 lying-right r m [] q h = h
 lying-right r m (x ∷ p) q h = lying-right r m p q (h .2)
 
-pub lying-in : (r m : ℕ) (x : Placed) (p : Part) → Lying r m p → In x p → (region (x .line) ≡ r) × (m ≤ number (x .line))
+pub lying-in : (r m : ℕ) (x : Placed) (p : PlacedPiece) → Lying r m p → In x p → (region (x .line) ≡ r) × (m ≤ number (x .line))
 lying-in r m x (y ∷ p) h (inl e) = subst (λ z. (region (z .line) ≡ r) × (m ≤ number (z .line))) e (h .0, h .1)
 lying-in r m x (y ∷ p) h (inr k) = lying-in r m x p (h .2) k
 
-lying-wider : (r m n : ℕ) (p : Part) → m ≤ n → Lying r n p → Lying r m p
+lying-wider : (r m n : ℕ) (p : PlacedPiece) → m ≤ n → Lying r n p → Lying r m p
 lying-wider r m n [] l h = tt
 lying-wider r m n (x ∷ p) l h = (h .0, omega (arith, h .1), lying-wider r m n p l (h .2))
 
 -- further down in a region, and in a later one
-lying-first : (x : Placed) (r m : ℕ) (q : Part) → region (x .line) ≡ r → number (x .line) < m → Lying r m q → First Before x q
+lying-first : (x : Placed) (r m : ℕ) (q : PlacedPiece) → region (x .line) ≡ r → number (x .line) < m → Lying r m q → First Before x q
 lying-first x r m [] e h k = tt
 lying-first x r m (y ∷ q) e h k = (inr (omega (arith, k .0), inl (omega (arith, k .1))), lying-first x r m q e h (k .2))
 
-later-first : (x : Placed) (r m : ℕ) (q : Part) → region (x .line) < r → Lying r m q → First Before x q
+later-first : (x : Placed) (r m : ℕ) (q : PlacedPiece) → region (x .line) < r → Lying r m q → First Before x q
 later-first x r m [] e k = tt
 later-first x r m (y ∷ q) e k = (inl (omega (arith, k .0)), later-first x r m q e (k .2))
 
-later-apart : (r m q n : ℕ) (p l : Part) → r < q → Lying r m p → Lying q n l → Apart Before p l
+later-apart : (r m q n : ℕ) (p l : PlacedPiece) → r < q → Lying r m p → Lying q n l → Apart Before p l
 later-apart r m q n [] l h f g = tt
 later-apart r m q n (x ∷ p) l h f g = (later-first x q n l (omega (arith, f .0)) g, later-apart r m q n p l h (f .2) g)
 
 -- the lines of one region
-module _ (of : ℕ → Line) (r : ℕ) (here : (k : ℕ) → region (of k) ≡ r) (counts : (k : ℕ) → number (of k) ≡ k) where
-  rows-lying : (n : ℕ) (l : List ℕ) (rs : List Row) → Lying r n (placedRows (of n) l rs)
+module _ (of : ℕ → LineNumber) (r : ℕ) (here : (k : ℕ) → region (of k) ≡ r) (counts : (k : ℕ) → number (of k) ≡ k) where
+  rows-lying : (n : ℕ) (l : List ℕ) (rs : List ElementRow) → Lying r n (placedRows (of n) l rs)
   unfolding placedRows
   rows-lying n l [] = tt
   rows-lying n l (q ∷ rs) = (here n, omega (arith, counts n), rows-lying n l rs)
@@ -106,18 +106,18 @@ module _ (of : ℕ → Line) (r : ℕ) (here : (k : ℕ) → region (of k) ≡ r
   lines-lying n (l ∷ ls) =
       lying-append r n (placedRows (of n) l (rowsOf l)) (placedLines of (suc n) ls) (rows-lying n l (rowsOf l)) (lying-wider r n (suc n) (placedLines of (suc n) ls) (omega arith) (lines-lying (suc n) ls))
 
-  rows-first : (n : ℕ) (l : List ℕ) (x : Placed) (at end : ℕ) (rs : List Row) → x .line ≡ of n → x .place < at → InOrder at rs end → First Before x (placedRows (of n) l rs)
+  rows-first : (n : ℕ) (l : List ℕ) (x : Placed) (at end : ℕ) (rs : List ElementRow) → x .line ≡ of n → x .place < at → InOrder at rs end → First Before x (placedRows (of n) l rs)
   unfolding placedRows
   rows-first n l x at end [] e k h = tt
   rows-first n l x at end (q ∷ rs) e k h =
       (inr (ap region e, inr (ap number e, omega (arith, h .0))), rows-first n l x (q .first + q .size) end rs e (omega (arith, h .0)) (h .2))
 
-  rows-rising : (n : ℕ) (l : List ℕ) (at end : ℕ) (rs : List Row) → InOrder at rs end → Rising Before (placedRows (of n) l rs)
+  rows-rising : (n : ℕ) (l : List ℕ) (at end : ℕ) (rs : List ElementRow) → InOrder at rs end → Rising Before (placedRows (of n) l rs)
   unfolding placedRows
   rows-rising n l at end [] h = tt
   rows-rising n l at end (q ∷ rs) h = (rows-first n l _ (q .first + q .size) end rs refl (omega (arith, h .1)) (h .2), rows-rising n l (q .first + q .size) end rs (h .2))
 
-  rows-apart : (n : ℕ) (l : List ℕ) (rs : List Row) (p : Part) → Lying r (suc n) p → Apart Before (placedRows (of n) l rs) p
+  rows-apart : (n : ℕ) (l : List ℕ) (rs : List ElementRow) (p : PlacedPiece) → Lying r (suc n) p → Apart Before (placedRows (of n) l rs) p
   unfolding placedRows
   rows-apart n l [] p h = tt
   rows-apart n l (q ∷ rs) p h = (lying-first _ r (suc n) p (here n) (omega (arith, counts n)) h, rows-apart n l rs p h)
@@ -131,13 +131,13 @@ module _ (of : ℕ → Line) (r : ℕ) (here : (k : ℕ) → region (of k) ≡ r
       (rows-apart n l (rowsOf l) (placedLines of (suc n) ls) (lines-lying (suc n) ls))
 
 -- the elements above a change, of it and below it
-abbrev pub uppers : List ℕ → Part
+abbrev pub uppers : List ℕ → PlacedPiece
 uppers before = placedLines Above 0 (linesOf before)
 
-abbrev pub middles : List ℕ → Part
+abbrev pub middles : List ℕ → PlacedPiece
 middles middle = placedLines Changed 0 (linesOf middle)
 
-abbrev pub lowers : List ℕ → Part
+abbrev pub lowers : List ℕ → PlacedPiece
 lowers after = placedLines Below 0 (linesOf after)
 
 pub uppers-lie : (before : List ℕ) → Lying 0 0 (uppers before)
@@ -149,7 +149,7 @@ middles-lie middle = lines-lying Changed 1 (λ k. refl) (λ k. refl) 0 (linesOf 
 pub lowers-lie : (after : List ℕ) → Lying 2 0 (lowers after)
 lowers-lie after = lines-lying Below 2 (λ k. refl) (λ k. refl) 0 (linesOf after)
 
-apart-append : (p l m : Part) → Apart Before p l → Apart Before p m → Apart Before p (l ++ m)
+apart-append : (p l m : PlacedPiece) → Apart Before p l → Apart Before p m → Apart Before p (l ++ m)
 apart-append [] l m f g = tt
 apart-append (x ∷ p) l m f g = (first-append Before x l m (f .0) (g .0), apart-append p l m (f .1) (g .1))
 

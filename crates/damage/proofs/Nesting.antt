@@ -6,8 +6,7 @@ use mathlib.Core.List.{List, [], _∷_, _++_}
 use native.Mathlib.Omega.{arith}
 use lib.ListN.{length, drop, length-append}
 use lib.Seq.{drop-at}
-use Rattle.forms.specs.Tree.{Row}
-use Rattle.forms.specs.Forest.{Forest, bare, tree}
+use Rattle.forms.specs.Tree.{Row, Forest, bare, tree}
 use Rattle.forms.proofs.Growing.{forest-append}
 use Rattle.forms.specs.Tree.{behind}
 use Rattle.damage.specs.Damage.{NotWithin}

@@ -11,7 +11,7 @@ use Rattle.laws.proofs.Laws.{clash}
 use Rattle.grammars.specs.code.Actions.{End, read, bad, stopped, spent}
 use Rattle.forms.specs.code.Names.{constant, subtype}
 use Rattle.forms.specs.Tree.{Row}
-use Rattle.forms.specs.code.Frames.{State, Refusal, rowsOf}
+use Rattle.forms.specs.code.Frames.{State, Refusal, stateRows}
 use Rattle.forms.specs.code.Reading.{readingFrom}
 use Rattle.forms.specs.code.ItemReading.{itemRow, markRow}
 use Rattle.forms.proofs.Items.{reads-items}
@@ -20,8 +20,8 @@ use Rattle.pieces.specs.Kinds.{word-constant, word-subtype}
 use Rattle.pieces.specs.Classes as class
 use Rattle.tree.specs.code.Answers.{terminalsIn}
 use Rattle.tree.specs.code.PieceRows.{unlike, readingBy, readingOfPiece, rowsRead, rowsOfPiece}
-use Rattle.meaning.specs.Elements.{Piece, kinds}
-use Rattle.meaning.specs.Names.{classOf}
+use Rattle.meaning.specs.Elements.{Piece}
+use Rattle.meaning.specs.Pieces.{kindsInPiece, classOf}
 use Rattle.meaning.proofs.Begins.{constant-begins}
 use Rattle.meaning.proofs.Shaped.{third-row}
 
@@ -41,23 +41,23 @@ ThirdForm l = (item mark range : Row) (rs : List Row) → l ≡ item ∷ mark �
 
 module _ (p : Piece) where
   abbrev w : List ℕ
-  w = terminalsIn (kinds p)
+  w = terminalsIn (kindsInPiece p)
 
   abbrev first : ℕ
-  first = getD (kinds p) 0 0
+  first = getD (kindsInPiece p) 0 0
 
   -- what holds of no rows, and of what is read as a constant or as a subtype, holds of a piece's rows
   of-rows : (P : List Row → Type 0) → P []
-      → ((s : State) → readingFrom constant unlike w ≡ read s → P (rowsOf s))
-      → ((s : State) → readingFrom subtype unlike w ≡ read s → P (rowsOf s))
-      → P (rowsOfPiece (kinds p))
+      → ((s : State) → readingFrom constant unlike w ≡ read s → P (stateRows s))
+      → ((s : State) → readingFrom subtype unlike w ≡ read s → P (stateRows s))
+      → P (rowsOfPiece (kindsInPiece p))
   unfolding rowsOfPiece readingOfPiece
   of-rows P none c u = by (readingBy first w) refl
     where
       by : (o : End State Refusal) → readingBy first w ≡ o → P (rowsRead o)
       by (read s) e = go (eqb first word-constant) (eqb first word-subtype) e
         where
-          go : (a b : Bool) → cond a (readingFrom constant unlike w) (cond b (readingFrom subtype unlike w) (bad 0)) ≡ read s → P (rowsOf s)
+          go : (a b : Bool) → cond a (readingFrom constant unlike w) (cond b (readingFrom subtype unlike w) (bad 0)) ≡ read s → P (stateRows s)
           go true b f = c s f
           go false true f = u s f
           go false false f = let z : _≡_ {A = ℕ} 0 1 = cc in clash z
@@ -65,13 +65,13 @@ module _ (p : Piece) where
       by (stopped k r) e = none
       by spent e = none
 
-  pub item-forms : FirstForms (rowsOfPiece (kinds p))
+  pub item-forms : FirstForms (rowsOfPiece (kindsInPiece p))
   item-forms =
       of-rows FirstForms (λ item mark rs q. let z : _≡_ {A = ℕ} 0 1 = cc in clash z)
-      (λ s f. let m = begin-with-mark .0 unlike w s (reads-items constant (inl refl) unlike w s .0 f) in first-forms 4 _ (m .0) (rowsOf s) (inl refl) (m .1))
-      (λ s f. let m = begin-with-mark .1 unlike w s (reads-items subtype (inr refl) unlike w s .0 f) in first-forms 5 _ (m .0) (rowsOf s) (inr refl) (m .1))
+      (λ s f. let m = begin-with-mark .0 unlike w s (reads-items constant (inl refl) unlike w s .0 f) in first-forms 4 _ (m .0) (stateRows s) (inl refl) (m .1))
+      (λ s f. let m = begin-with-mark .1 unlike w s (reads-items subtype (inr refl) unlike w s .0 f) in first-forms 5 _ (m .0) (stateRows s) (inr refl) (m .1))
 
-  pub third-form : eqb (classOf p) class.constant ≡ false → ThirdForm (rowsOfPiece (kinds p))
+  pub third-form : eqb (classOf p) class.constant ≡ false → ThirdForm (rowsOfPiece (kindsInPiece p))
   third-form n =
       of-rows ThirdForm (λ item mark range rs q. let z : _≡_ {A = ℕ} 0 1 = cc in clash z)
       (λ s f. absurd (false≢true (sym n ∙ eq-eqb (classOf p) class.constant (constant-begins p s (reads-items constant (inl refl) unlike w s .0 f) .classed))))

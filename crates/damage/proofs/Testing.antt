@@ -10,22 +10,23 @@ use lib.Dec.{eqb, leb}
 use lib.ListN.{length, getD, take, drop, take-append-drop}
 use lib.Seq.{drop-cons, length-take-le}
 use Rattle.laws.proofs.Laws.{both-left, both-right}
-use Rattle.classes.specs.Bytes.{endsLine}
-use Rattle.element_reading.specs.Promises.{Inside}
+use Rattle.classes.specs.Signs.{endsLine}
+use Rattle.element_reading.specs.Promises.{InsideLine}
 use Rattle.forms.specs.Tree.{Row}
-use Rattle.records.specs.Records.{wordAt, state, high}
+use Rattle.records.specs.Records.{wordAt}
+use Rattle.pieces.specs.Columns as column
 use Rattle.tree.specs.code.PieceRows.{rowsOfPiece}
-use Rattle.meaning.specs.Elements.{Element, Piece, at, kinds}
-use Rattle.meaning.specs.Sameness.{sameAs}
-use Rattle.meaning.specs.Names.{ownName, claims}
+use Rattle.meaning.specs.Elements.{Element, Piece, at}
+use Rattle.meaning.specs.Pieces.{kindsInPiece}
+use Rattle.meaning.specs.Names.{ownName, claims, sameAs}
 use Rattle.meaning.specs.code.PieceValues.{recordsOf}
 use Rattle.meaning.proofs.Claimed.{claims-class, claims-name, claims-by}
-use Rattle.damage.specs.Places.{In, Line, Above, Changed, Below, Part, closesPart, opensPart, bare, SameEach, PieceOf}
-use Rattle.damage.specs.Damage.{OneLine, olds, news, NoneOf, NotWithin, UsesName, NoClaim, LeadsTo, itself, through, Concerns, Undisturbed, ClosedAbove, OpenedBelow}
+use Rattle.damage.specs.Places.{In, LineNumber, Above, Changed, Below, PlacedPiece, closesPart, opensPart, bare, SameEach, PieceOf}
+use Rattle.damage.specs.Damage.{OneLine, olds, news, NoneChanged, NotWithin, UsesName, NoClaim, LeadsTo, itself, through, Concerns, Undisturbed, ClosedAbove, OpenedBelow}
 use Rattle.damage.proofs.Common.{same-each, always-common}
 use Rattle.meaning.proofs.Sameness.{same-on, same-flips}
 use Rattle.meaning.proofs.Trees.{rows-are}
-use Rattle.survey_reading.specs.Permitted.{Leaves}
+use Rattle.survey_reading.specs.Permitted.{LeavesTables}
 use Rattle.damage.proofs.Promises.{same-answer}
 use Rattle.damage.proofs.Answers.{third-demand}
 use Rattle.damage.proofs.Agreeing.{own-is}
@@ -113,8 +114,8 @@ module _ (p : Piece) where
       go true ih = ih (q .rows - 1)
       go false ih = in-cond (eqb (q .form) 24 || eqb (q .form) 31) (at p (r .first)) (at p (q .first)) (usedFrom p zero (c ++ r ∷ d)) (ih zero)
 
-  used-in : (x : Element) → UsesName p x → In x (usedIn p (rowsOfPiece (kinds p)))
-  used-in x u = subst (λ (z : Element). In z (usedIn p (rowsOfPiece (kinds p)))) (sym (u .named)) (subst (λ (l : List Row). In (at p (u .row .first)) (usedIn p l)) (sym (rows-are p _ (u .tree))) (go (u .looked-up)))
+  used-in : (x : Element) → UsesName p x → In x (usedIn p (rowsOfPiece (kindsInPiece p)))
+  used-in x u = subst (λ (z : Element). In z (usedIn p (rowsOfPiece (kindsInPiece p)))) (sym (u .named)) (subst (λ (l : List Row). In (at p (u .row .first)) (usedIn p l)) (sym (rows-are p _ (u .tree))) (go (u .looked-up)))
     where
       go : ((u .row .form ≡ 24) × NotWithin (u .above)) ⊎ (u .row .form ≡ 31) → In (at p (u .row .first)) (usedIn p (u .above ++ u .row ∷ u .below))
       go (inl k) = used-name (u .above) (u .row) (u .below) zero (k .0) (k .1) (omega arith)
@@ -141,76 +142,76 @@ is-outside (r ∷ rs) h = (
     go k (inr e) = leb-true (r .rows) (suc (length rs)) e
 
 -- of names: a piece claims one of them; an element is one of them
-abbrev pub claimsAny : List Element → Part → Bool
+abbrev pub claimsAny : List Element → PlacedPiece → Bool
 claimsAny names q = any (λ y. claims y (bare q)) names
 
 abbrev isAny : List Element → Element → Bool
 isAny names x = any (λ y. sameAs x y) names
 
 -- a piece uses none but these names
-abbrev usesOnly : List Element → Part → Bool
-usesOnly names q = every (isAny names) (usedIn (bare q) (rowsOfPiece (kinds (bare q))))
+abbrev usesOnly : List Element → PlacedPiece → Bool
+usesOnly names q = every (isAny names) (usedIn (bare q) (rowsOfPiece (kindsInPiece (bare q))))
 
 -- one of the names resolves to the piece below those before it: it claims the name, and none of them does
-abbrev resolves : List Element → List Part → Part → Bool
+abbrev resolves : List Element → List PlacedPiece → PlacedPiece → Bool
 resolves names before q = any (λ y. claims y (bare q) && every (λ r. not (claims y (bare r))) before) names
 
 -- pieces to which one of the names resolves use no others
-abbrev pub closed : List Element → List Part → List Part → Bool
+abbrev pub closed : List Element → List PlacedPiece → List PlacedPiece → Bool
 closed names before [] = true
 closed names before (q ∷ ps) = cond (resolves names before q) (usesOnly names q) true && closed names (before ++ q ∷ []) ps
 
 -- p uses none but these names, and neither do the pieces to which they resolve
-abbrev pub alone : List Element → List Part → Part → Bool
+abbrev pub alone : List Element → List PlacedPiece → PlacedPiece → Bool
 alone names pieces p = usesOnly names p && closed names [] pieces
 
-abbrev isAbove : Line → Bool
+abbrev isAbove : LineNumber → Bool
 isAbove (Above k) = true
 isAbove (Changed k) = false
 isAbove (Below k) = false
 
-abbrev isBelow : Line → Bool
+abbrev isBelow : LineNumber → Bool
 isBelow (Above k) = false
 isBelow (Changed k) = false
 isBelow (Below k) = true
 
-abbrev closedAbove : Part → Bool
+abbrev closedAbove : PlacedPiece → Bool
 closedAbove [] = false
 closedAbove (x ∷ []) = closesPart x && isAbove (x .line)
 closedAbove (x ∷ y ∷ p) = closedAbove (y ∷ p)
 
-abbrev openedBelow : Part → Bool
+abbrev openedBelow : PlacedPiece → Bool
 openedBelow [] = false
 openedBelow (x ∷ p) = opensPart x && isBelow (x .line)
 
 -- pieces that claim one of the names end above the change or open below it
-abbrev pub apart : List Element → List Part → Bool
+abbrev pub apart : List Element → List PlacedPiece → Bool
 apart names ps = every (λ q. cond (claimsAny names q) (closedAbove q || openedBelow q) true) ps
 
 implied : (b c : Bool) → cond b c true ≡ true → b ≡ true → c ≡ true
 implied true c h e = h
 implied false c h e = absurd (false≢true e)
 
-line-above : (l : Line) → isAbove l ≡ true → (k : ℕ) × (l ≡ Above k)
+line-above : (l : LineNumber) → isAbove l ≡ true → (k : ℕ) × (l ≡ Above k)
 line-above (Above k) h = (k, refl)
 line-above (Changed k) h = absurd (false≢true h)
 line-above (Below k) h = absurd (false≢true h)
 
-line-below : (l : Line) → isBelow l ≡ true → (k : ℕ) × (l ≡ Below k)
+line-below : (l : LineNumber) → isBelow l ≡ true → (k : ℕ) × (l ≡ Below k)
 line-below (Above k) h = absurd (false≢true h)
 line-below (Changed k) h = absurd (false≢true h)
 line-below (Below k) h = (k, refl)
 
-is-closed : (p : Part) → closedAbove p ≡ true → ClosedAbove p
+is-closed : (p : PlacedPiece) → closedAbove p ≡ true → ClosedAbove p
 is-closed [] h = absurd (false≢true h)
 is-closed (x ∷ []) h = (both-left (closesPart x) (isAbove (x .line)) h, line-above (x .line) (both-right (closesPart x) (isAbove (x .line)) h))
 is-closed (x ∷ y ∷ p) h = is-closed (y ∷ p) h
 
-is-opened : (p : Part) → openedBelow p ≡ true → OpenedBelow p
+is-opened : (p : PlacedPiece) → openedBelow p ≡ true → OpenedBelow p
 is-opened [] h = absurd (false≢true h)
 is-opened (x ∷ p) h = (both-left (opensPart x) (isBelow (x .line)) h, line-below (x .line) (both-right (opensPart x) (isBelow (x .line)) h))
 
-is-either : (p : Part) → (closedAbove p || openedBelow p) ≡ true → ClosedAbove p ⊎ OpenedBelow p
+is-either : (p : PlacedPiece) → (closedAbove p || openedBelow p) ≡ true → ClosedAbove p ⊎ OpenedBelow p
 is-either p h = go (closedAbove p) refl h
   where
     go : (b : Bool) → closedAbove p ≡ b → (b || openedBelow p) ≡ true → ClosedAbove p ⊎ OpenedBelow p
@@ -221,13 +222,13 @@ claims-as : (x y : Element) (r : Piece) → claims x r ≡ true → sameAs x y �
 claims-as x y r h e = claims-by y r (claims-class x r h) (same-on (ownName r) x y (claims-name x r h) e)
 
 -- a piece after others to which one of the names resolves
-closed-at : (names : List Element) (before a : List Part) (r : Part) (c : List Part) → closed names before (a ++ r ∷ c) ≡ true → resolves names (before ++ a) r ≡ true → usesOnly names r ≡ true
+closed-at : (names : List Element) (before a : List PlacedPiece) (r : PlacedPiece) (c : List PlacedPiece) → closed names before (a ++ r ∷ c) ≡ true → resolves names (before ++ a) r ≡ true → usesOnly names r ≡ true
 closed-at names before [] r c h k =
     implied (resolves names before r) (usesOnly names r) (both-left _ (closed names (before ++ r ∷ []) c) h) (subst (λ l. resolves names l r ≡ true) (append-nil before) k)
 closed-at names before (q ∷ a) r c h k =
     closed-at names (before ++ q ∷ []) a r c (both-right (cond (resolves names before q) (usesOnly names q) true) _ h) (subst (λ l. resolves names l r ≡ true) (sym (append-assoc before (q ∷ []) a)) k)
 
-unclaimed : (x y : Element) (ps : List Part) → sameAs x y ≡ true → NoClaim x ps → every (λ r. not (claims y (bare r))) ps ≡ true
+unclaimed : (x y : Element) (ps : List PlacedPiece) → sameAs x y ≡ true → NoClaim x ps → every (λ r. not (claims y (bare r))) ps ≡ true
 unclaimed x y [] e h = refl
 unclaimed x y (q ∷ ps) e h = rw (off (claims y (bare q)) refl) (unclaimed x y ps e (λ r k. h r (inr k)))
   where
@@ -235,17 +236,17 @@ unclaimed x y (q ∷ ps) e h = rw (off (claims y (bare q)) refl) (unclaimed x y 
     off true k = absurd (false≢true (sym (h q (inl refl)) ∙ claims-as y x (bare q) k (same-flips x y e)))
     off false k = refl
 
-module _ (s t : List ℕ) (d : OneLine s t) (p : Part) (names : List Element) (own : claimsAny names p ≡ true) (shut : alone names (olds d) p ≡ true) where
+module _ (s t : List ℕ) (d : OneLine s t) (p : PlacedPiece) (names : List Element) (own : claimsAny names p ≡ true) (shut : alone names (olds d) p ≡ true) where
   -- a name that such a piece uses is one of the names
-  uses-any : (q : Part) (x : Element) → usesOnly names q ≡ true → UsesName (bare q) x → isAny names x ≡ true
-  uses-any q x h u = every-in (isAny names) (usedIn (bare q) (rowsOfPiece (kinds (bare q)))) x h (used-in (bare q) x u)
+  uses-any : (q : PlacedPiece) (x : Element) → usesOnly names q ≡ true → UsesName (bare q) x → isAny names x ≡ true
+  uses-any q x h u = every-in (isAny names) (usedIn (bare q) (rowsOfPiece (kindsInPiece (bare q)))) x h (used-in (bare q) x u)
 
-  any-claims : (x : Element) (r : Part) → isAny names x ≡ true → claims x (bare r) ≡ true → claimsAny names r ≡ true
+  any-claims : (x : Element) (r : PlacedPiece) → isAny names x ≡ true → claims x (bare r) ≡ true → claimsAny names r ≡ true
   any-claims x r h c =
       let y = any-in (λ y. sameAs x y) names h in
       in-any (λ y. claims y (bare r)) names (y .0) (y .1) (claims-as x (y .0) (bare r) c (y .2))
 
-  leads-any : (q : Part) → LeadsTo (olds d) p q → usesOnly names q ≡ true
+  leads-any : (q : PlacedPiece) → LeadsTo (olds d) p q → usesOnly names q ≡ true
   leads-any q itself = both-left (usesOnly names p) (closed names [] (olds d)) shut
   leads-any q (through {q = r} x l u c a) =
       let y = any-in (λ y. sameAs x y) names (uses-any r x (leads-any r l) u) in
@@ -266,7 +267,7 @@ module _ (s t : List ℕ) (d : OneLine s t) (p : Part) (names : List Element) (o
       which (inl j) = every-in (λ q. cond (claimsAny names q) (closedAbove q || openedBelow q) true) (olds d) q f j
       which (inr j) = every-in (λ q. cond (claimsAny names q) (closedAbove q || openedBelow q) true) (news d) q g j
 
-pub all-inside : (l : List ℕ) → every (λ b. not (endsLine b)) l ≡ true → Inside l
+pub all-inside : (l : List ℕ) → every (λ b. not (endsLine b)) l ≡ true → InsideLine l
 all-inside [] h = tt
 all-inside (b ∷ l) h = (off (endsLine b) (both-left (not (endsLine b)) (every (λ b. not (endsLine b)) l) h), all-inside l (both-right (not (endsLine b)) (every (λ b. not (endsLine b)) l) h))
   where
@@ -275,31 +276,31 @@ all-inside (b ∷ l) h = (off (endsLine b) (both-left (not (endsLine b)) (every 
     off false e = refl
 
 -- no element of p is of the change
-abbrev isChanged : Line → Bool
+abbrev isChanged : LineNumber → Bool
 isChanged (Above k) = false
 isChanged (Changed k) = true
 isChanged (Below k) = false
 
-abbrev pub noneOf : Part → Bool
+abbrev pub noneOf : PlacedPiece → Bool
 noneOf p = every (λ x. not (isChanged (x .line))) p
 
-none-of : (p : Part) → noneOf p ≡ true → NoneOf p
+none-of : (p : PlacedPiece) → noneOf p ≡ true → NoneChanged p
 none-of [] h = tt
 none-of (x ∷ p) h = (off (x .line) (both-left (not (isChanged (x .line))) (noneOf p) h), none-of p (both-right (not (isChanged (x .line))) (noneOf p) h))
   where
-    off : (l : Line) → not (isChanged l) ≡ true → (k : ℕ) → l ≡ Changed k → ⊥
-    off l h k e = false≢true (ap (λ (m : Line). not (isChanged m)) (sym e) ∙ h)
+    off : (l : LineNumber) → not (isChanged l) ≡ true → (k : ℕ) → l ≡ Changed k → ⊥
+    off l h k e = false≢true (ap (λ (m : LineNumber). not (isChanged m)) (sym e) ∙ h)
 
 -- piece number i of a text
-abbrev pub partAt : List Part → ℕ → Part
+abbrev pub partAt : List PlacedPiece → ℕ → PlacedPiece
 partAt pieces i = getD pieces i []
 
-abbrev pub part-of : (pieces : List Part) (i : ℕ) → i < length pieces → PieceOf pieces (partAt pieces i)
+abbrev pub part-of : (pieces : List PlacedPiece) (i : ℕ) → i < length pieces → PieceOf pieces (partAt pieces i)
 part-of pieces i h =
     record {
       above = take i pieces;
       below = drop (suc i) pieces;
-      split = sym (take-append-drop i pieces) ∙ ap (λ (l : List Part). take i pieces ++ l) (drop-cons pieces i [] h);
+      split = sym (take-append-drop i pieces) ∙ ap (λ (l : List PlacedPiece). take i pieces ++ l) (drop-cons pieces i [] h);
     }
 
 -- the premises of the third demand for piece i of one text and piece j of the other, by tests
@@ -316,10 +317,10 @@ pub record Kept {s t : List ℕ} (d : OneLine s t) (i j : ℕ) : Type 0 where
 
 -- their state, kind and numbers are the same
 abbrev pub Keeps : {s t : List ℕ} → OneLine s t → ℕ → ℕ → Type 0
-Keeps {s} {t} d i j = (rest others : List ℕ) (k : ℕ) → state ≤ k → k ≤ high → wordAt (recordsOf s ++ rest) i k ≡ wordAt (recordsOf t ++ others) j k
+Keeps {s} {t} d i j = (rest others : List ℕ) (k : ℕ) → column.state ≤ k → k ≤ column.high → wordAt (recordsOf s ++ rest) i k ≡ wordAt (recordsOf t ++ others) j k
 
 module _ (s t : List ℕ) (d : OneLine s t) (i j : ℕ) (h : Kept d i j) where
-  abbrev this : Part
+  abbrev this : PlacedPiece
   this = partAt (olds d) i
 
   pub calm : Undisturbed (olds d) (news d) this
@@ -335,8 +336,8 @@ module _ (s t : List ℕ) (d : OneLine s t) (i j : ℕ) (h : Kept d i j) where
       ∙ ap (λ (m : ℕ). wordAt (recordsOf t ++ others) m k) (length-take-le j (news d) (omega (arith, h .new)))
 
   -- and over the tables that the surveys of both leave
-  pub answered : (elements items elements′ items′ : List ℕ) → Leaves s elements items → Leaves t elements′ items′
-      → (k : ℕ) → state ≤ k → k ≤ high → wordAt items i k ≡ wordAt items′ j k
+  pub answered : (elements items elements′ items′ : List ℕ) → LeavesTables s elements items → LeavesTables t elements′ items′
+      → (k : ℕ) → column.state ≤ k → k ≤ column.high → wordAt items i k ≡ wordAt items′ j k
   answered elements items elements′ items′ f g k low high =
       ap (λ (m : ℕ). wordAt items m k) (sym (length-take-le i (olds d) (omega (arith, h .old))))
       ∙ third-demand s t elements items elements′ items′ f g d this (partAt (news d) j) (part-of (olds d) i (h .old)) (part-of (news d) j (h .new)) each (none-of this (h .none)) calm k low high

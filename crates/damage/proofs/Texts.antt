@@ -8,15 +8,16 @@ use native.Mathlib.Nat.{add-zero, zero-add, add-suc, suc-add, add-assoc}
 use native.Mathlib.Omega.{arith}
 use lib.ListN.{length, take, drop, length-drop, length-append}
 use lib.Seq.{take-append-le, drop-append-le}
-use Rattle.classes.specs.Bytes.{endsLine}
+use Rattle.classes.specs.Signs.{endsLine}
 use Rattle.elements.specs.Kinds.{kindNumber}
-use Rattle.element_reading.specs.Rows.{Row, onto, linesOf, lineRows, linesRows, rowsOf}
-use Rattle.element_reading.specs.Promises.{Inside, Ended, Starts, InOrder, moved}
+use Rattle.element_reading.specs.Rows.{ElementRow, onto, linesOf, lineRows, linesRows, rowsOf}
+use Rattle.element_reading.specs.Promises.{InsideLine, Ended, StartsLine, InOrder, moved}
 use Rattle.element_reading.proofs.TextLaws.{lines-ended, lines-byte}
 use Rattle.element_reading.proofs.Promises.{lines-apart, stand-in-order}
 use Rattle.pieces.specs.Cutting.{cut, joined}
-use Rattle.meaning.specs.Elements.{Element, Piece, closes, opens, elementsOf, piecesOf}
-use Rattle.damage.specs.Places.{In, Line, Above, Changed, Below, Placed, placedRows, placedLines, placed, Part, closesPart, opensPart, partsOf, bare, bareEach, linesAbove, lineNumber, startOf, firstsIn, firstsOf}
+use Rattle.meaning.specs.Elements.{Element, Piece}
+use Rattle.meaning.specs.Pieces.{cutsAfter, cutsBefore, elementsOf, piecesOf}
+use Rattle.damage.specs.Places.{In, LineNumber, Above, Changed, Below, Placed, placedRows, placedLines, placed, PlacedPiece, closesPart, opensPart, partsOf, bare, bareEach, linesAbove, lineNumber, startOf, firstsIn, firstsOf}
 use Rattle.damage.specs.code.Texts.{PlacesAdded, LinesAgree}
 use Rattle.damage.proofs.Lines.{uppers, middles, lowers}
 
@@ -45,7 +46,7 @@ record Whole (before : List ℕ) : Type 0 where
   some : before ≡ [] ⊎ ((l : List ℕ) × (ls : List (List ℕ)) × (lines ≡ l ∷ ls))
   apart : (rest : List ℕ) → linesOf (before ++ rest) ≡ lines ++ linesOf rest
 
-whole : (before : List ℕ) → Starts before → Whole before
+whole : (before : List ℕ) → StartsLine before → Whole before
 whole [] g = record { lines = []; some = inl refl; apart = λ rest. refl }
 whole (b ∷ []) g = record { lines = [] ∷ []; some = inr ([], [], refl); apart = λ rest. lines-ended b rest g }
 whole (b ∷ c ∷ l) g = go (endsLine b) refl (whole (c ∷ l) g)
@@ -69,7 +70,7 @@ abbrev linesBehind : List ℕ → List (List ℕ)
 linesBehind [] = []
 linesBehind (b ∷ u) = linesOf u
 
-line-apart : (middle after : List ℕ) → Inside middle → Ended after → linesOf (middle ++ after) ≡ middle ∷ linesBehind after
+line-apart : (middle after : List ℕ) → InsideLine middle → Ended after → linesOf (middle ++ after) ≡ middle ∷ linesBehind after
 unfolding linesOf
 line-apart [] [] i e = refl
 line-apart [] (b ∷ u) i e = lines-ended b u e
@@ -83,7 +84,7 @@ record Split (before middle after : List ℕ) : Type 0 where
   back : linesOf after ≡ [] ∷ linesBehind after
   all : linesOf (before ++ (middle ++ after)) ≡ upper ++ middle ∷ linesBehind after
 
-splits : (before middle after : List ℕ) → Starts before → Inside middle → Ended after → Split before middle after
+splits : (before middle after : List ℕ) → StartsLine before → InsideLine middle → Ended after → Split before middle after
 unfolding linesOf
 splits before middle after g i e =
     let w : Whole before = whole before g in
@@ -101,17 +102,17 @@ no-rows : rowsOf [] ≡ []
 unfolding rowsOf linesOf linesRows lineRows
 no-rows = refl
 
-pub bare-append : (p q : Part) → bare (p ++ q) ≡ bare p ++ bare q
+pub bare-append : (p q : PlacedPiece) → bare (p ++ q) ≡ bare p ++ bare q
 unfolding bare
 bare-append [] q = refl
 bare-append (x ∷ p) q = ap (λ (l : Piece). x .element ∷ l) (bare-append p q)
 
-elements-append : (text : List ℕ) (rs qs : List Row) → elementsOf text (rs ++ qs) ≡ elementsOf text rs ++ elementsOf text qs
+elements-append : (text : List ℕ) (rs qs : List ElementRow) → elementsOf text (rs ++ qs) ≡ elementsOf text rs ++ elementsOf text qs
 unfolding elementsOf
 elements-append text [] qs = refl
 elements-append text (r ∷ rs) qs = ap (λ (l : List Element). record { kind = kindNumber (r .kind); bytes = take (r .size) (drop (r .first) text) } ∷ l) (elements-append text rs qs)
 
-bare-rows : (n : Line) (l : List ℕ) (rs : List Row) → bare (placedRows n l rs) ≡ elementsOf l rs
+bare-rows : (n : LineNumber) (l : List ℕ) (rs : List ElementRow) → bare (placedRows n l rs) ≡ elementsOf l rs
 unfolding bare placedRows elementsOf
 bare-rows n l [] = refl
 bare-rows n l (r ∷ rs) = ap (λ (m : List Element). record { kind = kindNumber (r .kind); bytes = take (r .size) (drop (r .first) l) } ∷ m) (bare-rows n l rs)
@@ -120,7 +121,7 @@ abbrev bareLines : List (List ℕ) → Piece
 bareLines [] = []
 bareLines (l ∷ ls) = elementsOf l (rowsOf l) ++ bareLines ls
 
-bare-lines : (of : ℕ → Line) (n : ℕ) (ls : List (List ℕ)) → bare (placedLines of n ls) ≡ bareLines ls
+bare-lines : (of : ℕ → LineNumber) (n : ℕ) (ls : List (List ℕ)) → bare (placedLines of n ls) ≡ bareLines ls
 unfolding placedLines bare
 bare-lines of n [] = refl
 bare-lines of n (l ∷ ls) =
@@ -134,14 +135,14 @@ bare-lines-append (l ∷ ls) ms =
 -- a line without bytes has no elements
 bare-empty : (ls : List (List ℕ)) → bareLines ([] ∷ ls) ≡ bareLines ls
 unfolding elementsOf
-bare-empty ls = ap (λ (rs : List Row). elementsOf [] rs ++ bareLines ls) no-rows
+bare-empty ls = ap (λ (rs : List ElementRow). elementsOf [] rs ++ bareLines ls) no-rows
 
-order-within : (at end : ℕ) (rs : List Row) → InOrder at rs end → at ≤ end
+order-within : (at end : ℕ) (rs : List ElementRow) → InOrder at rs end → at ≤ end
 order-within at end [] h = h
 order-within at end (r ∷ rs) h = omega (arith, h .0, order-within (r .first + r .size) end rs (h .2))
 
 -- rows within the front of a text
-elements-front : (l m : List ℕ) (at : ℕ) (rs : List Row) → InOrder at rs (length l) → elementsOf (l ++ m) rs ≡ elementsOf l rs
+elements-front : (l m : List ℕ) (at : ℕ) (rs : List ElementRow) → InOrder at rs (length l) → elementsOf (l ++ m) rs ≡ elementsOf l rs
 unfolding elementsOf
 elements-front l m at [] h = refl
 elements-front l m at (r ∷ rs) h =
@@ -157,7 +158,7 @@ drop-over [] b u i = ap (λ (n : ℕ). drop n (b ∷ u)) (suc-add 0 i ∙ ap suc
 drop-over (c ∷ l) b u i = ap (λ (n : ℕ). drop n (c ∷ (l ++ b ∷ u))) (suc-add (suc (length l)) i) ∙ drop-over l b u i
 
 -- rows after a line end
-elements-behind : (l : List ℕ) (b : ℕ) (u : List ℕ) (rs : List Row) → elementsOf (l ++ b ∷ u) (moved (suc (length l)) rs) ≡ elementsOf u rs
+elements-behind : (l : List ℕ) (b : ℕ) (u : List ℕ) (rs : List ElementRow) → elementsOf (l ++ b ∷ u) (moved (suc (length l)) rs) ≡ elementsOf u rs
 unfolding elementsOf
 elements-behind l b u [] = refl
 elements-behind l b u (r ∷ rs) =
@@ -189,28 +190,28 @@ module _ (before middle after : List ℕ) (w : Split before middle after) where
       ∙ bare-made (made (before ++ (middle ++ after)))
 
 -- the pieces without places are the text's
-bare-joined : (b : Bool) (x : Placed) (ps : List Part) → bareEach (joined closesPart opensPart b x ps) ≡ joined closes opens b (x .element) (bareEach ps)
+bare-joined : (b : Bool) (x : Placed) (ps : List PlacedPiece) → bareEach (joined closesPart opensPart b x ps) ≡ joined cutsAfter cutsBefore b (x .element) (bareEach ps)
 unfolding bareEach bare
 bare-joined true x ps = refl
 bare-joined false x [] = refl
 bare-joined false x (p ∷ ps) = refl
 
-bare-cut : (l : Part) → bareEach (cut closesPart opensPart l) ≡ cut closes opens (bare l)
+bare-cut : (l : PlacedPiece) → bareEach (cut closesPart opensPart l) ≡ cut cutsAfter cutsBefore (bare l)
 unfolding bareEach bare cut
 bare-cut [] = refl
 bare-cut (x ∷ []) = refl
 bare-cut (x ∷ y ∷ l) =
     bare-joined (closesPart x || opensPart y) x (cut closesPart opensPart (y ∷ l))
-    ∙ ap (λ (ps : List Piece). joined closes opens (closesPart x || opensPart y) (x .element) ps) (bare-cut (y ∷ l))
+    ∙ ap (λ (ps : List Piece). joined cutsAfter cutsBefore (closesPart x || opensPart y) (x .element) ps) (bare-cut (y ∷ l))
 
 bare-parts : (before middle after : List ℕ) → Split before middle after → bareEach (partsOf (placed before middle after)) ≡ piecesOf (before ++ (middle ++ after))
 unfolding partsOf piecesOf
-bare-parts before middle after w = bare-cut (placed before middle after) ∙ ap (cut closes opens) (bare-placed before middle after w)
+bare-parts before middle after w = bare-cut (placed before middle after) ∙ ap (cut cutsAfter cutsBefore) (bare-placed before middle after w)
 
 -- ---- the first bytes of elements, by their lines and places
 
 -- those of rows whose line begins at a byte
-abbrev firstsAt : ℕ → List Row → List ℕ
+abbrev firstsAt : ℕ → List ElementRow → List ℕ
 firstsAt at [] = []
 firstsAt at (r ∷ rs) = (at + r .first) ∷ firstsAt at rs
 
@@ -220,7 +221,7 @@ firstsFrom all n [] = []
 firstsFrom all n (l ∷ ls) = firstsAt (startOf n all) (rowsOf l) ++ firstsFrom all (suc n) ls
 
 firsts-empty : (all : List (List ℕ)) (n : ℕ) (ls : List (List ℕ)) → firstsFrom all n ([] ∷ ls) ≡ firstsFrom all (suc n) ls
-firsts-empty all n ls = ap (λ (rs : List Row). firstsAt (startOf n all) rs ++ firstsFrom all (suc n) ls) no-rows
+firsts-empty all n ls = ap (λ (rs : List ElementRow). firstsAt (startOf n all) rs ++ firstsFrom all (suc n) ls) no-rows
 
 firsts-from-append : (all : List (List ℕ)) (n : ℕ) (ls ms : List (List ℕ)) → firstsFrom all n (ls ++ ms) ≡ firstsFrom all n ls ++ firstsFrom all (n + length ls) ms
 firsts-from-append all n [] ms = ap (λ (k : ℕ). firstsFrom all k ms) (sym (add-zero n))
@@ -229,18 +230,18 @@ firsts-from-append all n (l ∷ ls) ms =
     (firsts-from-append all (suc n) ls ms ∙ ap (λ (k : ℕ). firstsFrom all (suc n) ls ++ firstsFrom all k ms) (suc-add n (length ls) ∙ sym (add-suc n (length ls))))
     ∙ sym (append-assoc (firstsAt (startOf n all) (rowsOf l)) (firstsFrom all (suc n) ls) (firstsFrom all (n + suc (length ls)) ms))
 
-firsts-append : (n : ℕ) (all : List (List ℕ)) (p q : Part) → firstsIn n all (p ++ q) ≡ firstsIn n all p ++ firstsIn n all q
+firsts-append : (n : ℕ) (all : List (List ℕ)) (p q : PlacedPiece) → firstsIn n all (p ++ q) ≡ firstsIn n all p ++ firstsIn n all q
 unfolding firstsIn
 firsts-append n all [] q = refl
 firsts-append n all (x ∷ p) q = ap (λ (l : List ℕ). (startOf (lineNumber n (x .line)) all + x .place) ∷ l) (firsts-append n all p q)
 
-firsts-rows : (n : ℕ) (all : List (List ℕ)) (line : Line) (l : List ℕ) (rs : List Row) → firstsIn n all (placedRows line l rs) ≡ firstsAt (startOf (lineNumber n line) all) rs
+firsts-rows : (n : ℕ) (all : List (List ℕ)) (line : LineNumber) (l : List ℕ) (rs : List ElementRow) → firstsIn n all (placedRows line l rs) ≡ firstsAt (startOf (lineNumber n line) all) rs
 unfolding firstsIn placedRows
 firsts-rows n all line l [] = refl
 firsts-rows n all line l (r ∷ rs) = ap (λ (m : List ℕ). (startOf (lineNumber n line) all + r .first) ∷ m) (firsts-rows n all line l rs)
 
 -- the lines of one region, which are counted one by one
-module _ (n : ℕ) (all : List (List ℕ)) (of : ℕ → Line) (next : (k : ℕ) → lineNumber n (of (suc k)) ≡ suc (lineNumber n (of k))) where
+module _ (n : ℕ) (all : List (List ℕ)) (of : ℕ → LineNumber) (next : (k : ℕ) → lineNumber n (of (suc k)) ≡ suc (lineNumber n (of k))) where
   firsts-lines : (k : ℕ) (ls : List (List ℕ)) → firstsIn n all (placedLines of k ls) ≡ firstsFrom all (lineNumber n (of k)) ls
   unfolding placedLines firstsIn
   firsts-lines k [] = refl
@@ -257,7 +258,7 @@ further-append : (n : ℕ) (k l : List ℕ) → further n (k ++ l) ≡ further n
 further-append n [] l = refl
 further-append n (i ∷ k) l = ap (λ (m : List ℕ). (n + i) ∷ m) (further-append n k l)
 
-firsts-further : (n at : ℕ) (rs : List Row) → firstsAt (n + at) rs ≡ further n (firstsAt at rs)
+firsts-further : (n at : ℕ) (rs : List ElementRow) → firstsAt (n + at) rs ≡ further n (firstsAt at rs)
 firsts-further n at [] = refl
 firsts-further n at (r ∷ rs) = ap₂ (λ (x : ℕ) (l : List ℕ). x ∷ l) (add-assoc n at (r .first)) (firsts-further n at rs)
 
@@ -269,17 +270,17 @@ firsts-next l all n (m ∷ ls) =
     ∙ sym (further-append (suc (length l)) (firstsAt (startOf n all) (rowsOf m)) (firstsFrom all (suc n) ls))
 
 -- those of a text's lines are those of its rows
-firsts-of : (rs : List Row) → firstsAt 0 rs ≡ firstsOf rs
+firsts-of : (rs : List ElementRow) → firstsAt 0 rs ≡ firstsOf rs
 unfolding firstsOf
 firsts-of [] = refl
 firsts-of (r ∷ rs) = ap₂ (λ (x : ℕ) (l : List ℕ). x ∷ l) (zero-add (r .first)) (firsts-of rs)
 
-firsts-moved : (n : ℕ) (rs : List Row) → firstsOf (moved n rs) ≡ further n (firstsOf rs)
+firsts-moved : (n : ℕ) (rs : List ElementRow) → firstsOf (moved n rs) ≡ further n (firstsOf rs)
 unfolding firstsOf
 firsts-moved n [] = refl
 firsts-moved n (r ∷ rs) = ap (λ (l : List ℕ). (n + r .first) ∷ l) (firsts-moved n rs)
 
-firsts-rows-append : (rs qs : List Row) → firstsOf (rs ++ qs) ≡ firstsOf rs ++ firstsOf qs
+firsts-rows-append : (rs qs : List ElementRow) → firstsOf (rs ++ qs) ≡ firstsOf rs ++ firstsOf qs
 unfolding firstsOf
 firsts-rows-append [] qs = refl
 firsts-rows-append (r ∷ rs) qs = ap (λ (l : List ℕ). r .first ∷ l) (firsts-rows-append rs qs)
@@ -339,54 +340,54 @@ places-added before middle after g i e =
 -- ---- the numbers of lines
 
 -- the lines that have elements, where n lines stand above a changed one: those above it are below n, and those below it are 1 at least
-abbrev Stood : ℕ → Line → Type 0
+abbrev Stood : ℕ → LineNumber → Type 0
 Stood n (Above k) = k < n
 Stood n (Changed k) = k ≡ 0
 Stood n (Below k) = 1 ≤ k
 
-abbrev AllStood : ℕ → Part → Type 0
+abbrev AllStood : ℕ → PlacedPiece → Type 0
 AllStood n [] = Unit {0}
 AllStood n (x ∷ p) = Stood n (x .line) × AllStood n p
 
-stood-append : (n : ℕ) (p q : Part) → AllStood n p → AllStood n q → AllStood n (p ++ q)
+stood-append : (n : ℕ) (p q : PlacedPiece) → AllStood n p → AllStood n q → AllStood n (p ++ q)
 stood-append n [] q f g = g
 stood-append n (x ∷ p) q f g = (f .0, stood-append n p q (f .1) g)
 
-stood-in : (n : ℕ) (x : Placed) (p : Part) → AllStood n p → In x p → Stood n (x .line)
+stood-in : (n : ℕ) (x : Placed) (p : PlacedPiece) → AllStood n p → In x p → Stood n (x .line)
 stood-in n x (y ∷ p) h (inl e) = subst (λ z. Stood n (z .line)) e (h .0)
 stood-in n x (y ∷ p) h (inr k) = stood-in n x p (h .1) k
 
-stood-rows : (n : ℕ) (line : Line) (l : List ℕ) (rs : List Row) → Stood n line → AllStood n (placedRows line l rs)
+stood-rows : (n : ℕ) (line : LineNumber) (l : List ℕ) (rs : List ElementRow) → Stood n line → AllStood n (placedRows line l rs)
 unfolding placedRows
 stood-rows n line l [] h = tt
 stood-rows n line l (r ∷ rs) h = (h, stood-rows n line l rs h)
 
 -- lines from number m on, up to number m + length ls; an empty one has none
-stood-lines : (n : ℕ) (of : ℕ → Line) (m : ℕ) (ls : List (List ℕ)) → ((k : ℕ) → k < length ls → Stood n (of (m + k))) → AllStood n (placedLines of m ls)
+stood-lines : (n : ℕ) (of : ℕ → LineNumber) (m : ℕ) (ls : List (List ℕ)) → ((k : ℕ) → k < length ls → Stood n (of (m + k))) → AllStood n (placedLines of m ls)
 unfolding placedLines
 stood-lines n of m [] h = tt
 stood-lines n of m (l ∷ ls) h =
     stood-append n (placedRows (of m) l (rowsOf l)) (placedLines of (suc m) ls) (stood-rows n (of m) l (rowsOf l) (subst (λ (k : ℕ). Stood n (of k)) (add-zero m) (h 0 (omega arith))))
     (stood-lines n of (suc m) ls (λ k j. subst (λ (i : ℕ). Stood n (of i)) (add-suc m k ∙ sym (suc-add m k)) (h (suc k) (omega arith))))
 
-placed-lines-append : (of : ℕ → Line) (n : ℕ) (ls ms : List (List ℕ)) → placedLines of n (ls ++ ms) ≡ placedLines of n ls ++ placedLines of (n + length ls) ms
+placed-lines-append : (of : ℕ → LineNumber) (n : ℕ) (ls ms : List (List ℕ)) → placedLines of n (ls ++ ms) ≡ placedLines of n ls ++ placedLines of (n + length ls) ms
 unfolding placedLines
 placed-lines-append of n [] ms = ap (λ (k : ℕ). placedLines of k ms) (sym (add-zero n))
 placed-lines-append of n (l ∷ ls) ms =
-    ap (λ (p : Part). placedRows (of n) l (rowsOf l) ++ p)
+    ap (λ (p : PlacedPiece). placedRows (of n) l (rowsOf l) ++ p)
     (placed-lines-append of (suc n) ls ms ∙ ap (λ (k : ℕ). placedLines of (suc n) ls ++ placedLines of k ms) (suc-add n (length ls) ∙ sym (add-suc n (length ls))))
     ∙ sym (append-assoc (placedRows (of n) l (rowsOf l)) (placedLines of (suc n) ls) (placedLines of (n + suc (length ls)) ms))
 
-placed-empty : (of : ℕ → Line) (n : ℕ) (ls : List (List ℕ)) → placedLines of n ([] ∷ ls) ≡ placedLines of (suc n) ls
+placed-empty : (of : ℕ → LineNumber) (n : ℕ) (ls : List (List ℕ)) → placedLines of n ([] ∷ ls) ≡ placedLines of (suc n) ls
 unfolding placedLines placedRows
-placed-empty of n ls = ap (λ (rs : List Row). placedRows (of n) [] rs ++ placedLines of (suc n) ls) no-rows
+placed-empty of n ls = ap (λ (rs : List ElementRow). placedRows (of n) [] rs ++ placedLines of (suc n) ls) no-rows
 
 module _ (before middle after : List ℕ) (w : Split before middle after) where
   upper-stood : AllStood (linesAbove before) (uppers before)
   unfolding placedLines
   upper-stood =
       subst (AllStood (linesAbove before))
-      (sym (ap (placedLines Above 0) (w .front) ∙ placed-lines-append Above 0 (w .upper) ([] ∷ []) ∙ ap (λ (p : Part). placedLines Above 0 (w .upper) ++ p) (placed-empty Above (0 + length (w .upper)) []) ∙ append-nil (placedLines Above 0 (w .upper))))
+      (sym (ap (placedLines Above 0) (w .front) ∙ placed-lines-append Above 0 (w .upper) ([] ∷ []) ∙ ap (λ (p : PlacedPiece). placedLines Above 0 (w .upper) ++ p) (placed-empty Above (0 + length (w .upper)) []) ∙ append-nil (placedLines Above 0 (w .upper))))
       (stood-lines (linesAbove before) Above 0 (w .upper) (λ k h. omega (arith, above-is before middle after w, zero-add k)))
 
   middle-stood : AllStood (linesAbove before) (middles middle)
@@ -405,7 +406,7 @@ module _ (before middle after : List ℕ) (w : Split before middle after) where
       stood-append (linesAbove before) (uppers before) (middles middle ++ lowers after) upper-stood (stood-append (linesAbove before) (middles middle) (lowers after) middle-stood lower-stood)
 
 -- the number from the text's start tells such lines apart
-one-line : (n : ℕ) (l m : Line) → Stood n l → Stood n m → lineNumber n l ≡ lineNumber n m → l ≡ m
+one-line : (n : ℕ) (l m : LineNumber) → Stood n l → Stood n m → lineNumber n l ≡ lineNumber n m → l ≡ m
 one-line n (Above k) (Above j) a b e = ap Above e
 one-line n (Above k) (Changed j) a b e = absurd (omega arith)
 one-line n (Above k) (Below j) a b e = absurd (omega arith)
@@ -420,5 +421,5 @@ pub lines-agree : LinesAgree
 lines-agree before middle changed after g i j e x y h k =
     ((λ q. ap (lineNumber (linesAbove before)) q), one-line (linesAbove before) (x .line) (y .line) (stood middle i x h) (stood changed j y k))
   where
-    stood : (m : List ℕ) → Inside m → (z : Placed) → In z (placed before m after) → Stood (linesAbove before) (z .line)
+    stood : (m : List ℕ) → InsideLine m → (z : Placed) → In z (placed before m after) → Stood (linesAbove before) (z .line)
     stood m inside z q = stood-in (linesAbove before) z (placed before m after) (placed-stood before m after (splits before m after g inside e)) q

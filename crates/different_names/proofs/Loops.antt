@@ -9,7 +9,7 @@ use lib.ListN.{length, getD, take, drop, drop-of-length-le}
 use lib.Seq.{drop-cons}
 use Rattle.stored.specs.Stored.{among, distinct}
 use Rattle.different_names.specs.Names.{nameAt, namesFrom}
-use Rattle.different_names.specs.code.Orders.{orderOf, Judged}
+use Rattle.different_names.specs.code.Orders.{orderOf, ToldRight}
 use Rattle.different_names.specs.declared.Told.{Told}
 use Rattle.different_names.specs.declared.Told.the-variants.{Different, Twice, Unsure}
 use Rattle.different_names.specs.declared.Order.{Order}
@@ -121,8 +121,8 @@ pub each-start : (s firsts sizes : List ℕ) (n : ℕ) → distinct (namesFrom (
 each-start s firsts sizes n = let e : n - 0 ≡ n = omega arith in rw e
 
 -- ---- the whole
-pub by-different : (s firsts sizes : List ℕ) (n : ℕ) (t : Told) → t ≡ Different → Judged (nameAt s firsts sizes) n t → true ≡ distinct (namesFrom (nameAt s firsts sizes) 0 n)
-by-different s firsts sizes n t e j = let w : Judged (nameAt s firsts sizes) n Different = subst (Judged (nameAt s firsts sizes) n) e j in sym w
+pub by-different : (s firsts sizes : List ℕ) (n : ℕ) (t : Told) → t ≡ Different → ToldRight (nameAt s firsts sizes) n t → true ≡ distinct (namesFrom (nameAt s firsts sizes) 0 n)
+by-different s firsts sizes n t e j = let w : ToldRight (nameAt s firsts sizes) n Different = subst (ToldRight (nameAt s firsts sizes) n) e j in sym w
 
-pub by-twice : (s firsts sizes : List ℕ) (n : ℕ) (t : Told) → t ≡ Twice → Judged (nameAt s firsts sizes) n t → false ≡ distinct (namesFrom (nameAt s firsts sizes) 0 n)
-by-twice s firsts sizes n t e j = let w : Judged (nameAt s firsts sizes) n Twice = subst (Judged (nameAt s firsts sizes) n) e j in sym w
+pub by-twice : (s firsts sizes : List ℕ) (n : ℕ) (t : Told) → t ≡ Twice → ToldRight (nameAt s firsts sizes) n t → false ≡ distinct (namesFrom (nameAt s firsts sizes) 0 n)
+by-twice s firsts sizes n t e j = let w : ToldRight (nameAt s firsts sizes) n Twice = subst (ToldRight (nameAt s firsts sizes) n) e j in sym w

@@ -5,7 +5,7 @@ ghost use Prim.Native.Nat.{_+_, _-_, _≤_, _<_};
 ghost use lib.ListN.{take, drop};
 ghost use Rattle.stored.specs.Stored.{mostItems, among, distinct};
 ghost use Rattle.different_names.specs.Names.{nameAt, namesFrom};
-ghost use Rattle.different_names.specs.code.Orders.{orderOf, Judged};
+ghost use Rattle.different_names.specs.code.Orders.{orderOf, ToldRight};
 use stored::MOST_ITEMS;
 
 // How one name stands to another in byte order.
@@ -180,7 +180,7 @@ fn told_by(
     n: usize,
 ) -> Told
     requires { ⌜ n ≤ mostItems ⌝ }
-    ensures { λ r. ⌜ Judged (nameAt (now (s .entry)) (now (firsts .entry)) (now (sizes .entry))) n r ⌝ }
+    ensures { λ r. ⌜ ToldRight (nameAt (now (s .entry)) (now (firsts .entry)) (now (sizes .entry))) n r ⌝ }
 {
     if n == 0 {
         return Told::Different;
@@ -216,7 +216,7 @@ fn told_by(
 
 fn told_sorted(s: &[u8], firsts: &[u64; MOST_ITEMS], sizes: &[u64; MOST_ITEMS], n: usize) -> Told
     requires { ⌜ n ≤ mostItems ⌝ }
-    ensures { λ r. ⌜ Judged (nameAt (now (s .entry)) (now (firsts .entry)) (now (sizes .entry))) n r ⌝ }
+    ensures { λ r. ⌜ ToldRight (nameAt (now (s .entry)) (now (firsts .entry)) (now (sizes .entry))) n r ⌝ }
 {
     let mut order = [0u64; MOST_ITEMS];
     number(&mut order);

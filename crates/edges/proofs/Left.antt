@@ -12,12 +12,12 @@ use Rattle.places.specs.Sizes.{mostBytes, mostElements, mostPieces}
 use Rattle.places.specs.Places.{rowWords}
 use Rattle.pieces.specs.Records.{recordWords}
 use Rattle.element_reading.specs.Rows.{rowsOf}
-use Rattle.meaning.specs.Elements.{piecesOf}
+use Rattle.meaning.specs.Pieces.{piecesOf}
 use Rattle.meaning.specs.code.PieceValues.{recordsOf}
 use Rattle.survey_reading.specs.code.Survey.{itemTable}
-use Rattle.survey_reading.proofs.Promises.{surveyed, says-of-records}
+use Rattle.survey_reading.proofs.Promises.{surveyed-exactly, says-of-records}
 use Rattle.survey_reading.proofs.Permits.{permitted-is}
-use Rattle.edges.specs.Left.{OfTable, lastsFrom, Line, packageOf, lineWords, Leaves, LeavesEach}
+use Rattle.edges.specs.Left.{OfTable, lastsFrom, ItemLine, packageOf, lineWords, LeavesWords, LeavesEach}
 
 -- none of 1, 3 and 9 refuses the text
 unfoldable pub fits : List ℕ → Bool
@@ -33,25 +33,25 @@ left f text words h g x t u p =
     let bytes = leb-true (length text) mostBytes (both-left (leb (length text) mostBytes) (few && all) h) in
     let rows = leb-true (length (rowsOf text)) mostElements (both-left few all rest) in
     let pieces = leb-true (length (piecesOf text)) mostPieces (both-right few all rest) in
-    let done = surveyed text (rowWords * mostElements) (recordWords * mostPieces) .1 ((bytes, rows, omega arith), pieces, omega arith) in
+    let done = surveyed-exactly text (rowWords * mostElements) (recordWords * mostPieces) .1 ((bytes, rows, omega arith), pieces, omega arith) in
     let said = says-of-records text (rowWords * mostElements) (recordWords * mostPieces) (done .0) (done .1) in
     let after = permitted-is text (rowWords * mostElements) (recordWords * mostPieces) x t u p in
     ap f (after .2 ∙ said .0) ∙ g (replicate (recordWords * mostPieces - recordWords * length (piecesOf text)) 0)
 
 -- the words of the items of a package
-pub leaves : (ls : List Line) → fits (packageOf ls) ≡ true → ((rest : List ℕ) → lastsFrom 1 (length ls) (recordsOf (packageOf ls) ++ rest) ≡ lineWords ls) → Leaves ls
+pub leaves : (ls : List ItemLine) → fits (packageOf ls) ≡ true → ((rest : List ℕ) → lastsFrom 1 (length ls) (recordsOf (packageOf ls) ++ rest) ≡ lineWords ls) → LeavesWords ls
 leaves ls h g = left (lastsFrom 1 (length ls)) (packageOf ls) (lineWords ls) h g
 
 -- of each item in a package of its own
-unfoldable pub eachFits : List Line → Bool
+unfoldable pub eachFits : List ItemLine → Bool
 eachFits [] = true
 eachFits (l ∷ ls) = fits (packageOf (l ∷ [])) && eachFits ls
 
-unfoldable pub eachEnds : List Line → List ℕ → List (List ℕ)
+unfoldable pub eachEnds : List ItemLine → List ℕ → List (List ℕ)
 eachEnds [] rest = []
 eachEnds (l ∷ ls) rest = lastsFrom 1 1 (recordsOf (packageOf (l ∷ [])) ++ rest) ∷ eachEnds ls rest
 
-abbrev pub eachWords : List Line → List (List ℕ)
+abbrev pub eachWords : List ItemLine → List (List ℕ)
 eachWords [] = []
 eachWords (l ∷ ls) = lineWords (l ∷ []) ∷ eachWords ls
 
@@ -61,7 +61,7 @@ same-head x y xs ys e = cc
 same-tail : (x y : List ℕ) (xs ys : List (List ℕ)) → x ∷ xs ≡ y ∷ ys → xs ≡ ys
 same-tail x y xs ys e = cc
 
-pub leaves-each : (ls : List Line) → eachFits ls ≡ true → ((rest : List ℕ) → eachEnds ls rest ≡ eachWords ls) → LeavesEach ls
+pub leaves-each : (ls : List ItemLine) → eachFits ls ≡ true → ((rest : List ℕ) → eachEnds ls rest ≡ eachWords ls) → LeavesEach ls
 unfolding eachFits eachEnds
 leaves-each [] h g = tt
 leaves-each (l ∷ ls) h g = (

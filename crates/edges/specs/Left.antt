@@ -37,31 +37,31 @@ lastsFrom k zero items = []
 lastsFrom k (suc n) items = lastWords k items ++ lastsFrom (suc k) n items
 
 -- an item's bytes, and the last four words of its record: state, kind and two numbers
-pub record Line : Type 0 where
+pub record ItemLine : Type 0 where
   pub item : List ℕ
   pub words : List ℕ
 
-abbrev pub line : String → ℕ → ℕ → ℕ → ℕ → Line
+abbrev pub line : String → ℕ → ℕ → ℕ → ℕ → ItemLine
 line item state kind low high = record { item = bytesOf item; words = state ∷ kind ∷ low ∷ high ∷ [] }
 
 -- the package of these items, a line to each
-abbrev pub itemsOf : List Line → List ℕ
-itemsOf [] = []
-itemsOf (l ∷ ls) = l .item ++ (bytesOf "\n" ++ itemsOf ls)
+abbrev pub itemsText : List ItemLine → List ℕ
+itemsText [] = []
+itemsText (l ∷ ls) = l .item ++ (bytesOf "\n" ++ itemsText ls)
 
-abbrev pub packageOf : List Line → List ℕ
-packageOf ls = bytesOf "package p is\n" ++ itemsOf ls ++ bytesOf "end;\n"
+abbrev pub packageOf : List ItemLine → List ℕ
+packageOf ls = bytesOf "package p is\n" ++ itemsText ls ++ bytesOf "end;\n"
 
 -- their words
-abbrev pub lineWords : List Line → List ℕ
+abbrev pub lineWords : List ItemLine → List ℕ
 lineWords [] = []
 lineWords (l ∷ ls) = l .words ++ lineWords ls
 
 -- A survey of the package leaves these words in the records of its items, which stand after the heading's.
-abbrev pub Leaves : List Line → Type 0
-Leaves ls = OfTable (packageOf ls) (λ items. lastsFrom 1 (length ls) items ≡ lineWords ls)
+abbrev pub LeavesWords : List ItemLine → Type 0
+LeavesWords ls = OfTable (packageOf ls) (λ items. lastsFrom 1 (length ls) items ≡ lineWords ls)
 
 -- The same of each item in a package of its own.
-abbrev pub LeavesEach : List Line → Type 0
+abbrev pub LeavesEach : List ItemLine → Type 0
 LeavesEach [] = Unit {0}
-LeavesEach (l ∷ ls) = Leaves (l ∷ []) × LeavesEach ls
+LeavesEach (l ∷ ls) = LeavesWords (l ∷ []) × LeavesEach ls

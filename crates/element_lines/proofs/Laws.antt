@@ -14,8 +14,7 @@ use Rattle.puts.proofs.Laws.{then3, named}
 use Rattle.refused_line.specs.Refused.{refusal, place, counted, refusedOf, linesBy}
 use Rattle.refused_line.proofs.Laws.{given-line, refused-line}
 use Rattle.places.specs.Places.{kindColumn, firstColumn, sizeColumn, cellAt, rowsIn}
-use Rattle.places.specs.Kinds.{firstReserved}
-use Rattle.element_lines.specs.Lines.{kindWords, kindWord, placesOf, elementOf, headOf, listedLine, elementLine, elementLines}
+use Rattle.element_lines.specs.Lines.{kindWords, kindWord, placesOf, elementOf, headOf, listedLine, elementLine, elementLines, firstReserved}
 
 pub kind-put : {t t′ : List ℕ} {at r : ℕ} (n k : ℕ) → n ≡ k → Wrote t at (kindWord k) t′ r → Wrote t at (kindWord n) t′ r
 kind-put n k e p = named (ap kindWord e) p

@@ -7,7 +7,6 @@ use lib.Dec.{ltb}
 use lib.ListN.{getD}
 use Rattle.words.specs.Words.{bytesOf}
 use Rattle.places.specs.Places.{kindColumn, firstColumn, sizeColumn, cellAt, rowsIn}
-use Rattle.places.specs.Kinds.{firstReserved}
 use Rattle.puts.specs.Decimals.{decimalOf, fieldOf, lineFeed}
 use Rattle.puts.specs.Lines.{linesFrom}
 use Rattle.refused_line.specs.Refused.{counted, lineBy, linesBy}
@@ -16,6 +15,9 @@ use Rattle.refused_line.specs.Refused.{counted, lineBy, linesBy}
 -- kinds 1 to 7 by their numbers, then the delimiters, and from the first reserved word on the reserved words
 unfoldable pub kindWords : List String
 kindWords = "" ∷ " identifier" ∷ " extended" ∷ " integer" ∷ " real" ∷ " character" ∷ " string" ∷ " unreadable" ∷ []
+
+abbrev pub firstReserved : ℕ
+firstReserved = 33
 
 unfoldable pub kindWord : ℕ → List ℕ
 kindWord k = bytesOf (getD kindWords k (cond (ltb k firstReserved) " delimiter" " reserved"))

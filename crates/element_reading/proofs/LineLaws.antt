@@ -7,15 +7,14 @@ use native.Mathlib.Nat.{not-suc-le-zero, add-zero, suc-add, add-suc, add-assoc}
 use native.Mathlib.Omega.{arith}
 use lib.ListN.{length, drop, length-drop, drop-of-length-le}
 use lib.Seq.{drop-cons, drop-drop}
-use Rattle.elements.specs.Kinds.{ticksAfter}
-use Rattle.elements.specs.Element.{elementAt}
+use Rattle.elements.specs.Element.{elementAt, ticksAfter}
 use Rattle.elements.specs.declared.Kind.{Kind}
 use Rattle.elements.specs.declared.Front.{Front}
 use Rattle.elements.specs.declared.Front.the-variants.{Skip, Element}
 use Rattle.elements.proofs.Sizes.{sizeOf, element-good}
-use Rattle.element_reading.specs.Rows.{Row, lineRows}
+use Rattle.element_reading.specs.Rows.{ElementRow, lineRows}
 
-abbrev pub rowAt : Kind → ℕ → ℕ → Row
+abbrev pub rowAt : Kind → ℕ → ℕ → ElementRow
 rowAt k at n = record { kind = k; first = at; size = n }
 
 -- the bytes that were read already are passed over
@@ -36,7 +35,7 @@ pub front-element : (r : List ℕ) (at n : ℕ) (ticks : Bool) (k : Kind) → 0 
 unfolding lineRows
 front-element [] at n ticks k l e = absurd (not-suc-le-zero l)
 front-element (b ∷ r) at zero ticks k l e = absurd (not-suc-le-zero (rw e at (element-good b r ticks .0)))
-front-element (b ∷ r) at (suc m) ticks k l e = rw (e, lineRows) (ap (λ (t : List Row). rowAt k at (suc m) ∷ t) (line-over m (suc at) (ticksAfter k) r ∙ rw (suc-add, ← add-suc)))
+front-element (b ∷ r) at (suc m) ticks k l e = rw (e, lineRows) (ap (λ (t : List ElementRow). rowAt k at (suc m) ∷ t) (line-over m (suc at) (ticksAfter k) r ∙ rw (suc-add, ← add-suc)))
 
 pub rest-there : (s : List ℕ) (i : ℕ) → i < length s → 0 < length (drop i s)
 rest-there s i h = rw (drop-cons s i 0 h) (suc-le-suc zero-le)

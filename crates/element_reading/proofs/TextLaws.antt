@@ -9,7 +9,7 @@ use lib.ListN.{length, take, drop, drop-of-length-le}
 use lib.Seq.{length-take-le, take-all}
 use lib.Dec.{ltb}
 use borrow.Author.Tests.{ltb-true, ltb-false}
-use Rattle.classes.specs.Bytes.{endsLine}
+use Rattle.classes.specs.Signs.{endsLine}
 use Rattle.classes.specs.Runs.{countWhile}
 use Rattle.classes.proofs.Laws.{count-more, count-none}
 use Rattle.element_reading.specs.Rows.{onto, linesOf, lineRows, linesRows}

@@ -3,14 +3,13 @@ use Prim.Native.Nat.{ℕ, zero, suc, pred, _+_}
 use mathlib.Core.Bool.{Bool, true, false}
 use mathlib.Core.List.{List, [], _∷_, _++_}
 use lib.ListN.{length}
-use Rattle.classes.specs.Bytes.{endsLine}
-use Rattle.elements.specs.Kinds.{ticksAfter}
-use Rattle.elements.specs.Element.{elementAt}
+use Rattle.classes.specs.Signs.{endsLine}
+use Rattle.elements.specs.Element.{elementAt, ticksAfter}
 use Rattle.elements.specs.declared.Kind.{Kind}
 use Rattle.elements.specs.declared.Front.the-variants.{Skip, Element}
 
 -- "A row has kind, first byte and length."
-pub record Row : Type 0 where
+pub record ElementRow : Type 0 where
   pub kind : Kind
   pub first : ℕ
   pub size : ℕ
@@ -27,7 +26,7 @@ linesOf (b ∷ s) = elim (endsLine b) [ true ↦ [] ∷ linesOf s | false ↦ on
 
 -- the rows of a line's rest that stands at the byte `at`; its first k bytes belong to what was read already, and `ticks` says that the
 -- element before it on the line is a non-reserved identifier or `)`
-unfoldable pub lineRows : ℕ → ℕ → Bool → List ℕ → List Row
+unfoldable pub lineRows : ℕ → ℕ → Bool → List ℕ → List ElementRow
 lineRows zero at ticks [] = []
 lineRows (suc k) at ticks [] = []
 lineRows (suc k) at ticks (b ∷ l) = lineRows k (suc at) ticks l
@@ -38,9 +37,9 @@ lineRows zero at ticks (b ∷ l) =
     ]
 
 -- the rows of lines one after the other, the first of which begins at the byte `at`
-unfoldable pub linesRows : ℕ → List (List ℕ) → List Row
+unfoldable pub linesRows : ℕ → List (List ℕ) → List ElementRow
 linesRows at [] = []
 linesRows at (l ∷ ls) = lineRows 0 at false l ++ linesRows (suc (at + length l)) ls
 
-unfoldable pub rowsOf : List ℕ → List Row
+unfoldable pub rowsOf : List ℕ → List ElementRow
 rowsOf s = linesRows 0 (linesOf s)

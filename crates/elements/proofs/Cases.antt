@@ -9,7 +9,8 @@ use mir.Val.{Fits}
 use mir.Syntax.{w8, w64}
 use lib.Dec.{eqb}
 use lib.ListN.{length, take, drop, getD, length-drop}
-use Rattle.classes.specs.Bytes.{separates, isLetter, isDigit, isGraphic}
+use Rattle.classes.specs.Bytes.{isLetter, isDigit}
+use Rattle.classes.specs.Signs.{separates, isGraphic}
 use Rattle.classes.specs.Runs.{run}
 use Rattle.classes.specs.declared.Run.the-variants.{Word}
 use Rattle.classes.proofs.Laws.{part-rest, run-le}
@@ -24,9 +25,9 @@ use Rattle.quoted.proofs.Laws.{closed-in}
 use Rattle.quoted.specs.Quoted.{closedFrom}
 use Rattle.quoted.specs.declared.Closed.{Closed}
 use Rattle.quoted.specs.declared.Closed.the-variants.{After, Never}
-use Rattle.elements.specs.Element.{unreadable, string, stringBy, apostrophe, spoilsNumber, delimiter, ruled, elementAt}
+use Rattle.elements.specs.Element.{unreadableFront, stringFront, stringBy, apostropheFront, spoilsNumber, delimiterFront, ruled, elementAt}
 use Rattle.elements.proofs.Rules.{found-ruled}
-use Rattle.elements.specs.code.Ways.{nameAt, wordAt, extendedAt, extendedFrom, numeralAt, numeralFrom, singleAt, delimiterAt, otherAt, opensOf, foundAt, openedBy}
+use Rattle.elements.specs.code.Ways.{identifierAt, lettersAt, extendedAt, extendedFrom, numeralAt, numeralFrom, singleAt, delimiterAt, otherAt, opensOf, foundAt, openedBy}
 use Rattle.elements.specs.declared.Kind.{Kind}
 use Rattle.elements.specs.declared.Literal.{Literal}
 use Rattle.elements.specs.declared.Opens.{Opens}
@@ -51,21 +52,21 @@ module _ (s : List ℕ) (n next : ℕ) (h : n ≡ run Word s) (q : next ≡ getD
   pub word-part : n ≤ length s
   word-part = omega (arith, h, run-le Word s)
 
-  pub word-broken : (f : Front) → next ≡ 95 → f ≡ unreadable s → f ≡ wordAt s
-  unfolding wordAt
+  pub word-broken : (f : Front) → next ≡ 95 → f ≡ unreadableFront s → f ≡ lettersAt s
+  unfolding lettersAt
   word-broken f e g = simp (← h, ← q, eq-eqb next 95 e, g)
 
   module _ (p : Place) (x : next ≡ 95 → ⊥) (e : p ≡ placeIn (take n s) reservedWords) where
-    pub word-reserved : (k : ℕ) → p ≡ At k → Element (Kind.Reserved k) n ≡ wordAt s
-    unfolding wordAt
+    pub word-reserved : (k : ℕ) → p ≡ At k → Element (Kind.Reserved k) n ≡ lettersAt s
+    unfolding lettersAt
     word-reserved k m = simp (← h, ← q, ne-eqb next 95 x, ← e, m)
 
-    pub word-quote : (f : Front) → p ≡ Nowhere → next ≡ 34 → f ≡ unreadable s → f ≡ wordAt s
-    unfolding wordAt nameAt
+    pub word-quote : (f : Front) → p ≡ Nowhere → next ≡ 34 → f ≡ unreadableFront s → f ≡ lettersAt s
+    unfolding lettersAt identifierAt
     word-quote f m y g = simp (← h, ← q, ne-eqb next 95 x, ← e, m, eq-eqb next 34 y, g)
 
-    pub word-name : p ≡ Nowhere → (next ≡ 34 → ⊥) → Element Kind.Identifier n ≡ wordAt s
-    unfolding wordAt nameAt
+    pub word-name : p ≡ Nowhere → (next ≡ 34 → ⊥) → Element Kind.Identifier n ≡ lettersAt s
+    unfolding lettersAt identifierAt
     word-name m y = simp (← h, ← q, ne-eqb next 95 x, ← e, m, ne-eqb next 34 y)
 
 -- what stands between marks: the mark at 0, then the answer of `closing`
@@ -74,25 +75,25 @@ module _ (s : List ℕ) (cl : Closed) (e : cl ≡ closedFrom 92 0 (take (length 
   unfolding extendedAt
   extended-is = rw (e, part-rest s 1)
 
-  pub extended-open : (f : Front) → cl ≡ Never → f ≡ unreadable s → f ≡ extendedAt s
+  pub extended-open : (f : Front) → cl ≡ Never → f ≡ unreadableFront s → f ≡ extendedAt s
   extended-open f m g = g ∙ sym (rw m at extended-is)
 
   module _ (n next : ℕ) (x : Bool) (m : cl ≡ After n) (q : next ≡ getD s (n + 1) 0) (y : x ≡ (eqb n 1 || eqb next 95 || eqb next 34)) where
-    pub extended-spoilt : (f : Front) → x ≡ true → f ≡ unreadable s → f ≡ extendedAt s
+    pub extended-spoilt : (f : Front) → x ≡ true → f ≡ unreadableFront s → f ≡ extendedAt s
     extended-spoilt f t g = g ∙ sym (rw (m, ← q, ← y, t) at extended-is)
 
     pub extended-whole : x ≡ false → Element Kind.Extended (n + 1) ≡ extendedAt s
     extended-whole t = sym (rw (m, ← q, ← y, t) at extended-is)
 
 module _ (s : List ℕ) (cl : Closed) (e : cl ≡ closedFrom 34 0 (take (length s - 1) (drop 1 s))) where
-  string-is : string s ≡ stringBy cl s
-  unfolding string
+  string-is : stringFront s ≡ stringBy cl s
+  unfolding stringFront
   string-is = rw (e, part-rest s 1)
 
-  pub string-open : (f : Front) → cl ≡ Never → f ≡ unreadable s → f ≡ string s
+  pub string-open : (f : Front) → cl ≡ Never → f ≡ unreadableFront s → f ≡ stringFront s
   string-open f m g = g ∙ sym (rw m at string-is)
 
-  pub string-whole : (n : ℕ) → cl ≡ After n → Element (Kind.Literal Literal.String) (n + 1) ≡ string s
+  pub string-whole : (n : ℕ) → cl ≡ After n → Element (Kind.Literal Literal.String) (n + 1) ≡ stringFront s
   string-whole n m = sym (rw m at string-is)
 
 -- numbers, and what stands after them
@@ -101,17 +102,17 @@ module _ (s : List ℕ) (r : Number) (e : r ≡ number s) where
   unfolding numeralAt
   numeral-is = rw e
 
-  pub numeral-none : (f : Front) → r ≡ Neither → f ≡ unreadable s → f ≡ numeralAt s
+  pub numeral-none : (f : Front) → r ≡ Neither → f ≡ unreadableFront s → f ≡ numeralAt s
   numeral-none f m g = g ∙ sym (rw m at numeral-is)
 
   module _ (n b : ℕ) (x : Bool) (q : b ≡ getD s n 0) (y : x ≡ spoilsNumber b) where
-    pub integer-spoilt : (f : Front) → r ≡ Integer n → x ≡ true → f ≡ unreadable s → f ≡ numeralAt s
+    pub integer-spoilt : (f : Front) → r ≡ Integer n → x ≡ true → f ≡ unreadableFront s → f ≡ numeralAt s
     integer-spoilt f m t g = g ∙ sym (rw (m, ← q, ← y, t) at numeral-is)
 
     pub integer-whole : r ≡ Integer n → x ≡ false → Element (Kind.Literal Literal.Integer) n ≡ numeralAt s
     integer-whole m t = sym (rw (m, ← q, ← y, t) at numeral-is)
 
-    pub real-spoilt : (f : Front) → r ≡ Real n → x ≡ true → f ≡ unreadable s → f ≡ numeralAt s
+    pub real-spoilt : (f : Front) → r ≡ Real n → x ≡ true → f ≡ unreadableFront s → f ≡ numeralAt s
     real-spoilt f m t g = g ∙ sym (rw (m, ← q, ← y, t) at numeral-is)
 
     pub real-whole : r ≡ Real n → x ≡ false → Element (Kind.Literal Literal.Real) n ≡ numeralAt s
@@ -119,22 +120,22 @@ module _ (s : List ℕ) (r : Number) (e : r ≡ number s) where
 
 -- the apostrophe
 module _ (s : List ℕ) (ticks : Bool) where
-  pub tick-after : ticks ≡ true → Element (Kind.Delimiter 8) 1 ≡ apostrophe ticks s
-  unfolding apostrophe
+  pub tick-after : ticks ≡ true → Element (Kind.Delimiter 8) 1 ≡ apostropheFront ticks s
+  unfolding apostropheFront
   tick-after t = simp t
 
   module _ (b : ℕ) (t : ticks ≡ false) (q : b ≡ getD s 2 0) where
-    pub tick-alone : (b ≡ 39 → ⊥) → Element (Kind.Delimiter 8) 1 ≡ apostrophe ticks s
-    unfolding apostrophe
+    pub tick-alone : (b ≡ 39 → ⊥) → Element (Kind.Delimiter 8) 1 ≡ apostropheFront ticks s
+    unfolding apostropheFront
     tick-alone n = simp (t, ← q, ne-eqb b 39 n)
 
     module _ (d : ℕ) (x : Bool) (e : b ≡ 39) (q′ : d ≡ getD s 1 0) (y : x ≡ isGraphic d) where
-      pub character-whole : x ≡ true → Element (Kind.Literal Literal.Character) 3 ≡ apostrophe ticks s
-      unfolding apostrophe
+      pub character-whole : x ≡ true → Element (Kind.Literal Literal.Character) 3 ≡ apostropheFront ticks s
+      unfolding apostropheFront
       character-whole u = simp (t, ← q, eq-eqb b 39 e, ← q′, ← y, u)
 
-      pub character-broken : (f : Front) → x ≡ false → f ≡ unreadable s → f ≡ apostrophe ticks s
-      unfolding apostrophe
+      pub character-broken : (f : Front) → x ≡ false → f ≡ unreadableFront s → f ≡ apostropheFront ticks s
+      unfolding apostropheFront
       character-broken f u g = simp (t, ← q, eq-eqb b 39 e, ← q′, ← y, u, g)
 
 -- delimiters
@@ -156,7 +157,7 @@ module _ (s : List ℕ) (p : Place) (b : ℕ) (q : b ≡ getD s 0 0) where
     unfolding singleAt
     single-found k m = simp (← one-as, m)
 
-    pub single-none : (f : Front) → p ≡ Nowhere → f ≡ unreadable s → f ≡ singleAt s
+    pub single-none : (f : Front) → p ≡ Nowhere → f ≡ unreadableFront s → f ≡ singleAt s
     unfolding singleAt
     single-none f m g = simp (← one-as, m, g)
 
@@ -182,7 +183,7 @@ module _ (s : List ℕ) (b d : ℕ) (q : b ≡ getD s 0 0) (q′ : d ≡ getD s 
   unfolding otherAt
   other-comment t = simp (← q, ← q′, t)
 
-  pub other-delimited : (f : Front) → (eqb b 45 && eqb d 45) ≡ false → (eqb b 47 && eqb d 42) ≡ true → f ≡ unreadable s → f ≡ otherAt s
+  pub other-delimited : (f : Front) → (eqb b 45 && eqb d 45) ≡ false → (eqb b 47 && eqb d 42) ≡ true → f ≡ unreadableFront s → f ≡ otherAt s
   unfolding otherAt
   other-delimited f t u g = simp (← q, ← q′, t, u, g)
 
@@ -231,26 +232,26 @@ module _ (s : List ℕ) (ticks : Bool) (b : ℕ) (o : Opens) (q : b ≡ getD s 0
   pub opened-separator : o ≡ Opens.Separator → Skip 1 ≡ elementAt ticks s
   opened-separator m = opened Opens.Separator m
 
-  pub opened-letter : (f : Front) → o ≡ Opens.Letter → f ≡ wordAt s → f ≡ elementAt ticks s
+  pub opened-letter : (f : Front) → o ≡ Opens.Letter → f ≡ lettersAt s → f ≡ elementAt ticks s
   opened-letter f m g = g ∙ opened Opens.Letter m
 
   pub opened-digit : (f : Front) → o ≡ Opens.Digit → f ≡ numeralAt s → f ≡ elementAt ticks s
   opened-digit f m g = g ∙ opened Opens.Digit m
 
-  pub opened-quote : (f : Front) → o ≡ Opens.Quote → f ≡ string s → f ≡ elementAt ticks s
+  pub opened-quote : (f : Front) → o ≡ Opens.Quote → f ≡ stringFront s → f ≡ elementAt ticks s
   opened-quote f m g = g ∙ opened Opens.Quote m
 
   pub opened-backslash : (f : Front) → o ≡ Opens.Backslash → f ≡ extendedAt s → f ≡ elementAt ticks s
   opened-backslash f m g = g ∙ opened Opens.Backslash m
 
-  pub opened-apostrophe : (f : Front) → o ≡ Opens.Apostrophe → f ≡ apostrophe ticks s → f ≡ elementAt ticks s
+  pub opened-apostrophe : (f : Front) → o ≡ Opens.Apostrophe → f ≡ apostropheFront ticks s → f ≡ elementAt ticks s
   opened-apostrophe f m g = g ∙ opened Opens.Apostrophe m
 
   pub opened-other : (f : Front) → o ≡ Opens.Other → f ≡ otherAt s → f ≡ elementAt ticks s
   opened-other f m g = g ∙ opened Opens.Other m
 
 -- an empty rest
-pub by-nothing : (s : List ℕ) (ticks : Bool) (f : Front) → length s ≡ 0 → f ≡ unreadable s → f ≡ elementAt ticks s
-unfolding elementAt ruled delimiter unreadable separates isLetter isDigit placeFrom delimiters spells begins bytesOf
+pub by-nothing : (s : List ℕ) (ticks : Bool) (f : Front) → length s ≡ 0 → f ≡ unreadableFront s → f ≡ elementAt ticks s
+unfolding elementAt ruled delimiterFront unreadableFront separates isLetter isDigit placeFrom delimiters spells begins bytesOf
 by-nothing [] ticks f e g = g
 by-nothing (b ∷ s) ticks f e g = absurd (omega (arith, e))

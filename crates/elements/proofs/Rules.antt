@@ -6,7 +6,8 @@ use Prim.Native.Nat.{ℕ, suc, _≤_, zero-le, suc-le-suc}
 use borrow.Author.Tests.{eqb-true, le-ltb}
 use lib.Dec.{eqb}
 use lib.ListN.{length, take, drop, getD}
-use Rattle.classes.specs.Bytes.{separates, isLetter, isDigit, isGraphic}
+use Rattle.classes.specs.Bytes.{isLetter, isDigit}
+use Rattle.classes.specs.Signs.{separates, isGraphic}
 use Rattle.classes.specs.Runs.{run}
 use Rattle.classes.specs.declared.Run.the-variants.{Word}
 use Rattle.classes.proofs.Laws.{by-test}
@@ -19,8 +20,8 @@ use Rattle.numbers.specs.declared.Number.the-variants.{Integer, Real, Neither}
 use Rattle.quoted.specs.Quoted.{closed}
 use Rattle.quoted.specs.declared.Closed.{Closed}
 use Rattle.quoted.specs.declared.Closed.the-variants.{After, Never}
-use Rattle.elements.specs.Element.{unreadable, identifierBy, identifier, extendedBy, extended, numeralBy, stringBy, string, apostrophe, delimiterBy, delimiter, ruled, unlessSpoilt, elementAt}
-use Rattle.elements.specs.code.Ways.{nameAt, wordBy, wordAt, extendedFrom, extendedAt, numeralFrom, numeralAt, singleAt, delimiterAt, otherAt, opensOf, openedBy, foundAt}
+use Rattle.elements.specs.Element.{unreadableFront, identifierBy, identifierFront, extendedBy, extendedFront, numeralBy, stringBy, stringFront, apostropheFront, delimiterBy, delimiterFront, ruled, unlessSpoilt, elementAt}
+use Rattle.elements.specs.code.Ways.{identifierAt, wordBy, lettersAt, extendedFrom, extendedAt, numeralFrom, numeralAt, singleAt, delimiterAt, otherAt, opensOf, openedBy, foundAt}
 use Rattle.elements.specs.declared.Opens.{Opens}
 use Rattle.elements.specs.declared.Front.{Front}
 use Rattle.elements.specs.declared.Front.the-variants.{Skip}
@@ -39,20 +40,20 @@ either false y u v = refl
 
 -- each rule with the byte after its element
 module _ (s : List ℕ) where
-  unreadable-as : unreadable s ≡ unlessSpoilt s (unreadable s)
-  unfolding unreadable
+  unreadable-as : unreadableFront s ≡ unlessSpoilt s (unreadableFront s)
+  unfolding unreadableFront
   unreadable-as = refl
 
-  word-as : wordAt s ≡ unlessSpoilt s (identifier s)
-  unfolding wordAt nameAt identifier
+  word-as : lettersAt s ≡ unlessSpoilt s (identifierFront s)
+  unfolding lettersAt identifierAt identifierFront
   word-as = go (placeIn (take (run Word s) s) reservedWords)
     where
-      go : (p : Place) → cond (eqb (getD s (run Word s) 0) 95) (unreadable s) (wordBy p s) ≡ unlessSpoilt s (identifierBy p (run Word s))
+      go : (p : Place) → cond (eqb (getD s (run Word s) 0) 95) (unreadableFront s) (wordBy p s) ≡ unlessSpoilt s (identifierBy p (run Word s))
       go (At k) = refl
       go Nowhere = either (eqb (getD s (run Word s) 0) 95) (eqb (getD s (run Word s) 0) 34) _ _
 
-  extended-as : extendedAt s ≡ unlessSpoilt s (extended s)
-  unfolding extendedAt extended
+  extended-as : extendedAt s ≡ unlessSpoilt s (extendedFront s)
+  unfolding extendedAt extendedFront
   extended-as = go (closed 92 (drop 1 s))
     where
       go : (c : Closed) → extendedFrom c s ≡ unlessSpoilt s (extendedBy c s)
@@ -72,33 +73,33 @@ module _ (s : List ℕ) where
       go (Real n) = refl
       go Neither = unreadable-as
 
-  string-as : string s ≡ unlessSpoilt s (string s)
-  unfolding string
+  string-as : stringFront s ≡ unlessSpoilt s (stringFront s)
+  unfolding stringFront
   string-as = go (closed 34 (drop 1 s))
     where
       go : (c : Closed) → stringBy c s ≡ unlessSpoilt s (stringBy c s)
       go (After n) = refl
       go Never = unreadable-as
 
-  apostrophe-as : (ticks : Bool) → apostrophe ticks s ≡ unlessSpoilt s (apostrophe ticks s)
-  unfolding apostrophe
+  apostrophe-as : (ticks : Bool) → apostropheFront ticks s ≡ unlessSpoilt s (apostropheFront ticks s)
+  unfolding apostropheFront
   apostrophe-as ticks =
       by-test Kept (not ticks && eqb (getD s 2 0) 39) (λ _. by-test Kept (isGraphic (getD s 1 0)) (λ _. refl) (λ _. unreadable-as)) (λ _. refl)
     where
       Kept : Front → Type 0
       Kept f = f ≡ unlessSpoilt s f
 
-delimiter-as : (s : List ℕ) → delimiterAt s ≡ unlessSpoilt s (delimiter s)
-unfolding delimiterAt singleAt delimiter placeFrom delimiters spells bytesOf
+delimiter-as : (s : List ℕ) → delimiterAt s ≡ unlessSpoilt s (delimiterFront s)
+unfolding delimiterAt singleAt delimiterFront placeFrom delimiters spells bytesOf
 delimiter-as [] = unreadable-as []
 delimiter-as (b ∷ []) = go (placeIn (b ∷ []) delimiters)
   where
-    go : (p : Place) → delimiterBy p 1 (unreadable (b ∷ [])) ≡ unlessSpoilt (b ∷ []) (delimiterBy p 1 (delimiterBy p 1 (unreadable (b ∷ []))))
+    go : (p : Place) → delimiterBy p 1 (unreadableFront (b ∷ [])) ≡ unlessSpoilt (b ∷ []) (delimiterBy p 1 (delimiterBy p 1 (unreadableFront (b ∷ []))))
     go (At k) = refl
     go Nowhere = unreadable-as (b ∷ [])
 delimiter-as (b ∷ d ∷ t) = rw (le-ltb (length (b ∷ d ∷ t)) 2 (suc-le-suc (suc-le-suc zero-le))) (go (placeIn (b ∷ d ∷ []) delimiters) (placeIn (b ∷ []) delimiters))
   where
-    go : (p q : Place) → delimiterBy p 2 (delimiterBy q 1 (unreadable (b ∷ d ∷ t))) ≡ unlessSpoilt (b ∷ d ∷ t) (delimiterBy p 2 (delimiterBy q 1 (unreadable (b ∷ d ∷ t))))
+    go : (p q : Place) → delimiterBy p 2 (delimiterBy q 1 (unreadableFront (b ∷ d ∷ t))) ≡ unlessSpoilt (b ∷ d ∷ t) (delimiterBy p 2 (delimiterBy q 1 (unreadableFront (b ∷ d ∷ t))))
     go (At k) q = refl
     go Nowhere (At k) = refl
     go Nowhere Nowhere = unreadable-as (b ∷ d ∷ t)
@@ -113,7 +114,7 @@ module _ (ticks : Bool) (b : ℕ) (t : List ℕ) where
   of-separator x = rw x
 
   module _ (x : separates b ≡ false) where
-    of-letter : isLetter b ≡ true → wordAt s ≡ elementAt ticks s
+    of-letter : isLetter b ≡ true → lettersAt s ≡ elementAt ticks s
     unfolding elementAt ruled isLetter
     of-letter y = rw (x, apart isLetter 45 b y refl, y) (word-as s)
 
@@ -127,12 +128,12 @@ module _ (ticks : Bool) (b : ℕ) (t : List ℕ) where
       of-digit z = rw (x, apart isDigit 45 b z refl, y, apart isDigit 92 b z refl, z) (numeral-as s)
 
       module _ (z : isDigit b ≡ false) where
-        of-quote : eqb b 34 ≡ true → string s ≡ elementAt ticks s
+        of-quote : eqb b 34 ≡ true → stringFront s ≡ elementAt ticks s
         unfolding elementAt ruled
         of-quote u = rw (x, apart (λ (n : ℕ). eqb n 34) 45 b u refl, y, apart (λ (n : ℕ). eqb n 34) 92 b u refl, z, u) (string-as s)
 
         module _ (u : eqb b 34 ≡ false) (v : eqb b 92 ≡ false) where
-          of-apostrophe : eqb b 39 ≡ true → apostrophe ticks s ≡ elementAt ticks s
+          of-apostrophe : eqb b 39 ≡ true → apostropheFront ticks s ≡ elementAt ticks s
           unfolding elementAt ruled
           of-apostrophe w = rw (x, apart (λ (n : ℕ). eqb n 39) 45 b w refl, y, v, z, u, w) (apostrophe-as s ticks)
 
@@ -140,7 +141,7 @@ module _ (ticks : Bool) (b : ℕ) (t : List ℕ) where
           unfolding elementAt ruled otherAt
           of-other w = rw (x, y, v, z, u, w) (go (eqb b 45 && eqb (getD t 0 0) 45) (eqb b 47 && eqb (getD t 0 0) 42))
             where
-              go : (c d : Bool) → cond c (Skip (length s)) (cond d (unreadable s) (delimiterAt s)) ≡ unlessSpoilt s (cond c (Skip (length s)) (cond d (unreadable s) (delimiter s)))
+              go : (c d : Bool) → cond c (Skip (length s)) (cond d (unreadableFront s) (delimiterAt s)) ≡ unlessSpoilt s (cond c (Skip (length s)) (cond d (unreadableFront s) (delimiterFront s)))
               go true d = refl
               go false true = unreadable-as s
               go false false = delimiter-as s
@@ -159,6 +160,6 @@ module _ (ticks : Bool) (b : ℕ) (t : List ℕ) where
       (λ v. by-test Opened (eqb b 39) (of-apostrophe x y z u v) (of-other x y z u v))))))
 
 pub found-ruled : (ticks : Bool) (s : List ℕ) → foundAt ticks s ≡ elementAt ticks s
-unfolding foundAt opensOf otherAt delimiterAt singleAt elementAt ruled delimiter unreadable separates isLetter isDigit placeFrom delimiters spells begins bytesOf
+unfolding foundAt opensOf otherAt delimiterAt singleAt elementAt ruled delimiterFront unreadableFront separates isLetter isDigit placeFrom delimiters spells begins bytesOf
 found-ruled ticks [] = refl
 found-ruled ticks (b ∷ t) = front ticks b t

@@ -8,7 +8,8 @@ use borrow.Author.Tests.{eqb-true, ltb-false}
 use lib.Dec.{eqb, ltb}
 use lib.ListN.{length, take, getD}
 use Rattle.laws.proofs.Laws.{both-right}
-use Rattle.classes.specs.Bytes.{separates, isLetter, isDigit, isGraphic}
+use Rattle.classes.specs.Bytes.{isLetter, isDigit}
+use Rattle.classes.specs.Signs.{separates, isGraphic}
 use Rattle.classes.specs.Runs.{run}
 use Rattle.classes.specs.declared.Run.the-variants.{Word}
 use Rattle.classes.proofs.Laws.{by-test, run-le, run-some, letter-in-word, byte-inside}
@@ -23,9 +24,9 @@ use Rattle.quoted.specs.Quoted.{closedFrom}
 use Rattle.quoted.specs.declared.Closed.{Closed}
 use Rattle.quoted.specs.declared.Closed.the-variants.{After, Never}
 use Rattle.quoted.proofs.Laws.{closed-in}
-use Rattle.elements.specs.Element.{unreadable, string, stringBy, apostrophe, delimiterBy, spoilsNumber, elementAt}
+use Rattle.elements.specs.Element.{unreadableFront, stringFront, stringBy, apostropheFront, delimiterBy, spoilsNumber, elementAt}
 use Rattle.elements.proofs.Rules.{found-ruled}
-use Rattle.elements.specs.code.Ways.{nameAt, wordAt, wordBy, extendedAt, extendedFrom, numeralAt, numeralFrom, singleAt, delimiterAt, otherAt, opensOf, foundAt, openedBy}
+use Rattle.elements.specs.code.Ways.{identifierAt, lettersAt, wordBy, extendedAt, extendedFrom, numeralAt, numeralFrom, singleAt, delimiterAt, otherAt, opensOf, foundAt, openedBy}
 use Rattle.elements.specs.declared.Opens.{Opens}
 use Rattle.elements.specs.declared.Front.{Front}
 use Rattle.elements.specs.declared.Front.the-variants.{Skip, Element}
@@ -44,12 +45,12 @@ module _ (b : ℕ) (t : List ℕ) where
   one : (1 ≤ 1) × (1 ≤ length s)
   one = (omega arith, suc-le-suc zero-le)
 
-  unreadable-good : Good s (unreadable s)
-  unfolding unreadable
+  unreadable-good : Good s (unreadableFront s)
+  unfolding unreadableFront
   unreadable-good = (suc-le-suc zero-le, omega arith)
 
-  word-good : isLetter b ≡ true → Good s (wordAt s)
-  unfolding wordAt nameAt
+  word-good : isLetter b ≡ true → Good s (lettersAt s)
+  unfolding lettersAt identifierAt
   word-good e = let n = run-some Word b t (letter-in-word b e) in
       let m = run-le Word s in
       by-test (Good s) (eqb (getD s (run Word s) 0) 95) (λ _. unreadable-good)
@@ -70,8 +71,8 @@ module _ (b : ℕ) (t : List ℕ) where
       go (After n) e = by-test (Good s) (eqb n 1 || eqb (getD s (n + 1) 0) 95 || eqb (getD s (n + 1) 0) 34) (λ _. unreadable-good) (λ _. closed-good 92 n e)
       go Never e = unreadable-good
 
-  string-good : Good s (string s)
-  unfolding string
+  string-good : Good s (stringFront s)
+  unfolding stringFront
   string-good = go (closedFrom 34 0 t) refl
     where
       go : (c : Closed) → closedFrom 34 0 t ≡ c → Good s (stringBy c s)
@@ -87,8 +88,8 @@ module _ (b : ℕ) (t : List ℕ) where
       go (Real n) h = by-test (Good s) (spoilsNumber (getD s n 0)) (λ _. unreadable-good) (λ _. h)
       go Neither h = unreadable-good
 
-  apostrophe-good : (ticks : Bool) → Good s (apostrophe ticks s)
-  unfolding apostrophe
+  apostrophe-good : (ticks : Bool) → Good s (apostropheFront ticks s)
+  unfolding apostropheFront
   apostrophe-good ticks =
       by-test (Good s) (not ticks && eqb (getD s 2 0) 39)
       (λ e. by-test (Good s) (isGraphic (getD s 1 0)) (λ _. (omega arith, omega (arith, byte-inside s 2 (λ z. omega (arith, eqb-true (getD s 2 0) 39 (both-right (not ticks) (eqb (getD s 2 0) 39) e), z))))) (λ _. unreadable-good))
@@ -100,11 +101,11 @@ module _ (b : ℕ) (t : List ℕ) where
       by-test (Good s) (ltb (length s) 2) (λ _. by-one (placeIn (take 1 s) delimiters))
       (λ e. by-two (placeIn (take 2 s) delimiters) (ltb-false (length s) 2 e))
     where
-      by-one : (p : Place) → Good s (delimiterBy p 1 (unreadable s))
+      by-one : (p : Place) → Good s (delimiterBy p 1 (unreadableFront s))
       by-one (At k) = one
       by-one Nowhere = unreadable-good
 
-      by-two : (p : Place) → 2 ≤ length s → Good s (delimiterBy p 2 (delimiterBy (placeIn (take 1 s) delimiters) 1 (unreadable s)))
+      by-two : (p : Place) → 2 ≤ length s → Good s (delimiterBy p 2 (delimiterBy (placeIn (take 1 s) delimiters) 1 (unreadableFront s)))
       by-two (At k) h = (omega arith, h)
       by-two Nowhere h = by-one (placeIn (take 1 s) delimiters)
 

@@ -8,7 +8,8 @@ use borrow.Author.Tests.{eqb-true}
 use lib.Dec.{eqb, ltb}
 use lib.ListN.{length, take, drop, getD}
 use Rattle.laws.proofs.Laws.{both-left, both-right}
-use Rattle.classes.specs.Bytes.{separates, isLetter, isDigit, isGraphic}
+use Rattle.classes.specs.Bytes.{isLetter, isDigit}
+use Rattle.classes.specs.Signs.{separates, isGraphic}
 use Rattle.classes.specs.Runs.{run}
 use Rattle.classes.specs.declared.Run.the-variants.{Word}
 use Rattle.classes.proofs.Laws.{by-test}
@@ -21,9 +22,9 @@ use Rattle.numbers.specs.declared.Number.the-variants.{Integer, Real, Neither}
 use Rattle.quoted.specs.Quoted.{closed}
 use Rattle.quoted.specs.declared.Closed.{Closed}
 use Rattle.quoted.specs.declared.Closed.the-variants.{After, Never}
-use Rattle.elements.specs.Element.{unreadable, string, stringBy, apostrophe, delimiterBy, spoilsNumber, elementAt}
+use Rattle.elements.specs.Element.{unreadableFront, stringFront, stringBy, apostropheFront, delimiterBy, spoilsNumber, elementAt}
 use Rattle.elements.proofs.Rules.{found-ruled}
-use Rattle.elements.specs.code.Ways.{nameAt, wordAt, wordBy, extendedAt, extendedFrom, numeralAt, numeralFrom, singleAt, delimiterAt, otherAt, opensOf, foundAt, openedBy}
+use Rattle.elements.specs.code.Ways.{identifierAt, lettersAt, wordBy, extendedAt, extendedFrom, numeralAt, numeralFrom, singleAt, delimiterAt, otherAt, opensOf, foundAt, openedBy}
 use Rattle.elements.specs.declared.Opens.{Opens}
 use Rattle.elements.specs.declared.Front.{Front}
 use Rattle.elements.specs.declared.Front.the-variants.{Skip, Element}
@@ -34,12 +35,12 @@ SkipIs s (Skip n) = ((separates (getD s 0 0) ≡ true) × (n ≡ 1)) ⊎ ((getD 
 SkipIs s (Element k n) = Unit {0}
 
 module _ (s : List ℕ) where
-  none-unreadable : SkipIs s (unreadable s)
-  unfolding unreadable
+  none-unreadable : SkipIs s (unreadableFront s)
+  unfolding unreadableFront
   none-unreadable = tt
 
-  none-word : SkipIs s (wordAt s)
-  unfolding wordAt nameAt
+  none-word : SkipIs s (lettersAt s)
+  unfolding lettersAt identifierAt
   none-word = by-test (SkipIs s) (eqb (getD s (run Word s) 0) 95) (λ _. none-unreadable) (λ _. go (placeIn (take (run Word s) s) reservedWords))
     where
       go : (p : Place) → SkipIs s (wordBy p s)
@@ -59,8 +60,8 @@ module _ (s : List ℕ) where
   none-numeral (Real n) = by-test (SkipIs s) (spoilsNumber (getD s n 0)) (λ _. none-unreadable) (λ _. tt)
   none-numeral Neither = none-unreadable
 
-  none-apostrophe : (ticks : Bool) → SkipIs s (apostrophe ticks s)
-  unfolding apostrophe
+  none-apostrophe : (ticks : Bool) → SkipIs s (apostropheFront ticks s)
+  unfolding apostropheFront
   none-apostrophe ticks =
       by-test (SkipIs s) (not ticks && eqb (getD s 2 0) 39) (λ _. by-test (SkipIs s) (isGraphic (getD s 1 0)) (λ _. tt) (λ _. none-unreadable)) (λ _. tt)
 
@@ -70,7 +71,7 @@ module _ (s : List ℕ) where
 
   none-single : SkipIs s (singleAt s)
   unfolding singleAt
-  none-single = none-by (placeIn (take 1 s) delimiters) 1 (unreadable s) none-unreadable
+  none-single = none-by (placeIn (take 1 s) delimiters) 1 (unreadableFront s) none-unreadable
 
   none-delimiter : SkipIs s (delimiterAt s)
   unfolding delimiterAt
@@ -87,7 +88,7 @@ module _ (s : List ℕ) where
   By ticks o = SkipIs s (openedBy o ticks s)
 
   found-is : (ticks : Bool) → SkipIs s (foundAt ticks s)
-  unfolding foundAt opensOf extendedAt string numeralAt
+  unfolding foundAt opensOf extendedAt stringFront numeralAt
   found-is ticks =
       by-test (By ticks) (separates (getD s 0 0)) (λ e. inl (e, refl))
       (λ _. by-test (By ticks) (isLetter (getD s 0 0)) (λ _. none-word)

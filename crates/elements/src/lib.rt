@@ -8,10 +8,11 @@ ghost use mathlib.Core.Bool.{_||_};
 ghost use Prim.Native.Nat.{_<_};
 ghost use lib.Dec.{eqb};
 ghost use lib.ListN.{length};
-ghost use Rattle.classes.specs.Bytes.{quote, underscore};
-ghost use Rattle.elements.specs.Kinds.{kindNumber, ticksAfter};
-ghost use Rattle.elements.specs.Element.{unreadable, string, apostrophe, spoilsNumber, elementAt};
-ghost use Rattle.elements.specs.code.Ways.{wordAt, extendedAt, numeralAt, singleAt, delimiterAt, otherAt, opensOf};
+ghost use Rattle.classes.specs.Bytes.{underscore};
+ghost use Rattle.classes.specs.Signs.{quote};
+ghost use Rattle.elements.specs.Kinds.{kindNumber};
+ghost use Rattle.elements.specs.Element.{unreadableFront, stringFront, apostropheFront, spoilsNumber, elementAt, ticksAfter};
+ghost use Rattle.elements.specs.code.Ways.{lettersAt, extendedAt, numeralAt, singleAt, delimiterAt, otherAt, opensOf};
 
 pub enum Literal {
     Integer,
@@ -92,13 +93,13 @@ pub fn ticks_after(k: Kind) -> bool
 }
 
 fn unreadable_at(s: &[u8]) -> Front
-    ensures { λ r. ⌜ r ≡ unreadable (now (s .entry)) ⌝ }
+    ensures { λ r. ⌜ r ≡ unreadableFront (now (s .entry)) ⌝ }
 {
     Front::Element(Kind::Unreadable, s.len())
 }
 
 fn word_at(s: &[u8]) -> Front
-    ensures { λ r. ⌜ r ≡ wordAt (now (s .entry)) ⌝ }
+    ensures { λ r. ⌜ r ≡ lettersAt (now (s .entry)) ⌝ }
 {
     let n = classes::run_length(Run::Word, s);
     let next = classes::byte_or(s, n);
@@ -172,7 +173,7 @@ fn numeral_at(s: &[u8]) -> Front
 
 fn string_at(s: &[u8]) -> Front
     requires { ⌜ 0 < length (now s) ⌝ }
-    ensures { λ r. ⌜ r ≡ string (now (s .entry)) ⌝ }
+    ensures { λ r. ⌜ r ≡ stringFront (now (s .entry)) ⌝ }
 {
     match quoted::closing(b'"', &s[1..]) {
         Closed::After(n) => Front::Element(Kind::Literal(Literal::String), n + 1),
@@ -181,7 +182,7 @@ fn string_at(s: &[u8]) -> Front
 }
 
 fn apostrophe_at(s: &[u8], ticks: bool) -> Front
-    ensures { λ r. ⌜ r ≡ apostrophe ticks (now (s .entry)) ⌝ }
+    ensures { λ r. ⌜ r ≡ apostropheFront ticks (now (s .entry)) ⌝ }
 {
     if ticks {
         return Front::Element(Kind::Delimiter(TICK), 1);

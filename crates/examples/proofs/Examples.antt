@@ -1,41 +1,41 @@
 -- The packages worked out by hand, computed from bytes. Assumes nothing.
 use mathlib.Core.Path.{refl}
-use Rattle.edges.specs.Left.{Leaves}
-use Rattle.examples.specs.Examples.{subtypes, relations, logic, arithmetic, unfolded, named, kinds, languages, Examples}
+use Rattle.edges.specs.Left.{LeavesWords}
+use Rattle.examples.specs.Examples.{subtypeExamples, relationExamples, logicExamples, arithmeticExamples, unfoldedExamples, nameExamples, kindExamples, languageExamples, SurveyExamples}
 use Rattle.edges.proofs.Left.{leaves}
 use Rattle.edges.proofs.Computing.{computing}
 
-subtypes-left : Leaves subtypes
+subtypes-left : LeavesWords subtypeExamples
 unfolding computing
-subtypes-left = leaves subtypes refl (λ rest. refl)
+subtypes-left = leaves subtypeExamples refl (λ rest. refl)
 
-relations-left : Leaves relations
+relations-left : LeavesWords relationExamples
 unfolding computing
-relations-left = leaves relations refl (λ rest. refl)
+relations-left = leaves relationExamples refl (λ rest. refl)
 
-logic-left : Leaves logic
+logic-left : LeavesWords logicExamples
 unfolding computing
-logic-left = leaves logic refl (λ rest. refl)
+logic-left = leaves logicExamples refl (λ rest. refl)
 
-arithmetic-left : Leaves arithmetic
+arithmetic-left : LeavesWords arithmeticExamples
 unfolding computing
-arithmetic-left = leaves arithmetic refl (λ rest. refl)
+arithmetic-left = leaves arithmeticExamples refl (λ rest. refl)
 
-unfolded-left : Leaves unfolded
+unfolded-left : LeavesWords unfoldedExamples
 unfolding computing
-unfolded-left = leaves unfolded refl (λ rest. refl)
+unfolded-left = leaves unfoldedExamples refl (λ rest. refl)
 
-named-left : Leaves named
+named-left : LeavesWords nameExamples
 unfolding computing
-named-left = leaves named refl (λ rest. refl)
+named-left = leaves nameExamples refl (λ rest. refl)
 
-kinds-left : Leaves kinds
+kinds-left : LeavesWords kindExamples
 unfolding computing
-kinds-left = leaves kinds refl (λ rest. refl)
+kinds-left = leaves kindExamples refl (λ rest. refl)
 
-languages-left : Leaves languages
+languages-left : LeavesWords languageExamples
 unfolding computing
-languages-left = leaves languages refl (λ rest. refl)
+languages-left = leaves languageExamples refl (λ rest. refl)
 
-pub examples : Examples
+pub examples : SurveyExamples
 examples = (subtypes-left, relations-left, logic-left, arithmetic-left, unfolded-left, named-left, kinds-left, languages-left)

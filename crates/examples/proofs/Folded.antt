@@ -4,11 +4,11 @@ use Rattle.places.specs.Places.{cellAt}
 use Rattle.records.specs.Records.{wordAt}
 use Rattle.element_reading.specs.Table.{cells}
 use Rattle.operands.specs.code.Operands.{bytesAt, literalIn}
-use Rattle.forms.specs.Words.{rowsIn}
+use Rattle.forms.specs.Words.{treeRowsIn}
 use Rattle.expressions.specs.Folds.{elementIn, literalAt, kindInPiece, foldOf, foldedOf}
 use Rattle.edges.proofs.Computing.{computing}
 use Rattle.examples.specs.Folded.{ThreeCases}
 
 pub three-cases : ThreeCases
-unfolding computing cellAt wordAt cells bytesAt literalIn rowsIn elementIn literalAt kindInPiece foldOf foldedOf
+unfolding computing cellAt wordAt cells bytesAt literalIn treeRowsIn elementIn literalAt kindInPiece foldOf foldedOf
 three-cases = (refl, refl, refl)

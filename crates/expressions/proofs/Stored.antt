@@ -16,14 +16,14 @@ use Rattle.folding.specs.declared.Sort.the-variants.{Of, Wrong}
 use Rattle.values.specs.Words.{wordOf, truthWord}
 use Rattle.values.proofs.Laws.{number-word}
 use Rattle.integers.specs.Numbers.{integerKind, truthKind}
-use Rattle.expressions.specs.code.Stored.{kindWord, sortWord, sortBy, foldedKind, foldedWord, foldedBy, wrongFrom, byteNumbers}
+use Rattle.expressions.specs.code.Stored.{valueKindWord, sortWord, sortBy, foldedKind, foldedWord, foldedBy, wrongFrom, byteNumbers}
 
-kind-back : (k : Kind) → sortBy (kindWord k) ≡ Of k
+kind-back : (k : Kind) → sortBy (valueKindWord k) ≡ Of k
 unfolding sortBy
 kind-back Kind.Integer = refl
 kind-back Kind.Truth = refl
 
-pub sort-kind : (s : Sort) (k : Kind) (r : ℕ) → s ≡ Of k → r ≡ kindWord k → (r ≡ sortWord s) × (sortBy r ≡ s)
+pub sort-kind : (s : Sort) (k : Kind) (r : ℕ) → s ≡ Of k → r ≡ valueKindWord k → (r ≡ sortWord s) × (sortBy r ≡ s)
 sort-kind s k r e p = rw (e, p) (refl, kind-back k)
 
 wrong-back : (w : ℕ) → w < byteNumbers → sortBy (wrongFrom + w) ≡ Wrong w

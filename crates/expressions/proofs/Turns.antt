@@ -30,7 +30,7 @@ use Rattle.places.specs.Sizes.{mostElements}
 use Rattle.form_numbers.specs.Forms as forms
 use Rattle.forms.specs.Tree.{behind}
 use Rattle.expressions.specs.code.Expressions.{rowOutcome}
-use Rattle.forms.specs.Words.{rowAt, rowNumbers, rowsIn}
+use Rattle.forms.specs.Words.{rowAt, rowNumbers, treeRowsIn}
 use Rattle.expressions.specs.code.Stored.{sortBy, foldedKind, foldedBy, unpacked, storedAt, outcomeWords}
 use Rattle.expressions.specs.Folds.{elementIn, nameValue, nameIn, literalAt, kindInPiece, expressionIn, foldedRow, rightOf, foldOf}
 use Rattle.expressions.proofs.Expressions.{outcome-row, outcome-none}
@@ -156,7 +156,7 @@ module _ (rows : List ℕ) (n k : ℕ) (l : k < n) where
 module _ (text table items links : List ℕ) (i n : ℕ) (rows : List ℕ) where
   -- the expression from row j on
   abbrev from : ℕ → Outcome
-  from j = expressionIn text table items links i (drop j (rowsIn n rows))
+  from j = expressionIn text table items links i (drop j (treeRowsIn n rows))
 
   -- from row k on each outcome is stored
   abbrev pub Stored : List ℕ → ℕ → Type 0
@@ -174,34 +174,34 @@ module _ (text table items links : List ℕ) (i n : ℕ) (rows : List ℕ) where
       go true e = (rw e at z) ∙ s j h (ltb-true j n e)
       go false e =
           (rw e at z) ∙ outcome-none (nameIn text table items links i) (literalAt text table items i) (kindInPiece table items i)
-          ∙ ap (expressionIn text table items links i) (sym (drop-of-length-le (rowsIn n rows) {i = j} (rw (rows-length n rows) (ltb-false j n e))))
+          ∙ ap (expressionIn text table items links i) (sym (drop-of-length-le (treeRowsIn n rows) {i = j} (rw (rows-length n rows) (ltb-false j n e))))
 
-  behind-right : (k : ℕ) → k < n → behind (drop (suc k) (rowsIn n rows)) ≡ drop (rightOf rows n k) (rowsIn n rows)
+  behind-right : (k : ℕ) → k < n → behind (drop (suc k) (treeRowsIn n rows)) ≡ drop (rightOf rows n k) (treeRowsIn n rows)
   unfolding rightOf
   behind-right k h = go (ltb (suc k) n) refl
     where
-      nothing-left : (m : ℕ) → n ≤ m → drop m (rowsIn n rows) ≡ []
-      nothing-left m l = drop-of-length-le (rowsIn n rows) {i = m} (rw (rows-length n rows) l)
+      nothing-left : (m : ℕ) → n ≤ m → drop m (treeRowsIn n rows) ≡ []
+      nothing-left m l = drop-of-length-le (treeRowsIn n rows) {i = m} (rw (rows-length n rows) l)
 
       size : ℕ
       size = rowAt rows (k + 1) .rows
 
-      cut : (b : Bool) → ltb (suc k + size) n ≡ b → drop (suc k + size) (rowsIn n rows) ≡ drop (min n (k + 1 + size)) (rowsIn n rows)
+      cut : (b : Bool) → ltb (suc k + size) n ≡ b → drop (suc k + size) (treeRowsIn n rows) ≡ drop (min n (k + 1 + size)) (treeRowsIn n rows)
       cut true e =
           let l = ltb-true (suc k + size) n e in
           let w : suc k + size ≡ min n (k + 1 + size) = omega arith in
-          ap (λ (m : ℕ). drop m (rowsIn n rows)) w
+          ap (λ (m : ℕ). drop m (treeRowsIn n rows)) w
       cut false e =
           let l = ltb-false (suc k + size) n e in
           nothing-left (suc k + size) l ∙ sym (nothing-left (min n (k + 1 + size)) (omega arith))
 
-      go : (b : Bool) → ltb (suc k) n ≡ b → behind (drop (suc k) (rowsIn n rows)) ≡ drop (min n (k + 1 + size)) (rowsIn n rows)
+      go : (b : Bool) → ltb (suc k) n ≡ b → behind (drop (suc k) (treeRowsIn n rows)) ≡ drop (min n (k + 1 + size)) (treeRowsIn n rows)
       go true e =
           let z : suc k ≡ k + 1 = omega arith in
           ap behind (rows-from n (suc k) rows (ltb-true (suc k) n e))
           ∙ ap (drop (rowAt rows (suc k) .rows)) (sym (rows-from n (suc k) rows (ltb-true (suc k) n e)))
-          ∙ drop-drop (rowAt rows (suc k) .rows) (suc k) (rowsIn n rows)
-          ∙ ap (λ (m : ℕ). drop (suc k + rowAt rows m .rows) (rowsIn n rows)) z
+          ∙ drop-drop (rowAt rows (suc k) .rows) (suc k) (treeRowsIn n rows)
+          ∙ ap (λ (m : ℕ). drop (suc k + rowAt rows m .rows) (treeRowsIn n rows)) z
           ∙ cut (ltb (suc k + size) n) refl
       go false e =
           let l = ltb-false (suc k) n e in
@@ -217,12 +217,12 @@ module _ (text table items links : List ℕ) (i n : ℕ) (rows : List ℕ) where
     here =
         z
         ∙ ap₂ (foldedRow text table items links i (rowAt rows k)) left-is right-is
-        ∙ sym (ap (expressionIn text table items links i) (rows-from n k rows (omega arith)) ∙ outcome-row (nameIn text table items links i) (literalAt text table items i) (kindInPiece table items i) (rowAt rows k) (drop (suc k) (rowsIn n rows)))
+        ∙ sym (ap (expressionIn text table items links i) (rows-from n k rows (omega arith)) ∙ outcome-row (nameIn text table items links i) (literalAt text table items i) (kindInPiece table items i) (rowAt rows k) (drop (suc k) (treeRowsIn n rows)))
       where
         left-is : x ≡ from (suc k)
         left-is = let g : c ≤ k + 1 = omega arith in operand outs c (k + 1) x s g p ∙ ap from (add-one k)
 
-        right-is : y ≡ expressionIn text table items links i (behind (drop (suc k) (rowsIn n rows)))
+        right-is : y ≡ expressionIn text table items links i (behind (drop (suc k) (treeRowsIn n rows)))
         right-is =
             operand outs c right y s (below (min n (k + 1 + rowAt rows (k + 1) .rows)) refl) q
             ∙ ap from t
@@ -238,10 +238,10 @@ module _ (text table items links : List ℕ) (i n : ℕ) (rows : List ℕ) where
         go true w = let u : j ≡ k = eqb-true j k w in ap (unpacked outs′) u ∙ e ∙ here ∙ ap from (sym u)
         go false w = let u = eqb-false j k w in d j u ∙ s j (omega (arith, u)) f
 
-  pub stored-end : (outs : List ℕ) (k : ℕ) (r : Outcome) → Stored outs k → k ≤ 0 → r ≡ storedAt outs n 0 → r ≡ expressionIn text table items links i (rowsIn n rows)
+  pub stored-end : (outs : List ℕ) (k : ℕ) (r : Outcome) → Stored outs k → k ≤ 0 → r ≡ storedAt outs n 0 → r ≡ expressionIn text table items links i (treeRowsIn n rows)
   stored-end outs k r s h z = operand outs k 0 r s h z
 
-pub folded-whole : (text table items links : List ℕ) (i n : ℕ) (rows : List ℕ) (r : Outcome) → n ≡ min (length rows / rowNumbers) mostElements → r ≡ expressionIn text table items links i (rowsIn n rows)
+pub folded-whole : (text table items links : List ℕ) (i n : ℕ) (rows : List ℕ) (r : Outcome) → n ≡ min (length rows / rowNumbers) mostElements → r ≡ expressionIn text table items links i (treeRowsIn n rows)
     → r ≡ foldOf text table items links i rows
 unfolding foldOf
 folded-whole text table items links i n rows r h z = rw (← h) z

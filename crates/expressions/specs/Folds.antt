@@ -17,7 +17,7 @@ use Rattle.marks.specs.code.Marks.{operandOf}
 use Rattle.values.specs.declared.Value.{Value}
 use Rattle.uses.specs.code.Uses.{useIn}
 use Rattle.pieces.specs.Columns as column
-use Rattle.forms.specs.Words.{rowNumbers, rowAt, rowsIn}
+use Rattle.forms.specs.Words.{rowNumbers, rowAt, treeRowsIn}
 use Rattle.expressions.specs.code.Expressions.{rowOutcome, outcomeOf}
 
 -- where element j of piece i stands in the element table; after its last, where the piece has none
@@ -50,7 +50,7 @@ rightOf rows n k = min n (k + 1 + rowAt rows (k + 1) .rows)
 
 -- the expression that the rows of a table are; none has more rows than a text has elements
 unfoldable pub foldOf : List ℕ → List ℕ → List ℕ → List ℕ → ℕ → List ℕ → Outcome
-foldOf text table items links i rows = expressionIn text table items links i (rowsIn (min (length rows / rowNumbers) mostElements) rows)
+foldOf text table items links i rows = expressionIn text table items links i (treeRowsIn (min (length rows / rowNumbers) mostElements) rows)
 
 -- "The folded result of an expression is an integer, a truth, or the state that stopped it."
 unfoldable pub foldedOf : List ℕ → List ℕ → List ℕ → List ℕ → ℕ → List ℕ → Folded

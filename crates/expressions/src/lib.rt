@@ -14,8 +14,8 @@ ghost use mathlib.Core.Path.{_≡_};
 ghost use Prim.Native.Nat.{ℕ, _+_, _-_, _*_, _/_, _≤_, _<_};
 ghost use lib.ListN.{length};
 ghost use Rattle.values.specs.Words.{truthWord};
-ghost use Rattle.forms.specs.Words.{rowNumbers, rowAt, rowsIn};
-ghost use Rattle.expressions.specs.code.Stored.{outcomeWords, kindWord, sortWord, sortBy, foldedKind, foldedWord, foldedBy, unpacked, storedAt};
+ghost use Rattle.forms.specs.Words.{rowNumbers, rowAt, treeRowsIn};
+ghost use Rattle.expressions.specs.code.Stored.{outcomeWords, valueKindWord, sortWord, sortBy, foldedKind, foldedWord, foldedBy, unpacked, storedAt};
 ghost use Rattle.expressions.specs.Folds.{elementIn, nameValue, nameIn, literalAt, kindInPiece, expressionIn, foldedRow, rightOf, foldOf, foldedOf};
 
 // How many words an outcome is stored in, which of them are the kind of the folded answer and the answer, and of how many rows an
@@ -132,7 +132,7 @@ fn row_outcome(
 }
 
 fn kind_word(k: Kind) -> u64
-    ensures { λ r. ⌜ r ≡ kindWord k ⌝ }
+    ensures { λ r. ⌜ r ≡ valueKindWord k ⌝ }
 {
     match k {
         Kind::Integer => 0,
@@ -259,7 +259,7 @@ fn fold_rows(
     outs: &mut [u64],
 ) -> Outcome
     requires { ⌜ (rowNumbers * n ≤ length (now rows)) × (outcomeWords * n ≤ length (now outs)) ⌝ }
-    ensures { λ r. ⌜ r ≡ expressionIn (now (text .entry)) (now (elements .entry)) (now (items .entry)) (now (links .entry)) i (rowsIn n (now (rows .entry))) ⌝ }
+    ensures { λ r. ⌜ r ≡ expressionIn (now (text .entry)) (now (elements .entry)) (now (items .entry)) (now (links .entry)) i (treeRowsIn n (now (rows .entry))) ⌝ }
 {
     let mut k = n;
     while 0 < k {

@@ -7,21 +7,6 @@ constant = 4
 abbrev pub subtype : ℕ
 subtype = 5
 
-abbrev pub while-loop : ℕ
-while-loop = 19
-
-abbrev pub bare-loop : ℕ
-bare-loop = 20
-
-abbrev pub next-statement : ℕ
-next-statement = 21
-
-abbrev pub exit-statement : ℕ
-exit-statement = 22
-
-abbrev pub null-statement : ℕ
-null-statement = 23
-
 abbrev pub name : ℕ
 name = 24
 
@@ -40,14 +25,5 @@ unary = 28
 abbrev pub binary : ℕ
 binary = 29
 
-abbrev pub label : ℕ
-label = 30
-
 abbrev pub mark : ℕ
 mark = 31
-
-abbrev pub guard : ℕ
-guard = 32
-
-abbrev pub block-is : ℕ
-block-is = 33

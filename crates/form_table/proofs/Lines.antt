@@ -14,7 +14,7 @@ use Rattle.forms.specs.code.Kinds.{kindCount}
 use Rattle.forms.specs.code.Names.{nameCount}
 use Rattle.forms.specs.code.Rules.{forms, body, rules}
 use Rattle.form_table.specs.code.Symbols.{symOf, firstAction}
-use Rattle.form_table.specs.code.Bytes.{Rule, sized, encode, padded, lined, sizeBytes, bodyBytes, formBytes}
+use Rattle.form_table.specs.code.Bytes.{Rule, ruleSizes, encode, padded, lined, sizeBytes, bodyBytes, formBytes}
 use Rattle.form_table.proofs.Tables.{sizesAt, bodiesAt, formsEnd, in-front, behind, past-picks, flat-at}
 
 abbrev none : Rule
@@ -40,7 +40,7 @@ abbrev allFit : List Sym → Bool
 allFit [] = true
 allFit (s ∷ l) = fits s && allFit l
 
-size-at : (rs : List Rule) (p : ℕ) → getD (sized rs) p 0 ≡ length (getD rs p none .1)
+size-at : (rs : List Rule) (p : ℕ) → getD (ruleSizes rs) p 0 ≡ length (getD rs p none .1)
 size-at [] p = refl
 size-at (r ∷ rs) zero = refl
 size-at (r ∷ rs) (suc p) = size-at rs p

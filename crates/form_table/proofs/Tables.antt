@@ -10,7 +10,7 @@ use lib.ListN.{length, getD, List·getD-append}
 use lib.Seq.{getD-append-add}
 use Rattle.grammars.specs.code.Grammar.{Sym}
 use Rattle.grammars.proofs.Theory.{and-left, and-right}
-use Rattle.forms.specs.code.Kinds.{kinds, numberOf, kindCount, terminalOf, other}
+use Rattle.forms.specs.code.Kinds.{symbolsByKind, numberOf, kindCount, terminalOf, other}
 use Rattle.forms.specs.code.Names.{nameCount}
 use Rattle.forms.specs.code.Rules.{forms}
 use Rattle.forms.specs.code.Picks.{picks, predict}
@@ -21,7 +21,7 @@ abbrev pub picksSize : ℕ
 picksSize = nameCount * kindCount
 
 abbrev pub picksAt : ℕ
-picksAt = length kinds
+picksAt = length symbolsByKind
 
 abbrev pub sizesAt : ℕ
 sizesAt = picksAt + picksSize
@@ -51,7 +51,7 @@ forms-size e = ap length e
 
 pub kind-at : {l : List ℕ} → l ≡ formBytes → (k : ℕ) → k < picksAt → getD l k 0 ≡ terminalOf k
 unfolding terminalOf formBytes
-kind-at e k h = ap (λ (l : List ℕ). getD l k 0) e ∙ in-front kindBytes (pickBytes ++ (sizeBytes ++ bodyBytes)) picksAt k refl h ∙ numbers-at kinds k h
+kind-at e k h = ap (λ (l : List ℕ). getD l k 0) e ∙ in-front kindBytes (pickBytes ++ (sizeBytes ++ bodyBytes)) picksAt k refl h ∙ numbers-at symbolsByKind k h
 
 past : (l : List Sym) (k : ℕ) → length l ≤ k → getD l k other ≡ other
 past [] k h = refl
@@ -60,7 +60,7 @@ past (s ∷ l) (suc k) h = past l k (omega arith)
 
 pub kind-past : (k : ℕ) → picksAt ≤ k → numberOf other ≡ terminalOf k
 unfolding terminalOf
-kind-past k h = flip (ap numberOf (past kinds k h))
+kind-past k h = flip (ap numberOf (past symbolsByKind k h))
 
 abbrev allSmall : List Sym → Bool
 allSmall [] = true
@@ -73,7 +73,7 @@ small-at (s ∷ l) h (suc k) = small-at l (and-right (ltb (numberOf s) kindCount
 
 pub terminal-small : (k : ℕ) → terminalOf k < kindCount
 unfolding terminalOf
-terminal-small k = small-at kinds tt k
+terminal-small k = small-at symbolsByKind tt k
 
 -- the table of rules
 abbrev wide : ℕ → List (List ℕ) → Bool

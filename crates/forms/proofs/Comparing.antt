@@ -11,7 +11,7 @@ use Rattle.grammars.specs.code.Grammar.{Sym, tok, nt, act}
 use Rattle.grammars.proofs.Theory.{mem, keep, and-left, and-right, and-both, mem-append, mem-left, mem-right, mem-keep, keep-mem, one-of, is-one}
 use Rattle.grammars.proofs.Check.{every, every-at}
 use Rattle.forms.specs.code.Rules.{forms, body}
-use Rattle.forms.specs.Spellings.{among}
+use Rattle.forms.specs.Spellings.{spelledAmong}
 use Rattle.forms.specs.Closing.{unitWords, isIdentifier, isEnd, behindUnit, opensOne, behindEnd}
 use Rattle.forms.proofs.Walking.{Closed, nothing, named, Walk, innermost, around, isNothing, labelOf, namesAfter, endsAfter, walked, closedBy}
 use Rattle.forms.proofs.Hints as hints
@@ -46,7 +46,7 @@ onward-is any c g g′ h = tt
 
 no-label : (x : Walk) (S : List ℕ) → T (mem (x .last) S) → T (noColon S) → labelOf (x .last) (x .count) ≡ 0
 no-label x S m h =
-    ap (λ (b : Bool). cond b (x .count - 1) 0) (same-bool (among (x .last) (":" ∷ [])) false (every-at (λ p. isFalse (among p (":" ∷ []))) S h (x .last) m))
+    ap (λ (b : Bool). cond b (x .count - 1) 0) (same-bool (spelledAmong (x .last) (":" ∷ [])) false (every-at (λ p. isFalse (spelledAmong p (":" ∷ []))) S h (x .last) m))
 
 known-fit : (S : List ℕ) (w i : Known) (x : Walk) (g : ℕ) → T (mem (x .last) S) → T (fitsKnown S w i) → KnownIs i x g → KnownIs w x g
 known-fit S unknown i x g m t h = tt
@@ -133,7 +133,7 @@ module _ (x : Walk) (a g : ℕ) (S : List ℕ) (e : Ends) (i : Known) (at : T (m
           same-bool (behindUnit (x .last) a) (behindUnit (headOf S) a) (every-at (λ p. sameBool (behindUnit p a) (behindUnit (headOf S) a)) S u (x .last) at) in
           ap (λ (c : Closed). behindUnit (x .last) a && isNothing c) h ∙ ap (λ (b : Bool). b && true) z
       by frame h t u = ap (λ (c : Closed). behindUnit (x .last) a && isNothing c) h ∙ never (behindUnit (x .last) a) ∙ sym (never (behindUnit (headOf S) a))
-      by any h t u = neither (isIdentifier a) (among (x .last) unitWords) (among (headOf S) unitWords) (isNothing (x .ends)) t
+      by any h t u = neither (isIdentifier a) (spelledAmong (x .last) unitWords) (spelledAmong (headOf S) unitWords) (isNothing (x .ends)) t
 
   asked-next : Asks (asks a e) (closedBy x a) g
   asked-next = by (isIdentifier a) e end told
@@ -188,7 +188,7 @@ module _ (x : Walk) (a g : ℕ) (S : List ℕ) (e : Ends) (i : Known) (at : T (m
   stays-next : namesAfter x a ≡ x .names → KnownIs (stays a i) (walked x a) g
   stays-next h = by i known
     where
-      label-next : (b : Bool) → among a (":" ∷ []) ≡ b → g ≡ x .count → KnownIs (cond b labels unknown) (walked x a) g
+      label-next : (b : Bool) → spelledAmong a (":" ∷ []) ≡ b → g ≡ x .count → KnownIs (cond b labels unknown) (walked x a) g
       label-next true q z =
           let y : x .count ≡ suc (x .count) - 1 = omega arith in
           z ∙ y ∙ sym (ap (λ (c : Bool). cond c (suc (x .count) - 1) 0) q)
@@ -197,7 +197,7 @@ module _ (x : Walk) (a g : ℕ) (S : List ℕ) (e : Ends) (i : Known) (at : T (m
       by : (i : Known) → KnownIs i x g → KnownIs (stays a i) (walked x a) g
       by unknown z = tt
       by unnamed z = z
-      by just z = label-next (among a (":" ∷ [])) refl z
+      by just z = label-next (spelledAmong a (":" ∷ [])) refl z
       by labels z = tt
       by pushed z = tt
       by owns z = z ∙ ap innermost (sym h)

@@ -8,8 +8,8 @@ use Rattle.grammars.specs.code.Actions.{End, read, bad, stopped, spent, runs}
 use Rattle.forms.specs.code.Kinds.{numberOf, becomes, colon, identifier, integer, left-paren, minus, right-paren, semicolon, tick, word-architecture, word-begin, word-constant, word-end, word-is, word-loop, word-mod, word-of, word-package, word-process, word-range, word-subtype}
 use Rattle.forms.specs.code.Names.{constant, subtype}
 use Rattle.forms.specs.Tree.{Row}
-use Rattle.forms.specs.code.Frames.{State, Refusal, name-differs, too-deep, rowsOf, does}
-use Rattle.forms.specs.code.Reading.{readingFrom, readingOf}
+use Rattle.forms.specs.code.Frames.{State, Refusal, name-differs, too-deep, stateRows, does}
+use Rattle.forms.specs.code.Reading.{readingFrom, fileReading}
 use Rattle.forms.specs.Closing.{element, named, closesAt, walkOver}
 
 abbrev numbers : List Sym → List ℕ
@@ -21,7 +21,7 @@ fives [] = []
 fives (r ∷ rs) = (r .form ∷ r .first ∷ r .count ∷ r .rows ∷ r .operator ∷ []) ∷ fives rs
 
 abbrev rowsIn : End State Refusal → List (List ℕ)
-rowsIn (read s) = fives (rowsOf s)
+rowsIn (read s) = fives (stateRows s)
 rowsIn (bad k) = []
 rowsIn (stopped k r) = []
 rowsIn spent = []
@@ -30,7 +30,7 @@ rowsIn spent = []
 abbrev left-grouped-text : List Sym
 left-grouped-text = word-package ∷ identifier ∷ word-is ∷ word-constant ∷ identifier ∷ colon ∷ identifier ∷ becomes ∷ identifier ∷ minus ∷ identifier ∷ minus ∷ identifier ∷ semicolon ∷ word-end ∷ identifier ∷ semicolon ∷ []
 
-pub left-grouped : rowsIn (readingOf (λ i j. true) (numbers left-grouped-text)) ≡ (1 ∷ 0 ∷ 17 ∷ 8 ∷ 0 ∷ []) ∷ (4 ∷ 3 ∷ 11 ∷ 7 ∷ 3 ∷ []) ∷ (31 ∷ 6 ∷ 1 ∷ 1 ∷ 6 ∷ []) ∷ (29 ∷ 8 ∷ 5 ∷ 5 ∷ 11 ∷ []) ∷ (29 ∷ 8 ∷ 3 ∷ 3 ∷ 9 ∷ []) ∷ (24 ∷ 8 ∷ 1 ∷ 1 ∷ 8 ∷ []) ∷ (24 ∷ 10 ∷ 1 ∷ 1 ∷ 10 ∷ []) ∷ (24 ∷ 12 ∷ 1 ∷ 1 ∷ 12 ∷ []) ∷ []
+pub left-grouped : rowsIn (fileReading (λ i j. true) (numbers left-grouped-text)) ≡ (1 ∷ 0 ∷ 17 ∷ 8 ∷ 0 ∷ []) ∷ (4 ∷ 3 ∷ 11 ∷ 7 ∷ 3 ∷ []) ∷ (31 ∷ 6 ∷ 1 ∷ 1 ∷ 6 ∷ []) ∷ (29 ∷ 8 ∷ 5 ∷ 5 ∷ 11 ∷ []) ∷ (29 ∷ 8 ∷ 3 ∷ 3 ∷ 9 ∷ []) ∷ (24 ∷ 8 ∷ 1 ∷ 1 ∷ 8 ∷ []) ∷ (24 ∷ 10 ∷ 1 ∷ 1 ∷ 10 ∷ []) ∷ (24 ∷ 12 ∷ 1 ∷ 1 ∷ 12 ∷ []) ∷ []
 unfolding readingFrom runs does
 left-grouped = refl
 
@@ -38,7 +38,7 @@ left-grouped = refl
 abbrev sign-over-term-text : List Sym
 sign-over-term-text = word-package ∷ identifier ∷ word-is ∷ word-constant ∷ identifier ∷ colon ∷ identifier ∷ becomes ∷ minus ∷ integer ∷ word-mod ∷ integer ∷ semicolon ∷ word-end ∷ identifier ∷ semicolon ∷ []
 
-pub sign-over-term : rowsIn (readingOf (λ i j. true) (numbers sign-over-term-text)) ≡ (1 ∷ 0 ∷ 16 ∷ 7 ∷ 0 ∷ []) ∷ (4 ∷ 3 ∷ 10 ∷ 6 ∷ 3 ∷ []) ∷ (31 ∷ 6 ∷ 1 ∷ 1 ∷ 6 ∷ []) ∷ (28 ∷ 8 ∷ 4 ∷ 4 ∷ 8 ∷ []) ∷ (29 ∷ 9 ∷ 3 ∷ 3 ∷ 10 ∷ []) ∷ (27 ∷ 9 ∷ 1 ∷ 1 ∷ 9 ∷ []) ∷ (27 ∷ 11 ∷ 1 ∷ 1 ∷ 11 ∷ []) ∷ []
+pub sign-over-term : rowsIn (fileReading (λ i j. true) (numbers sign-over-term-text)) ≡ (1 ∷ 0 ∷ 16 ∷ 7 ∷ 0 ∷ []) ∷ (4 ∷ 3 ∷ 10 ∷ 6 ∷ 3 ∷ []) ∷ (31 ∷ 6 ∷ 1 ∷ 1 ∷ 6 ∷ []) ∷ (28 ∷ 8 ∷ 4 ∷ 4 ∷ 8 ∷ []) ∷ (29 ∷ 9 ∷ 3 ∷ 3 ∷ 10 ∷ []) ∷ (27 ∷ 9 ∷ 1 ∷ 1 ∷ 9 ∷ []) ∷ (27 ∷ 11 ∷ 1 ∷ 1 ∷ 11 ∷ []) ∷ []
 unfolding readingFrom runs does
 sign-over-term = refl
 
@@ -46,7 +46,7 @@ sign-over-term = refl
 abbrev postfix-text : List Sym
 postfix-text = word-package ∷ identifier ∷ word-is ∷ word-constant ∷ identifier ∷ colon ∷ identifier ∷ becomes ∷ identifier ∷ left-paren ∷ integer ∷ right-paren ∷ tick ∷ word-range ∷ semicolon ∷ word-end ∷ identifier ∷ semicolon ∷ []
 
-pub postfix : rowsIn (readingOf (λ i j. true) (numbers postfix-text)) ≡ (1 ∷ 0 ∷ 18 ∷ 7 ∷ 0 ∷ []) ∷ (4 ∷ 3 ∷ 12 ∷ 6 ∷ 3 ∷ []) ∷ (31 ∷ 6 ∷ 1 ∷ 1 ∷ 6 ∷ []) ∷ (26 ∷ 8 ∷ 6 ∷ 4 ∷ 8 ∷ []) ∷ (25 ∷ 8 ∷ 4 ∷ 3 ∷ 8 ∷ []) ∷ (24 ∷ 8 ∷ 1 ∷ 1 ∷ 8 ∷ []) ∷ (27 ∷ 10 ∷ 1 ∷ 1 ∷ 10 ∷ []) ∷ []
+pub postfix : rowsIn (fileReading (λ i j. true) (numbers postfix-text)) ≡ (1 ∷ 0 ∷ 18 ∷ 7 ∷ 0 ∷ []) ∷ (4 ∷ 3 ∷ 12 ∷ 6 ∷ 3 ∷ []) ∷ (31 ∷ 6 ∷ 1 ∷ 1 ∷ 6 ∷ []) ∷ (26 ∷ 8 ∷ 6 ∷ 4 ∷ 8 ∷ []) ∷ (25 ∷ 8 ∷ 4 ∷ 3 ∷ 8 ∷ []) ∷ (24 ∷ 8 ∷ 1 ∷ 1 ∷ 8 ∷ []) ∷ (27 ∷ 10 ∷ 1 ∷ 1 ∷ 10 ∷ []) ∷ []
 unfolding readingFrom runs does
 postfix = refl
 
@@ -54,7 +54,7 @@ postfix = refl
 abbrev closing-differs-text : List Sym
 closing-differs-text = word-package ∷ identifier ∷ word-is ∷ word-constant ∷ identifier ∷ colon ∷ identifier ∷ becomes ∷ identifier ∷ semicolon ∷ word-end ∷ identifier ∷ semicolon ∷ []
 
-pub closing-differs : readingOf (λ i j. false) (numbers closing-differs-text) ≡ stopped 12 name-differs
+pub closing-differs : fileReading (λ i j. false) (numbers closing-differs-text) ≡ stopped 12 name-differs
 unfolding readingFrom runs does
 closing-differs = refl
 
@@ -62,7 +62,7 @@ closing-differs = refl
 abbrev ends-early-text : List Sym
 ends-early-text = word-package ∷ identifier ∷ word-is ∷ word-constant ∷ identifier ∷ []
 
-pub ends-early : readingOf (λ i j. true) (numbers ends-early-text) ≡ bad 5
+pub ends-early : fileReading (λ i j. true) (numbers ends-early-text) ≡ bad 5
 unfolding readingFrom runs does
 ends-early = refl
 
@@ -70,7 +70,7 @@ ends-early = refl
 abbrev first-wrong-text : List Sym
 first-wrong-text = word-package ∷ identifier ∷ word-is ∷ word-constant ∷ identifier ∷ colon ∷ identifier ∷ becomes ∷ semicolon ∷ word-end ∷ identifier ∷ semicolon ∷ []
 
-pub first-wrong : readingOf (λ i j. true) (numbers first-wrong-text) ≡ bad 8
+pub first-wrong : fileReading (λ i j. true) (numbers first-wrong-text) ≡ bad 8
 unfolding readingFrom runs does
 first-wrong = refl
 
@@ -78,7 +78,7 @@ first-wrong = refl
 abbrev labelled-text : List Sym
 labelled-text = word-architecture ∷ identifier ∷ word-of ∷ identifier ∷ word-is ∷ word-begin ∷ word-process ∷ word-begin ∷ identifier ∷ colon ∷ word-loop ∷ word-end ∷ word-loop ∷ identifier ∷ semicolon ∷ word-end ∷ word-process ∷ semicolon ∷ word-end ∷ semicolon ∷ []
 
-pub labelled : rowsIn (readingOf (λ i j. true) (numbers labelled-text)) ≡ (3 ∷ 0 ∷ 20 ∷ 4 ∷ 0 ∷ []) ∷ (13 ∷ 6 ∷ 12 ∷ 3 ∷ 6 ∷ []) ∷ (20 ∷ 8 ∷ 7 ∷ 2 ∷ 8 ∷ []) ∷ (30 ∷ 8 ∷ 1 ∷ 1 ∷ 8 ∷ []) ∷ []
+pub labelled : rowsIn (fileReading (λ i j. true) (numbers labelled-text)) ≡ (3 ∷ 0 ∷ 20 ∷ 4 ∷ 0 ∷ []) ∷ (13 ∷ 6 ∷ 12 ∷ 3 ∷ 6 ∷ []) ∷ (20 ∷ 8 ∷ 7 ∷ 2 ∷ 8 ∷ []) ∷ (30 ∷ 8 ∷ 1 ∷ 1 ∷ 8 ∷ []) ∷ []
 unfolding readingFrom runs does
 labelled = refl
 
@@ -99,7 +99,7 @@ closing = (refl, refl, refl)
 abbrev too-many-open-text : List Sym
 too-many-open-text = word-package ∷ identifier ∷ word-is ∷ word-constant ∷ identifier ∷ colon ∷ identifier ∷ becomes ∷ left-paren ∷ left-paren ∷ left-paren ∷ left-paren ∷ left-paren ∷ left-paren ∷ left-paren ∷ left-paren ∷ left-paren ∷ left-paren ∷ left-paren ∷ left-paren ∷ left-paren ∷ left-paren ∷ left-paren ∷ left-paren ∷ left-paren ∷ left-paren ∷ left-paren ∷ left-paren ∷ left-paren ∷ left-paren ∷ left-paren ∷ left-paren ∷ left-paren ∷ left-paren ∷ left-paren ∷ left-paren ∷ left-paren ∷ left-paren ∷ left-paren ∷ left-paren ∷ left-paren ∷ []
 
-pub too-many-open : readingOf (λ i j. true) (numbers too-many-open-text) ≡ stopped 41 too-deep
+pub too-many-open : fileReading (λ i j. true) (numbers too-many-open-text) ≡ stopped 41 too-deep
 unfolding readingFrom runs does
 too-many-open = refl
 

@@ -10,9 +10,8 @@ use Rattle.laws.proofs.Laws.{clash}
 use Rattle.grammars.specs.code.Grammar.{Sym, nt}
 use Rattle.grammars.specs.code.Actions.{go, stop, Reads, done, eat, acts, grow}
 use Rattle.forms.specs.code.Rules.{forms}
-use Rattle.forms.specs.Tree.{Row}
-use Rattle.forms.specs.code.Frames.{Frame, State, Refusal, name-differs, too-deep, fresh, top, onTop, joined, marked, named, rowOf, rowed, does, start, isNamed, rowsOf, Reading}
-use Rattle.forms.specs.Forest.{Forest, bare, tree}
+use Rattle.forms.specs.Tree.{Row, Forest, bare, tree}
+use Rattle.forms.specs.code.Frames.{Frame, State, Refusal, name-differs, too-deep, fresh, top, onTop, joined, marked, named, frameRow, rowed, does, start, frameIsNamed, stateRows, Reading}
 use Rattle.forms.proofs.Nesting.{Nested, nested-eat, nested-act, nested-grow, nested-from, frame-left}
 use Rattle.forms.proofs.Steps.{same-name, deeper-frames}
 
@@ -59,7 +58,7 @@ over : (n k : ℕ) (f : Frame) → Forest (f .first) k (f .rows) → Forest (f .
 over n k f h =
     let l = forest-le h in
     let z : k ≡ f .first + (k - f .first) = omega arith in
-    tree {lo = f .first} {hi = k} {r = rowOf n k f} (omega arith) (forest-more (f .first + (k - f .first)) h (omega arith)) refl (bare {lo = f .first + (k - f .first)} {hi = k} (omega arith)) (append-nil (f .rows))
+    tree {lo = f .first} {hi = k} {r = frameRow n k f} (omega arith) (forest-more (f .first + (k - f .first)) h (omega arith)) refl (bare {lo = f .first + (k - f .first)} {hi = k} (omega arith)) (append-nil (f .rows))
 
 module _ (alike : ℕ → ℕ → Bool) (k : ℕ) (s t : State) where
   to : (u : State) → u ≡ t → Standing k (u .frames) → Standing k (t .frames)
@@ -71,7 +70,7 @@ module _ (alike : ℕ → ℕ → Bool) (k : ℕ) (s t : State) where
   kept (suc zero) e h = to (record { frames = joined (s .frames); depth = s .depth }) (cc) (standing-joined k (s .frames) h)
   kept (suc (suc zero)) e h = to (record { frames = onTop (marked (k - 1)) (s .frames); depth = s .depth }) (cc) (standing-top k (marked (k - 1)) (s .frames) (λ f x. x) (λ f. refl) h)
   kept (suc (suc (suc zero))) e h = to (record { frames = onTop (named k) (s .frames); depth = s .depth }) (cc) (standing-top k (named k) (s .frames) (λ f x. x) (λ f. refl) h)
-  kept (suc (suc (suc (suc zero)))) e h = to s (same-name s t (isNamed alike (top (s .frames) .name) (k - 1)) e) h
+  kept (suc (suc (suc (suc zero)))) e h = to s (same-name s t (frameIsNamed alike (top (s .frames) .name) (k - 1)) e) h
   kept (suc (suc (suc (suc (suc zero))))) e h = subst (Standing k) (deeper-frames s t (ltb (s .depth) 32) e) h
   kept (suc (suc (suc (suc (suc (suc zero)))))) e h = to (record { frames = s .frames; depth = s .depth - 1 }) (cc) h
   kept (suc (suc (suc (suc (suc (suc (suc n))))))) e h =
@@ -88,7 +87,7 @@ stands alike (acts {a = a} {k = k} {α = α} {s = s} {t = u} e r) n h = stands a
 stands alike (grow {n = m} {α = α} {s = s} p l e r) n h = stands alike r (nested-grow p l m α s n) h
 
 -- the rows of a reading, from any name, are a forest within its elements
-pub forest-from : (m : ℕ) (alike : ℕ → ℕ → Bool) (w : List ℕ) (s : State) → Reads State Refusal forms (does alike) (nt m ∷ []) 0 start w s → Forest 0 (length w) (rowsOf s)
+pub forest-from : (m : ℕ) (alike : ℕ → ℕ → Bool) (w : List ℕ) (s : State) → Reads State Refusal forms (does alike) (nt m ∷ []) 0 start w s → Forest 0 (length w) (stateRows s)
 forest-from m alike w s r =
     let z : 0 + length w ≡ length w = omega arith in
     only (s .frames) (frame-left m alike w s r) (subst (λ (x : ℕ). Standing x (s .frames)) z (stands alike r (nested-from m) (bare {lo = 0} {hi = 0} (omega arith), refl)))
@@ -99,5 +98,5 @@ forest-from m alike w s r =
     only (f ∷ g ∷ fs) e h = absurd (omega arith)
 
 -- and so are those of a file
-pub rows-forest : (alike : ℕ → ℕ → Bool) (w : List ℕ) (s : State) → Reading alike w s → Forest 0 (length w) (rowsOf s)
+pub rows-forest : (alike : ℕ → ℕ → Bool) (w : List ℕ) (s : State) → Reading alike w s → Forest 0 (length w) (stateRows s)
 rows-forest = forest-from 0

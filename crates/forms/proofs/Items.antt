@@ -21,7 +21,7 @@ use Rattle.grammars.proofs.Spare.{Fewer, credit, debit, fewer-grow, fewer-done}
 use Rattle.forms.specs.code.Names.{constant, subtype, subtype-range, range, direction, name, name-rest, attribute, expression, logic, and-chain, or-chain, xor-chain, xnor-chain, relation, compared, relational, simple, first-term, sign, added, adding, term, multiplied, multiplying, factor, raised, primary, literal, mark, nameCount, nameNumber, nameNumbers, firstRow}
 use Rattle.forms.specs.code.Rules.{forms, body}
 use Rattle.forms.specs.code.Picks.{predict}
-use Rattle.forms.specs.code.Frames.{Frame, State, Refusal, name-differs, too-deep, fresh, top, onTop, joined, marked, named, rowed, isNamed, does, start}
+use Rattle.forms.specs.code.Frames.{Frame, State, Refusal, name-differs, too-deep, fresh, top, onTop, joined, marked, named, rowed, frameIsNamed, does, start}
 use Rattle.forms.specs.code.Reading.{steps, readingFrom}
 use Rattle.forms.specs.code.ItemReading.{IsItem, ItemReading, ReadsItems, ItemsAnswer, KindsAlone, OneItem, FewerRows}
 use Rattle.forms.proofs.Positive.{picked}
@@ -189,7 +189,7 @@ few-act alike (suc (suc (suc zero))) k s t α e h =
     let z : _≡_ {A = State} (record { frames = onTop (named k) (s .frames); depth = s .depth }) t = cc in
     omega (arith, ap (λ (x : State). rowsIn (x .frames)) z, rows-named k (s .frames))
 few-act alike (suc (suc (suc (suc zero)))) k s t α e h =
-    let z : s ≡ t = picked (isNamed alike (top (s .frames) .name) (k - 1)) s name-differs t e in
+    let z : s ≡ t = picked (frameIsNamed alike (top (s .frames) .name) (k - 1)) s name-differs t e in
     omega (arith, ap (λ (x : State). rowsIn (x .frames)) z)
 few-act alike (suc (suc (suc (suc (suc zero))))) k s t α e h =
     let z = picked (ltb (s .depth) 32) (record { frames = s .frames; depth = s .depth + 1 }) too-deep t e in

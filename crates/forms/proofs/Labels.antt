@@ -8,27 +8,26 @@ use native.Mathlib.Omega.{arith}
 use lib.Dec.{T}
 use lib.ListN.{length, getD, take}
 use Rattle.grammars.proofs.Theory.{and-left, and-right}
-use Rattle.forms.specs.Tree.{Row}
-use Rattle.forms.specs.code.Frames.{State, rowsOf, Reading}
-use Rattle.forms.specs.Forest.{Forest, bare, tree}
+use Rattle.forms.specs.Tree.{Row, Forest, bare, tree}
+use Rattle.forms.specs.code.Frames.{State, stateRows, Reading}
 use Rattle.forms.specs.Spellings.{isIn}
-use Rattle.forms.specs.Lines.{Item, at, row, sort, Pattern, nothing, one, operand, both, either, many, lines, Fits, none, this, inside, then, left, right, no-more, more, elements, sortOf, itemsIn, operatorAt, RowsFit}
+use Rattle.forms.specs.Lines.{OwnItem, at, row, sort, Pattern, nothing, one, operand, both, either, many, lines, Fits, none, this, inside, then, left, right, no-more, more, elements, sortOf, itemsIn, operatorAt, RowsFit}
 use Rattle.forms.specs.Lines as pattern
-use Rattle.form_numbers.specs.Forms.{label}
+use Rattle.form_numbers.specs.Statements as form
 use Rattle.forms.specs.Labels.{Leads, EachLeads, LabelsLead}
 use Rattle.forms.proofs.Growing.{rows-forest}
 use Rattle.forms.proofs.Fitting.{take-less, take-all, behind-tree, rows-fit}
 
 abbrev labels : ℕ
-labels = sort label 0
+labels = sort form.label 0
 
 -- none of the items is a label; none but the first is
-abbrev NoLabel : List Item → Type 0
+abbrev NoLabel : List OwnItem → Type 0
 NoLabel [] = Unit {0}
 NoLabel (at i ∷ x) = NoLabel x
 NoLabel (row s ∷ x) = (s ≡ labels → ⊥) × NoLabel x
 
-abbrev FirstOnly : List Item → Type 0
+abbrev FirstOnly : List OwnItem → Type 0
 FirstOnly [] = Unit {0}
 FirstOnly (i ∷ x) = NoLabel x
 
@@ -49,22 +48,22 @@ led (both a b) = led a && free b
 led (either a b) = led a && led b
 led (many a) = free a
 
-no-append : (x y : List Item) → NoLabel x → NoLabel y → NoLabel (x ++ y)
+no-append : (x y : List OwnItem) → NoLabel x → NoLabel y → NoLabel (x ++ y)
 no-append [] y a b = b
 no-append (at i ∷ x) y a b = no-append x y a b
 no-append (row s ∷ x) y a b = (a .0, no-append x y (a .1) b)
 
-no-behind : (x y : List Item) → NoLabel (x ++ y) → NoLabel y
+no-behind : (x y : List OwnItem) → NoLabel (x ++ y) → NoLabel y
 no-behind [] y h = h
 no-behind (at i ∷ x) y h = no-behind x y h
 no-behind (row s ∷ x) y h = no-behind x y (h .1)
 
-first-no : (x : List Item) → NoLabel x → FirstOnly x
+first-no : (x : List OwnItem) → NoLabel x → FirstOnly x
 first-no [] h = tt
 first-no (at i ∷ x) h = h
 first-no (row s ∷ x) h = h .1
 
-first-append : (x y : List Item) → FirstOnly x → NoLabel y → FirstOnly (x ++ y)
+first-append : (x y : List OwnItem) → FirstOnly x → NoLabel y → FirstOnly (x ++ y)
 first-append [] y a b = first-no y b
 first-append (i ∷ x) y a b = no-append x y a b
 
@@ -76,7 +75,7 @@ other s S a b e = by (isIn labels S) (subst (λ (x : ℕ). T (isIn x S)) e a) b
     by true a b = b
     by false a b = a
 
-no-label : (w : List ℕ) (q : ℕ) {p : Pattern} {x : List Item} → Fits w q p x → T (free p) → NoLabel x
+no-label : (w : List ℕ) (q : ℕ) {p : Pattern} {x : List OwnItem} → Fits w q p x → T (free p) → NoLabel x
 no-label w q none h = tt
 no-label w q (this {x = at i} a m) h = tt
 no-label w q (this {K = K} {x = row s} a m) h = (other s K m h, tt)
@@ -89,7 +88,7 @@ no-label w q (right {a = a} {b = b} f) h = no-label w q f (and-right (free a) (f
 no-label w q no-more h = tt
 no-label w q (more {x = y} {y = z} f g d) h = subst NoLabel (sym d) (no-append y z (no-label w q f h) (no-label w q g h))
 
-first-only : (w : List ℕ) (q : ℕ) {p : Pattern} {x : List Item} → Fits w q p x → T (led p) → FirstOnly x
+first-only : (w : List ℕ) (q : ℕ) {p : Pattern} {x : List OwnItem} → Fits w q p x → T (led p) → FirstOnly x
 first-only w q none h = tt
 first-only w q (this a m) h = tt
 first-only w q (pattern.bare m) h = tt
@@ -116,7 +115,7 @@ each-append p [] m a b = b p
 each-append p (r ∷ l) m a b = (a .0, each-append r l m (a .1) b)
 
 module _ (w : List ℕ) where
-  sort-label : (r : Row) → r .form ≡ label → sortOf w r ≡ labels
+  sort-label : (r : Row) → r .form ≡ form.label → sortOf w r ≡ labels
   sort-label r e = rw e
 
   fit-behind : (l m : List Row) → RowsFit w (l ++ m) → RowsFit w m
@@ -124,17 +123,17 @@ module _ (w : List ℕ) where
   fit-behind (r ∷ l) m h = fit-behind l m (h .2)
 
   -- what is known before the rows x from element lo on, whose items are i: no label is among them; or they are all that stands inside p
-  abbrev Before : Bool → Row → ℕ → List Row → List Item → Type 0
+  abbrev Before : Bool → Row → ℕ → List Row → List OwnItem → Type 0
   Before false p lo x i = NoLabel i
   Before true p lo x i = FirstOnly i × (p .first ≡ lo) × (p .rows ≡ length x + 1)
 
-  head : (b : Bool) (p r : Row) (lo : ℕ) (x : List Row) (X : List Item) → lo ≤ r .first → Before b p lo (r ∷ x) (elements lo (r .first - lo) ++ (row (sortOf w r) ∷ X)) → (r .form ≡ label → Leads r p) × NoLabel X
+  head : (b : Bool) (p r : Row) (lo : ℕ) (x : List Row) (X : List OwnItem) → lo ≤ r .first → Before b p lo (r ∷ x) (elements lo (r .first - lo) ++ (row (sortOf w r) ∷ X)) → (r .form ≡ form.label → Leads r p) × NoLabel X
   head false p r lo x X a h =
       let k = no-behind (elements lo (r .first - lo)) (row (sortOf w r) ∷ X) h in
       ((λ e. absurd (k .0 (sort-label r e))), k .1)
   head true p r lo x X a h = by (r .first - lo) refl (h .0)
     where
-      by : (c : ℕ) → r .first - lo ≡ c → FirstOnly (elements lo c ++ (row (sortOf w r) ∷ X)) → (r .form ≡ label → Leads r p) × NoLabel X
+      by : (c : ℕ) → r .first - lo ≡ c → FirstOnly (elements lo c ++ (row (sortOf w r) ∷ X)) → (r .form ≡ form.label → Leads r p) × NoLabel X
       by zero d f = let u = h .1 in let v = h .2 in ((λ e. (omega arith, omega arith)), f)
       by (suc c) d f =
           let k = no-behind (elements (suc lo) c) (row (sortOf w r) ∷ X) f in
@@ -166,7 +165,7 @@ module _ (w : List ℕ) where
       let o = leads false r f [] (subst (RowsFit w) (sym (append-nil (r ∷ l))) t) k in
       ((λ e. q .0 (sort-label r e)), o .1)
 
-pub labels-lead : (alike : ℕ → ℕ → Bool) (w : List ℕ) (s : State) → Reading alike w s → LabelsLead (rowsOf s)
+pub labels-lead : (alike : ℕ → ℕ → Bool) (w : List ℕ) (s : State) → Reading alike w s → LabelsLead (stateRows s)
 labels-lead alike w s r =
     let t = rows-fit alike w s r in
-    all-lead w (rowsOf s) (length w) (rows-forest alike w s r) (t .1) (no-label w 0 (t .0) tt)
+    all-lead w (stateRows s) (length w) (rows-forest alike w s r) (t .1) (no-label w 0 (t .0) tt)

@@ -7,9 +7,8 @@ use mathlib.Core.Bool.{Bool, true, false, cond}
 use mathlib.Core.List.{List, [], _∷_, _++_, append-assoc, append-nil}
 use native.Mathlib.Omega.{arith}
 use lib.ListN.{length, length-append}
-use Rattle.forms.specs.Tree.{Row}
-use Rattle.forms.specs.code.Frames.{State, rowsOf, Reading}
-use Rattle.forms.specs.Forest.{Forest, bare, tree}
+use Rattle.forms.specs.Tree.{Row, Forest, bare, tree}
+use Rattle.forms.specs.code.Frames.{State, stateRows, Reading}
 use Rattle.forms.specs.Owners.{spans, ownerFrom, NoneSpans, hung, leavesIn, LeavesAre}
 use Rattle.forms.proofs.Growing.{forest-le, rows-forest}
 use Rattle.forms.proofs.Owners.{is-spans, not-spans, nowhere, none-append, none-out}
@@ -117,9 +116,9 @@ leaves-owned row next (tree {lo = lo} {hi = hi} {r = r} {inside = x} {after = y}
     ∙ joins whole lo (r .first) hi a (omega (arith, forest-le f, forest-le g))
     ∙ ap (λ (m : List Row). hung (λ i. ownerFrom next row i (r ∷ m)) lo (hi - lo)) j
 
-pub leaves-are : (alike : ℕ → ℕ → Bool) (w : List ℕ) (s : State) → Reading alike w s → LeavesAre (length w) (rowsOf s)
+pub leaves-are : (alike : ℕ → ℕ → Bool) (w : List ℕ) (s : State) → Reading alike w s → LeavesAre (length w) (stateRows s)
 leaves-are alike w s r =
-    let l : List Row = rowsOf s in
+    let l : List Row = stateRows s in
     let z : length w - 0 ≡ length w = omega arith in
     ap (λ (m : List Row). leavesIn (length l) 0 (length l) 0 0 (length w) m) (sym (append-nil l))
     ∙ leaves-owned (length l) 0 (rows-forest alike w s r) []

@@ -21,7 +21,7 @@ use Rattle.forms.specs.code.Names.{file}
 use Rattle.forms.specs.code.Rules.{forms, body}
 use Rattle.forms.specs.code.Picks.{predict}
 use Rattle.forms.specs.code.Frames.{State, Refusal, does, start, IsFile}
-use Rattle.forms.specs.code.Reading.{steps, readingFrom, readingOf, Begins, ReadsFiles, OneReading, FirstWrong, StillBegins, AlwaysAnswers}
+use Rattle.forms.specs.code.Reading.{steps, readingFrom, fileReading, BeginsFile, ReadsFiles, OneFileReading, FirstWrong, StillBegins, AlwaysAnswers}
 use Rattle.forms.proofs.Tests.{tables, forms-ll, weight, leads, steps-paid}
 
 pub begun : theory.Fol forms predict tables forms-ll (file ∷ [])
@@ -35,7 +35,7 @@ begun = ((λ t m. go t m), lit< tt, tt)
 abbrev alone : List ℕ → Out
 alone w = run body predict (steps (length w)) (file ∷ []) w 0
 
-agrees : (alike : ℕ → ℕ → Bool) (w : List ℕ) (o : End State Refusal) → readingOf alike w ≡ o → acting.Agree forms predict (does alike) o (alone w)
+agrees : (alike : ℕ → ℕ → Bool) (w : List ℕ) (o : End State Refusal) → fileReading alike w ≡ o → acting.Agree forms predict (does alike) o (alone w)
 unfolding readingFrom
 agrees alike w o e =
     subst (λ (x : End State Refusal). acting.Agree forms predict (does alike) x (alone w)) e
@@ -48,11 +48,11 @@ pub always-answers : AlwaysAnswers
 always-answers alike w e = never w (agrees alike w spent e)
 
 -- what the machine did on its way to its answer
-pub trailed : (alike : ℕ → ℕ → Bool) (w : List ℕ) → Trail State Refusal forms (does alike) (file ∷ []) 0 start w (readingOf alike w)
+pub trailed : (alike : ℕ → ℕ → Bool) (w : List ℕ) → Trail State Refusal forms (does alike) (file ∷ []) 0 start w (fileReading alike w)
 unfolding readingFrom
 trailed alike w = trail forms predict (does alike) (forms-ll .table) (steps (length w)) (file ∷ []) w 0 start (always-answers alike w)
 
-pub one-reading : OneReading
+pub one-reading : OneFileReading
 one-reading alike w s t p q = acting.one forms predict (does alike) tables forms-ll begun p q
 
 pub reads-files : ReadsFiles
@@ -62,12 +62,12 @@ reads-files alike w s = (
   λ r. ⊎-elim (λ e. e) (λ e. absurd (always-answers alike w e)) (acting.found forms predict (does alike) tables forms-ll (steps (length w)) r begun),
 )
 
-wrong-at : (w : List ℕ) (j : ℕ) → alone w ≡ plain.Out.bad j → (j ≤ length w) × Begins w j × (j < length w → Begins w (suc j) → ⊥) × (j ≡ length w → IsFile w → ⊥)
+wrong-at : (w : List ℕ) (j : ℕ) → alone w ≡ plain.Out.bad j → (j ≤ length w) × BeginsFile w j × (j < length w → BeginsFile w (suc j) → ⊥) × (j ≡ length w → IsFile w → ⊥)
 wrong-at w j e =
     let r = theory.viable forms predict tables forms-ll (steps (length w)) (file ∷ []) w 0 j begun e in
     let z : r .more ≡ j = omega (arith, r .place) in (
       subst (λ (x : ℕ). x ≤ length w) z (r .inside-text),
-      subst (λ (x : ℕ). Begins w x) z (r .rest, r .begins),
+      subst (λ (x : ℕ). BeginsFile w x) z (r .rest, r .begins),
       (λ l b. r .no-more (b .0) (omega arith) (subst (λ (x : ℕ). IsFile (take (suc x) w ++ b .0)) (sym z) (b .1))),
       λ l g. ⊎-elim (λ q. let y : _≡_ {A = ℕ} 0 1 = cc in clash y) (never w) (theory.complete forms predict tables forms-ll (steps (length w)) 0 g begun),
     )
@@ -76,7 +76,7 @@ pub first-wrong : FirstWrong
 first-wrong alike w j e = wrong-at w j (agrees alike w (bad j) e)
 
 -- what begins a file begins it with less
-pub shorter : (w : List ℕ) (i j : ℕ) → j ≤ i → Begins w i → Begins w j
+pub shorter : (w : List ℕ) (i j : ℕ) → j ≤ i → BeginsFile w i → BeginsFile w j
 shorter w i j l b = (
   drop j (take i w) ++ b .0,
   subst IsFile
@@ -88,12 +88,12 @@ shorter w i j l b = (
 pub still-begins : StillBegins
 still-begins alike w j r e = go (alone w) refl
   where
-    go : (o : Out) → alone w ≡ o → Begins w j
+    go : (o : Out) → alone w ≡ o → BeginsFile w j
     go plain.Out.good q = (drop j w, subst IsFile (sym (take-append-drop j w)) (theory.sound forms predict (forms-ll .table) (steps (length w)) (file ∷ []) w 0 q))
     go (plain.Out.bad i) q = shorter w i j (agrees alike w (stopped j r) e i q) (wrong-at w i q .1)
     go plain.Out.spent q = absurd (never w q)
 
 -- where refusal 5 comes there is no file
-pub no-file : (alike : ℕ → ℕ → Bool) (w : List ℕ) (j : ℕ) → readingOf alike w ≡ bad j → IsFile w → ⊥
+pub no-file : (alike : ℕ → ℕ → Bool) (w : List ℕ) (j : ℕ) → fileReading alike w ≡ bad j → IsFile w → ⊥
 no-file alike w j e g =
     ⊎-elim (λ q. let y : _≡_ {A = ℕ} 0 1 = cc (agrees alike w (bad j) e) in clash y) (never w) (theory.complete forms predict tables forms-ll (steps (length w)) 0 g begun)

@@ -15,7 +15,7 @@ use Rattle.grammars.specs.code.Actions.{go, stop, Reads, done, eat, acts, grow}
 use Rattle.grammars.proofs.Room as room
 use Rattle.forms.specs.code.Names.{file}
 use Rattle.forms.specs.code.Rules.{forms, body}
-use Rattle.forms.specs.code.Frames.{Frame, State, Refusal, name-differs, too-deep, fresh, top, onTop, joined, marked, named, rowed, does, start, isNamed, Reading}
+use Rattle.forms.specs.code.Frames.{Frame, State, Refusal, name-differs, too-deep, fresh, top, onTop, joined, marked, named, rowed, does, start, frameIsNamed, Reading}
 use Rattle.forms.proofs.Tests as tests
 use Rattle.forms.proofs.Steps.{same-name}
 
@@ -99,7 +99,7 @@ module _ (alike : ℕ → ℕ → Bool) (k : ℕ) (s t : State) (α : List Sym) 
       plain-act 3 (λ z. absurd (omega arith)) (λ z. absurd (omega arith)) (λ z. absurd (omega arith)) (λ z. absurd (omega arith))
       (flip (ap (λ (x : State). length (x .frames)) z) ∙ top-size (named k) (s .frames)) (flip (ap (λ (x : State). x .depth) z)) n o
   moved (suc (suc (suc (suc zero)))) e n o =
-      let z : s ≡ t = same-name s t (isNamed alike (top (s .frames) .name) (k - 1)) e in
+      let z : s ≡ t = same-name s t (frameIsNamed alike (top (s .frames) .name) (k - 1)) e in
       plain-act 4 (λ z. absurd (omega arith)) (λ z. absurd (omega arith)) (λ z. absurd (omega arith)) (λ z. absurd (omega arith))
       (flip (ap (λ (x : State). length (x .frames)) z)) (flip (ap (λ (x : State). x .depth) z)) n o
   moved (suc (suc (suc (suc (suc zero))))) e n o =

@@ -17,8 +17,8 @@ use Rattle.grammars.proofs.Check.{below-at, every, every-at}
 use Rattle.grammars.proofs.Trail.{Trail, whole, more, other, none, refuses, eats, acts, grows}
 use Rattle.forms.specs.code.Names.{file}
 use Rattle.forms.specs.code.Rules.{forms, body}
-use Rattle.forms.specs.code.Frames.{State, Refusal, name-differs, too-deep, fresh, top, onTop, joined, marked, named, rowed, isNamed, does, Reading}
-use Rattle.forms.specs.code.Reading.{readingOf}
+use Rattle.forms.specs.code.Frames.{State, Refusal, name-differs, too-deep, fresh, top, onTop, joined, marked, named, rowed, frameIsNamed, does, Reading}
+use Rattle.forms.specs.code.Reading.{fileReading}
 use Rattle.forms.specs.Open.{Role, opening, closing, neither, role, after, openFrom, openAfter}
 use Rattle.forms.proofs.Hints as hints
 use Rattle.forms.proofs.Tests as tests
@@ -190,7 +190,7 @@ module _ (alike : ℕ → ℕ → Bool) (k : ℕ) (s t : State) (α : List Sym) 
   counted (suc zero) e = of (record { frames = joined (s .frames); depth = s .depth }) (cc)
   counted (suc (suc zero)) e = of (record { frames = onTop (marked (k - 1)) (s .frames); depth = s .depth }) (cc)
   counted (suc (suc (suc zero))) e = of (record { frames = onTop (named k) (s .frames); depth = s .depth }) (cc)
-  counted (suc (suc (suc (suc zero)))) e = ap (λ (x : State). x .depth) (same-name s t (isNamed alike (top (s .frames) .name) (k - 1)) e)
+  counted (suc (suc (suc (suc zero)))) e = ap (λ (x : State). x .depth) (same-name s t (frameIsNamed alike (top (s .frames) .name) (k - 1)) e)
   counted (suc (suc (suc (suc (suc zero))))) e = ap (λ (x : State). x .depth) (one-deeper s t (ltb (s .depth) 32) e)
   counted (suc (suc (suc (suc (suc (suc zero)))))) e = of (record { frames = s .frames; depth = s .depth - 1 }) (cc)
   counted (suc (suc (suc (suc (suc (suc (suc f))))))) e =
@@ -213,7 +213,7 @@ module _ (alike : ℕ → ℕ → Bool) (k : ℕ) (s t : State) (α : List Sym) 
   low-kept (suc zero) e l = omega (arith, of (record { frames = joined (s .frames); depth = s .depth }) (cc))
   low-kept (suc (suc zero)) e l = omega (arith, of (record { frames = onTop (marked (k - 1)) (s .frames); depth = s .depth }) (cc))
   low-kept (suc (suc (suc zero))) e l = omega (arith, of (record { frames = onTop (named k) (s .frames); depth = s .depth }) (cc))
-  low-kept (suc (suc (suc (suc zero)))) e l = omega (arith, ap (λ (x : State). x .depth) (same-name s t (isNamed alike (top (s .frames) .name) (k - 1)) e))
+  low-kept (suc (suc (suc (suc zero)))) e l = omega (arith, ap (λ (x : State). x .depth) (same-name s t (frameIsNamed alike (top (s .frames) .name) (k - 1)) e))
   low-kept (suc (suc (suc (suc (suc zero))))) e l = low-deeper (ltb (s .depth) 32) refl e
   low-kept (suc (suc (suc (suc (suc (suc zero)))))) e l = omega (arith, of (record { frames = s .frames; depth = s .depth - 1 }) (cc))
   low-kept (suc (suc (suc (suc (suc (suc (suc f))))))) e l = omega (arith, of (record { frames = onTop (rowed f k) (s .frames); depth = s .depth }) (cc))
@@ -233,7 +233,7 @@ deepens alike k s zero e = let z : _≡_ {A = ℕ} 0 1 = cc in clash z
 deepens alike k s (suc zero) e = let z : _≡_ {A = ℕ} 0 1 = cc in clash z
 deepens alike k s (suc (suc zero)) e = let z : _≡_ {A = ℕ} 0 1 = cc in clash z
 deepens alike k s (suc (suc (suc zero))) e = let z : _≡_ {A = ℕ} 0 1 = cc in clash z
-deepens alike k s (suc (suc (suc (suc zero)))) e = absurd (named-not-deep s (isNamed alike (top (s .frames) .name) (k - 1)) e)
+deepens alike k s (suc (suc (suc (suc zero)))) e = absurd (named-not-deep s (frameIsNamed alike (top (s .frames) .name) (k - 1)) e)
 deepens alike k s (suc (suc (suc (suc (suc zero))))) e = (refl, full s (ltb (s .depth) 32) refl e)
 deepens alike k s (suc (suc (suc (suc (suc (suc zero)))))) e = let z : _≡_ {A = ℕ} 0 1 = cc in clash z
 deepens alike k s (suc (suc (suc (suc (suc (suc (suc f))))))) e = let z : _≡_ {A = ℕ} 0 1 = cc in clash z
@@ -328,13 +328,13 @@ begun : Fine (one 0) (file ∷ [])
 begun = (tt, (λ t m. ⊎-elim (λ e. subst (λ (x : ℕ). T (mem x (before 0))) (sym (eqb→eq t 0 e)) tt) (λ z. absurd z) (or-cases (eqb t 0) false m)), tt)
 
 -- after every element that the reading got past, no more than 32 stand open
-pub within : (alike : ℕ → ℕ → Bool) (w : List ℕ) (o : End State Refusal) → readingOf alike w ≡ o → (i : ℕ) → Within o i → openAfter w i ≤ 32
+pub within : (alike : ℕ → ℕ → Bool) (w : List ℕ) (o : End State Refusal) → fileReading alike w ≡ o → (i : ℕ) → Within o i → openAfter w i ≤ 32
 within alike w o e i m =
     let z : i ≡ 0 + i = omega arith in
     low alike 0 0 (trailed alike w) begun refl (omega arith) i (subst (λ (x : End State Refusal). Within x (0 + i)) (sym e) (subst (Within o) z m))
 
 -- refusal 7, when j elements were read: they leave 33 open, and none before them did
-pub too-deep-at : (alike : ℕ → ℕ → Bool) (w : List ℕ) (j : ℕ) → readingOf alike w ≡ stopped j too-deep → (openAfter w j ≡ 33) × ((i : ℕ) → i < j → openAfter w i ≤ 32)
+pub too-deep-at : (alike : ℕ → ℕ → Bool) (w : List ℕ) (j : ℕ) → fileReading alike w ≡ stopped j too-deep → (openAfter w j ≡ 33) × ((i : ℕ) → i < j → openAfter w i ≤ 32)
 too-deep-at alike w j e =
     let r = deep alike 0 0 j (trailed alike w) e begun refl (omega arith) in
     let l = r .1 .0 in

@@ -14,16 +14,16 @@ use Rattle.grammars.specs.code.Actions.{go, stop, Reads, done, eat, acts, grow}
 use Rattle.grammars.proofs.Theory.{mem, and-left, and-right, one-of, is-one}
 use Rattle.grammars.proofs.Check.{below-at, every, every-at}
 use Rattle.forms.specs.code.Rules.{forms, body}
-use Rattle.forms.specs.Tree.{Row}
-use Rattle.forms.specs.code.Frames.{Frame, State, Refusal, name-differs, too-deep, fresh, top, onTop, joined, marked, named, rowOf, rowed, isNamed, does, rowsOf, Reading}
-use Rattle.forms.specs.Spellings.{among}
-use Rattle.forms.specs.Operators.{unaryOperators, binaryOperators, EachRow}
+use Rattle.forms.specs.Tree.{Row, EachRow}
+use Rattle.forms.specs.code.Frames.{Frame, State, Refusal, name-differs, too-deep, fresh, top, onTop, joined, marked, named, frameRow, rowed, frameIsNamed, does, stateRows, Reading}
+use Rattle.forms.specs.Spellings.{spelledAmong}
+use Rattle.forms.specs.Operators.{unaryOperators, binaryOperators}
 use Rattle.forms.proofs.Hints as hints
 use Rattle.forms.proofs.Steps.{named-frames, deeper-frames}
 
 -- the row's operator is within the row's span, and of one of these kinds
 abbrev pub Within : List ℕ → List String → Row → Type 0
-Within w kinds r = (r .first ≤ r .operator) × (r .operator < r .first + r .count) × (among (getD w (r .operator) 0) kinds ≡ true)
+Within w kinds r = (r .first ≤ r .operator) × (r .operator < r .first + r .count) × (spelledAmong (getD w (r .operator) 0) kinds ≡ true)
 
 abbrev pub MarkRight : List ℕ → Row → Type 0
 MarkRight w r = cond (eqb (r .form) 28) (Within w unaryOperators r) (cond (eqb (r .form) 29) (Within w binaryOperators r) (r .operator ≡ r .first))
@@ -49,7 +49,7 @@ kept-in (x ∷ m) l q t h k = k
 
 -- a row of form f in a frame whose operator has the kind q
 abbrev rowFits : ℕ → ℕ → Bool
-rowFits f q = cond (eqb f 28) (among q unaryOperators) (cond (eqb f 29) (among q binaryOperators) (eqb q 0))
+rowFits f q = cond (eqb f 28) (spelledAmong q unaryOperators) (cond (eqb f 29) (spelledAmong q binaryOperators) (eqb q 0))
 
 -- With p just read (0: not told), q the kind of the innermost frame's operator and F those of the frames around it: α marks and puts rows as it may.
 abbrev Marks : ℕ → ℕ → List ℕ → List Sym → Type 0
@@ -234,19 +234,19 @@ module _ (W : List ℕ) where
   mark-fits k (suc p) first t j = (omega (arith, j .0), omega (arith, j .0), j .1)
 
   -- the row just put
-  has : (kinds : List String) (n k q : ℕ) (f : Frame) → among 0 kinds ≡ false → T (among q kinds) → Operates k (f .first) (f .operator) q → Within W kinds (rowOf n k f)
+  has : (kinds : List String) (n k q : ℕ) (f : Frame) → spelledAmong 0 kinds ≡ false → T (spelledAmong q kinds) → Operates k (f .first) (f .operator) q → Within W kinds (frameRow n k f)
   has kinds n k zero f d t o = absurd (subst T d t)
-  has kinds n k (suc q) f d t o = (o .0, omega (arith, o .0, o .1), ap (λ (x : ℕ). among x kinds) (o .2) ∙ is-true (among (suc q) kinds) t)
+  has kinds n k (suc q) f d t o = (o .0, omega (arith, o .0, o .1), ap (λ (x : ℕ). spelledAmong x kinds) (o .2) ∙ is-true (spelledAmong (suc q) kinds) t)
 
-  has-none : (n k q : ℕ) (f : Frame) → T (eqb q 0) → Operates k (f .first) (f .operator) q → rowOf n k f .operator ≡ rowOf n k f .first
+  has-none : (n k q : ℕ) (f : Frame) → T (eqb q 0) → Operates k (f .first) (f .operator) q → frameRow n k f .operator ≡ frameRow n k f .first
   has-none n k zero f t o = o
   has-none n k (suc q) f t o = absurd (omega (arith, eqb→eq (suc q) 0 t))
 
-  row-right : (n k q : ℕ) (f : Frame) → T (rowFits n q) → Operates k (f .first) (f .operator) q → MarkRight W (rowOf n k f)
+  row-right : (n k q : ℕ) (f : Frame) → T (rowFits n q) → Operates k (f .first) (f .operator) q → MarkRight W (frameRow n k f)
   row-right n k q f t o = by (eqb n 28) (eqb n 29) t
     where
-      by : (a b : Bool) → T (cond a (among q unaryOperators) (cond b (among q binaryOperators) (eqb q 0)))
-          → cond a (Within W unaryOperators (rowOf n k f)) (cond b (Within W binaryOperators (rowOf n k f)) (f .operator ≡ f .first))
+      by : (a b : Bool) → T (cond a (spelledAmong q unaryOperators) (cond b (spelledAmong q binaryOperators) (eqb q 0)))
+          → cond a (Within W unaryOperators (frameRow n k f)) (cond b (Within W binaryOperators (frameRow n k f)) (f .operator ≡ f .first))
       by true b t = has unaryOperators n k q f refl t o
       by false true t = has binaryOperators n k q f refl t o
       by false false t = has-none n k q f t o
@@ -291,7 +291,7 @@ module _ (W : List ℕ) where
     held-act (suc (suc (suc zero))) e h =
         over 3 (named k) (λ f. refl) (of (record { frames = onTop (named k) (s .frames); depth = s .depth }) (cc)) h (h .operator) (λ f z o r. (o, r)) (h .marks)
     held-act (suc (suc (suc (suc zero)))) e h =
-        to (s .frames) (named-frames s t (isNamed alike (top (s .frames) .name) (k - 1)) e) (h .just-read) (h .operator) (h .around) (h .marks) (h .stand) (h .just)
+        to (s .frames) (named-frames s t (frameIsNamed alike (top (s .frames) .name) (k - 1)) e) (h .just-read) (h .operator) (h .around) (h .marks) (h .stand) (h .just)
     held-act (suc (suc (suc (suc (suc zero))))) e h =
         to (s .frames) (deeper-frames s t (ltb (s .depth) 32) e) (h .just-read) (h .operator) (h .around) (h .marks) (h .stand) (h .just)
     held-act (suc (suc (suc (suc (suc (suc zero)))))) e h =
@@ -311,11 +311,11 @@ module _ (W : List ℕ) where
   only k [] q F s = absurd s
   only k (f ∷ fs) q F s = s .2
 
-  held : (alike : ℕ → ℕ → Bool) {α : List Sym} {k : ℕ} {s t : State} {w : List ℕ} → Reads State Refusal forms (does alike) α k s w t → drop k W ≡ w → Held k s α → EachRow (MarkRight W) (rowsOf t)
+  held : (alike : ℕ → ℕ → Bool) {α : List Sym} {k : ℕ} {s t : State} {w : List ℕ} → Reads State Refusal forms (does alike) α k s w t → drop k W ≡ w → Held k s α → EachRow (MarkRight W) (stateRows t)
   held alike (done {k = k} {s = s}) e h = only k (s .frames) (h .operator) (h .around) (h .stand)
   held alike (eat {a = a} {k = k} {α = α} {w = w} {s = s} r) e h = let n = next W k a w e in held alike r (n .1) (held-eat k a s α (n .0) h)
   held alike (acts {a = a} {k = k} {α = α} {s = s} {t = t} q r) e h = held alike r e (held-act alike k s t α a q h)
   held alike (grow {n = n} {k = k} {α = α} {s = s} p l q r) e h = held alike r e (held-grow p l n q k s α h)
 
-pub operators-marked : (alike : ℕ → ℕ → Bool) (w : List ℕ) (s : State) → Reading alike w s → EachRow (MarkRight w) (rowsOf s)
+pub operators-marked : (alike : ℕ → ℕ → Bool) (w : List ℕ) (s : State) → Reading alike w s → EachRow (MarkRight w) (stateRows s)
 operators-marked alike w s r = held w alike r refl (record { just-read = 0; operator = 0; around = []; marks = (tt, λ p q h k. tt); stand = (omega arith, refl, tt, tt); just = tt })

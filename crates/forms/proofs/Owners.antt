@@ -10,11 +10,10 @@ use lib.ListN.{length, take, length-append}
 use borrow.Author.Tests.{le-leb}
 use Rattle.laws.proofs.Laws.{clash}
 use Rattle.grammars.proofs.Theory.{and-left, and-right}
-use Rattle.forms.specs.Tree.{Row}
-use Rattle.forms.specs.code.Frames.{State, rowsOf, Reading}
-use Rattle.forms.specs.Forest.{Forest, bare, tree, Tiled, none, unit}
-use Rattle.forms.specs.Operators.{EachRow}
-use Rattle.forms.specs.Lines.{Item, at, row, elements, sortOf, itemsIn, ownItems, IsAmong}
+use Rattle.forms.specs.Tree.{Row, EachRow, Forest, bare, tree}
+use Rattle.forms.specs.code.Frames.{State, stateRows, Reading}
+use Rattle.forms.specs.Files.{Tiled, none, unit}
+use Rattle.forms.specs.Lines.{OwnItem, at, row, elements, sortOf, itemsIn, ownItems, IsAmong}
 use Rattle.forms.specs.Owners.{spans, ownerFrom, NoneSpans, Holds, Owned, AllOwned, OwnedOnce}
 use Rattle.forms.proofs.Growing.{forest-le, rows-forest}
 use Rattle.forms.proofs.Tiling.{rows-tiled}
@@ -31,12 +30,12 @@ pub is-spans : (i : ℕ) (r : Row) → r .first ≤ i → i < r .first + r .coun
 is-spans i r a b = rw (le-leb (r .first) i a, le-leb (suc i) (r .first + r .count) b)
 
 -- an element that no row spans is an item
-in-left : (x : Item) (l m : List Item) → IsAmong x l → IsAmong x (l ++ m)
+in-left : (x : OwnItem) (l m : List OwnItem) → IsAmong x l → IsAmong x (l ++ m)
 in-left x [] m h = absurd h
 in-left x (y ∷ l) m (inl e) = inl e
 in-left x (y ∷ l) m (inr h) = inr (in-left x l m h)
 
-in-right : (x : Item) (l m : List Item) → IsAmong x m → IsAmong x (l ++ m)
+in-right : (x : OwnItem) (l m : List OwnItem) → IsAmong x m → IsAmong x (l ++ m)
 in-right x [] m h = h
 in-right x (y ∷ l) m h = inr (in-right x l m h)
 
@@ -65,10 +64,10 @@ in-items w i skip lo hi [] a b n = in-elements i lo (hi - lo) a (omega arith)
 in-items w i zero lo hi (r ∷ l) a b n =
     by (side (r .first) i) (side (r .first + r .count) i) (λ c. in-items w i (r .rows - 1) (r .first + r .count) hi l c b (n .1))
   where
-    E : List Item
+    E : List OwnItem
     E = elements lo (r .first - lo)
 
-    X : List Item
+    X : List OwnItem
     X = itemsIn w (r .rows - 1) (r .first + r .count) hi l
 
     by : (i < r .first) ⊎ (r .first ≤ i) → (i < r .first + r .count) ⊎ (r .first + r .count ≤ i) → (r .first + r .count ≤ i → IsAmong (at i) X) → IsAmong (at i) (E ++ (row (sortOf w r) ∷ X))
@@ -194,10 +193,10 @@ inner : (i hi : ℕ) (before : List Row) (on : Row) (behind : List Row) → T (s
 inner i hi [] on behind t h = tt
 inner i hi (r ∷ before) on behind t h = ((λ u. each-pick (λ o. T (spans i o) → Holds r o) before on behind (h .1 u) t), inner i hi before on behind t (h .2))
 
-pub all-owned : (alike : ℕ → ℕ → Bool) (w : List ℕ) (s : State) → Reading alike w s → AllOwned w (rowsOf s)
-all-owned alike w s r i h = by (find i 0 (length (rowsOf s)) (rowsOf s))
+pub all-owned : (alike : ℕ → ℕ → Bool) (w : List ℕ) (s : State) → Reading alike w s → AllOwned w (stateRows s)
+all-owned alike w s r i h = by (find i 0 (length (stateRows s)) (stateRows s))
   where
-    by : Last i 0 (length (rowsOf s)) (rowsOf s) ⊎ NoneSpans i (rowsOf s) → Owned w (rowsOf s) i
+    by : Last i 0 (length (stateRows s)) (stateRows s) ⊎ NoneSpans i (stateRows s) → Owned w (stateRows s) i
     by (inl f) =
         let p = spans-is i (f .on) (f .spanned) in
         record {
@@ -237,7 +236,7 @@ none-out i (tree {lo = lo} {hi = hi} {r = r} {inside = x} {after = y} a f d g j)
   subst (NoneSpans i) j (none-append i x y (none-out i f (inr (omega (arith, forest-le g)))) (none-out i g (inr o))),
 )
 
-among-append : (x : Item) (l m : List Item) → IsAmong x (l ++ m) → IsAmong x l ⊎ IsAmong x m
+among-append : (x : OwnItem) (l m : List OwnItem) → IsAmong x (l ++ m) → IsAmong x l ⊎ IsAmong x m
 among-append x [] m h = inr h
 among-append x (y ∷ l) m (inl e) = inl (inl e)
 among-append x (y ∷ l) m (inr h) = ⊎-elim (λ a. inl (inr a)) inr (among-append x l m h)
@@ -245,14 +244,14 @@ among-append x (y ∷ l) m (inr h) = ⊎-elim (λ a. inl (inr a)) inr (among-app
 same-at : (i j : ℕ) → at i ≡ at j → i ≡ j
 same-at i j e = ap number e
   where
-    number : Item → ℕ
+    number : OwnItem → ℕ
     number (at k) = k
     number (row s) = 0
 
 not-row : (i s : ℕ) → at i ≡ row s → ⊥
 not-row i s e = subst Is e tt
   where
-    Is : Item → Type 0
+    Is : OwnItem → Type 0
     Is (at k) = Unit {0}
     Is (row t) = ⊥
 
@@ -269,7 +268,7 @@ own-none w i (tree {lo = lo} {hi = hi} {r = r} {inside = x} {after = y} {rest = 
     end : ℕ
     end = r .first + r .count
 
-    X : List Item
+    X : List OwnItem
     X = itemsIn w (r .rows - 1) end hi l
 
     by : IsAmong (at i) (elements lo (r .first - lo)) ⊎ IsAmong (at i) (row (sortOf w r) ∷ X) → (IsAmong (at i) X → (end ≤ i) × (i < hi) × NoneSpans i y) → (lo ≤ i) × (i < hi) × NoneSpans i (r ∷ l)
@@ -330,7 +329,7 @@ owner-at i next found [] on behind t n = by (spans i on) t ∙ nowhere i (suc ne
     by false t = absurd t
 owner-at i next found (r ∷ before) on behind t n = owner-at i (suc next) (cond (spans i r) next found) before on behind t n ∙ omega arith
 
-pub owned-once : (alike : ℕ → ℕ → Bool) (w : List ℕ) (s : State) → Reading alike w s → OwnedOnce w (rowsOf s)
+pub owned-once : (alike : ℕ → ℕ → Bool) (w : List ℕ) (s : State) → Reading alike w s → OwnedOnce w (stateRows s)
 owned-once alike w s r before on behind e i h =
     let k = own-at w i (length w) before on behind (subst (OwnLast w i (length w)) e (own-last w i (rows-forest alike w s r))) h in
-    ap (λ (l : List Row). ownerFrom 0 (length (rowsOf s)) i l) e ∙ owner-at i 0 (length (rowsOf s)) before on behind (k .0) (k .1) ∙ omega arith
+    ap (λ (l : List Row). ownerFrom 0 (length (stateRows s)) i l) e ∙ owner-at i 0 (length (stateRows s)) before on behind (k .0) (k .1) ∙ omega arith

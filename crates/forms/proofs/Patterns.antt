@@ -10,19 +10,19 @@ use lib.ListN.{getD}
 use Rattle.grammars.proofs.Theory.{and-left, and-right, or-cases}
 use Rattle.forms.specs.code.Kinds.{numberOf, left-paren, right-paren}
 use Rattle.forms.specs.Spellings.{isIn}
-use Rattle.forms.specs.Lines.{Item, at, row, Pattern, nothing, one, operand, both, either, many, expressions, anExpression, IsOf, codeOf, Fits, none, this, bare, inside, then, left, right, no-more, more}
-use Rattle.forms.specs.code.Shapes.{e}
+use Rattle.forms.specs.Lines.{OwnItem, at, row, Pattern, nothing, one, operand, both, either, many, expressions, anExpression, IsOf, codeOf, Fits, none, this, bare, inside, then, left, right, no-more, more}
+use Rattle.forms.specs.code.Shapes.{symbol}
 
 -- a list of items cut in two
-pub record Cut (A B : List Item → Type 0) (x : List Item) : Type 0 where
-  pub before : List Item
-  pub behind : List Item
+pub record Cut (A B : List OwnItem → Type 0) (x : List OwnItem) : Type 0 where
+  pub before : List OwnItem
+  pub behind : List OwnItem
   pub first : A before
   pub last : B behind
   pub is : x ≡ before ++ behind
 
 -- one pattern after the other
-abbrev pub FitsAll : List ℕ → ℕ → List Pattern → List Item → Type 0
+abbrev pub FitsAll : List ℕ → ℕ → List Pattern → List OwnItem → Type 0
 FitsAll w q [] x = x ≡ []
 FitsAll w q (p ∷ l) x = Cut (Fits w q p) (FitsAll w q l) x
 
@@ -81,7 +81,7 @@ manyIn s a (many b) = s (b ∷ []) (a ∷ [])
 abbrev parens : Test → Pattern → List Pattern → List Pattern → Bool
 parens s p [] m = false
 parens s p (b ∷ []) m = false
-parens s p (b ∷ c ∷ l) m = s (p ∷ []) (e left-paren ∷ []) && (s (b ∷ []) (anExpression ∷ []) && (s (c ∷ []) (e right-paren ∷ []) && s l m))
+parens s p (b ∷ c ∷ l) m = s (p ∷ []) (symbol left-paren ∷ []) && (s (b ∷ []) (anExpression ∷ []) && (s (c ∷ []) (symbol right-paren ∷ []) && s l m))
 
 abbrev rightly : Test → Pattern → List Pattern → List Pattern → Bool
 rightly s p l [] = false
@@ -108,17 +108,17 @@ sub (suc n) l m = step (sub n) l m
 
 module _ (w : List ℕ) (q : ℕ) where
   abbrev Sound : Test → Type 0
-  Sound s = (l m : List Pattern) (x : List Item) → T (s l m) → FitsAll w q l x → FitsAll w q m x
+  Sound s = (l m : List Pattern) (x : List OwnItem) → T (s l m) → FitsAll w q l x → FitsAll w q m x
 
-  pub single : (p : Pattern) (x : List Item) → Fits w q p x → FitsAll w q (p ∷ []) x
+  pub single : (p : Pattern) (x : List OwnItem) → Fits w q p x → FitsAll w q (p ∷ []) x
   single p x h = record { before = x; behind = []; first = h; last = refl; is = sym (append-nil x) }
 
-  pub alone : (p : Pattern) (x : List Item) → FitsAll w q (p ∷ []) x → Fits w q p x
-  alone p x h = subst (Fits w q p) (sym (h .is ∙ ap (λ (z : List Item). h .before ++ z) (h .last) ∙ append-nil (h .before))) (h .first)
+  pub alone : (p : Pattern) (x : List OwnItem) → FitsAll w q (p ∷ []) x → Fits w q p x
+  alone p x h = subst (Fits w q p) (sym (h .is ∙ ap (λ (z : List OwnItem). h .before ++ z) (h .last) ∙ append-nil (h .before))) (h .first)
 
   -- a row of patterns cut further on the left, and put together there
-  regroup : (a b : List Item) (y z x : List Item) → x ≡ y ++ z → y ≡ a ++ b → x ≡ a ++ (b ++ z)
-  regroup a b y z x d f = d ∙ ap (λ (v : List Item). v ++ z) f ∙ append-assoc a b z
+  regroup : (a b : List OwnItem) (y z x : List OwnItem) → x ≡ y ++ z → y ≡ a ++ b → x ≡ a ++ (b ++ z)
+  regroup a b y z x d f = d ∙ ap (λ (v : List OwnItem). v ++ z) f ∙ append-assoc a b z
 
   null-fits : (p : Pattern) → T (nullable p) → Fits w q p []
   null-fits nothing h = none
@@ -133,7 +133,7 @@ module _ (w : List ℕ) (q : ℕ) where
   nulls-fit (p ∷ m) h =
       record { before = []; behind = []; first = null-fits p (and-left (nullable p) (nullables m) h); last = nulls-fit m (and-right (nullable p) (nullables m) h); is = refl }
 
-  one-in : (t : ℕ) (K : List ℕ) (p : Pattern) (x : List Item) → T (oneIn t K p) → Fits w q p x → Fits w q (one t K) x
+  one-in : (t : ℕ) (K : List ℕ) (p : Pattern) (x : List OwnItem) → T (oneIn t K p) → Fits w q p x → Fits w q (one t K) x
   one-in t K nothing x h f = absurd h
   one-in t K (one t′ K′) x h (this {x = i} c m) =
       this (subst (λ (z : ℕ). IsOf q z i) (eqb→eq t′ t (and-left (eqb t′ t) (subset K′ K) h)) c) (subset-at K′ K (and-right (eqb t′ t) (subset K′ K) h) (codeOf w i) m)
@@ -142,11 +142,11 @@ module _ (w : List ℕ) (q : ℕ) where
   one-in t K (either a b) x h f = absurd h
   one-in t K (many a) x h f = absurd h
 
-  operand-one : (S : List ℕ) (t : ℕ) (i : Item) → t ≡ 2 → IsOf q t i → T (isIn (codeOf w i) S) → Fits w q (operand S) (i ∷ [])
+  operand-one : (S : List ℕ) (t : ℕ) (i : OwnItem) → t ≡ 2 → IsOf q t i → T (isIn (codeOf w i) S) → Fits w q (operand S) (i ∷ [])
   operand-one S t (at j) d c m = absurd (subst (λ (z : ℕ). IsOf q z (at j)) d c)
   operand-one S t (row s) d c m = bare m
 
-  operand-in : (S : List ℕ) (p : Pattern) (x : List Item) → T (operandIn S p) → Fits w q p x → Fits w q (operand S) x
+  operand-in : (S : List ℕ) (p : Pattern) (x : List OwnItem) → T (operandIn S p) → Fits w q p x → Fits w q (operand S) x
   operand-in S nothing x h f = absurd h
   operand-in S (one t K) x h (this {x = i} c m) =
       operand-one S t i (eqb→eq t 2 (and-left (eqb t 2) (subset K S) h)) c (subset-at K S (and-right (eqb t 2) (subset K S) h) (codeOf w i) m)
@@ -156,15 +156,15 @@ module _ (w : List ℕ) (q : ℕ) where
   operand-in S (either a b) x h f = absurd h
   operand-in S (many a) x h f = absurd h
 
-  many-each : (a b : Pattern) → ((x : List Item) → Fits w q b x → Fits w q a x) → (x : List Item) → Fits w q (many b) x → Fits w q (many a) x
+  many-each : (a b : Pattern) → ((x : List OwnItem) → Fits w q b x → Fits w q a x) → (x : List OwnItem) → Fits w q (many b) x → Fits w q (many a) x
   many-each a b h x no-more = no-more
   many-each a b h x (more {y = y} f g d) = more (h _ f) (many-each a b h y g) d
 
   module _ (s : Test) (sound : Sound s) where
-    one-sound : (p r : Pattern) (x : List Item) → T (s (p ∷ []) (r ∷ [])) → Fits w q p x → Fits w q r x
+    one-sound : (p r : Pattern) (x : List OwnItem) → T (s (p ∷ []) (r ∷ [])) → Fits w q p x → Fits w q r x
     one-sound p r x h f = alone r x (sound (p ∷ []) (r ∷ []) x h (single p x f))
 
-    many-in : (a p : Pattern) (x : List Item) → T (manyIn s a p) → Fits w q p x → Fits w q (many a) x
+    many-in : (a p : Pattern) (x : List OwnItem) → T (manyIn s a p) → Fits w q p x → Fits w q (many a) x
     many-in a nothing x h f = absurd h
     many-in a (one t K) x h f = absurd h
     many-in a (operand S) x h f = absurd h
@@ -173,42 +173,42 @@ module _ (w : List ℕ) (q : ℕ) where
     many-in a (many b) x h f = many-each a b (λ y g. one-sound b a y h g) x f
 
     -- the first pattern is within that one, and the rest within the rest
-    heads : (p r : Pattern) (l m : List Pattern) (x : List Item) → ((y : List Item) → Fits w q p y → Fits w q r y) → T (s l m) → FitsAll w q (p ∷ l) x → FitsAll w q (r ∷ m) x
+    heads : (p r : Pattern) (l m : List Pattern) (x : List OwnItem) → ((y : List OwnItem) → Fits w q p y → Fits w q r y) → T (s l m) → FitsAll w q (p ∷ l) x → FitsAll w q (r ∷ m) x
     heads p r l m x h t f = record { before = f .before; behind = f .behind; first = h (f .before) (f .first); last = sound l m (f .behind) t (f .last); is = f .is }
 
-    paren-left : (x : List Item) → Fits w q (e left-paren) x → (i : ℕ) × ((getD w i 0 ≡ numberOf left-paren) × (x ≡ at i ∷ []))
+    paren-left : (x : List OwnItem) → Fits w q (symbol left-paren) x → (i : ℕ) × ((getD w i 0 ≡ numberOf left-paren) × (x ≡ at i ∷ []))
     paren-left x (this {x = at i} c m) = (i, (⊎-elim (eqb→eq (getD w i 0) _) (λ z. absurd z) (or-cases (eqb (getD w i 0) _) false m), refl))
     paren-left x (this {x = row t} c m) = absurd c
 
-    paren-right : (x : List Item) → Fits w q (e right-paren) x → (i : ℕ) × ((getD w i 0 ≡ numberOf right-paren) × (x ≡ at i ∷ []))
+    paren-right : (x : List OwnItem) → Fits w q (symbol right-paren) x → (i : ℕ) × ((getD w i 0 ≡ numberOf right-paren) × (x ≡ at i ∷ []))
     paren-right x (this {x = at i} c m) = (i, (⊎-elim (eqb→eq (getD w i 0) _) (λ z. absurd z) (or-cases (eqb (getD w i 0) _) false m), refl))
     paren-right x (this {x = row t} c m) = absurd c
 
-    parens-in : (S : List ℕ) (p : Pattern) (l m : List Pattern) (x : List Item) → T (parens s p l m) → FitsAll w q (p ∷ l) x → FitsAll w q (operand S ∷ m) x
+    parens-in : (S : List ℕ) (p : Pattern) (l m : List Pattern) (x : List OwnItem) → T (parens s p l m) → FitsAll w q (p ∷ l) x → FitsAll w q (operand S ∷ m) x
     parens-in S p [] m x h f = absurd h
     parens-in S p (b ∷ []) m x h f = absurd h
     parens-in S p (b ∷ c ∷ l) m x h f =
-        let A = s (p ∷ []) (e left-paren ∷ []) in
+        let A = s (p ∷ []) (symbol left-paren ∷ []) in
         let B = s (b ∷ []) (anExpression ∷ []) in
-        let C = s (c ∷ []) (e right-paren ∷ []) in
+        let C = s (c ∷ []) (symbol right-paren ∷ []) in
         let D = s l m in
         let h₁ = and-right A (B && (C && D)) h in
         let h₂ = and-right B (C && D) h₁ in
         let g = f .last in
         let k = g .last in
-        let i = paren-left (f .before) (one-sound p (e left-paren) (f .before) (and-left A (B && (C && D)) h) (f .first)) in
-        let j = paren-right (k .before) (one-sound c (e right-paren) (k .before) (and-left C D h₂) (k .first)) in
-        let mid : List Item = at (i .0) ∷ (g .before ++ (at (j .0) ∷ [])) in
+        let i = paren-left (f .before) (one-sound p (symbol left-paren) (f .before) (and-left A (B && (C && D)) h) (f .first)) in
+        let j = paren-right (k .before) (one-sound c (symbol right-paren) (k .before) (and-left C D h₂) (k .first)) in
+        let mid : List OwnItem = at (i .0) ∷ (g .before ++ (at (j .0) ∷ [])) in
         record {
           before = mid;
           behind = k .behind;
           first = inside (i .0) (j .0) (i .1 .0) (one-sound b anExpression (g .before) (and-left B (C && D) h₁) (g .first)) (j .1 .0) refl;
           last = sound l m (k .behind) (and-right C D h₂) (k .last);
-          is = f .is ∙ ap₂ (λ (u v : List Item). u ++ v) (i .1 .1) (g .is ∙ ap (λ (v : List Item). g .before ++ v) (k .is ∙ ap (λ (v : List Item). v ++ k .behind) (j .1 .1)))
-              ∙ ap (λ (v : List Item). at (i .0) ∷ v) (sym (append-assoc (g .before) (at (j .0) ∷ []) (k .behind)));
+          is = f .is ∙ ap₂ (λ (u v : List OwnItem). u ++ v) (i .1 .1) (g .is ∙ ap (λ (v : List OwnItem). g .before ++ v) (k .is ∙ ap (λ (v : List OwnItem). v ++ k .behind) (j .1 .1)))
+              ∙ ap (λ (v : List OwnItem). at (i .0) ∷ v) (sym (append-assoc (g .before) (at (j .0) ∷ []) (k .behind)));
         }
 
-    rightly-sound : (p : Pattern) (l m : List Pattern) (x : List Item) → T (rightly s p l m) → FitsAll w q (p ∷ l) x → FitsAll w q m x
+    rightly-sound : (p : Pattern) (l m : List Pattern) (x : List OwnItem) → T (rightly s p l m) → FitsAll w q (p ∷ l) x → FitsAll w q m x
     rightly-sound p l [] x h f = absurd h
     rightly-sound p l (nothing ∷ m) x h f = record { before = []; behind = x; first = none; last = sound (p ∷ l) m x h f; is = refl }
     rightly-sound p l (one t K ∷ m) x h f = heads p (one t K) l m x (λ y g. one-in t K p y (and-left (oneIn t K p) (s l m) h) g) (and-right (oneIn t K p) (s l m) h) f
@@ -224,7 +224,7 @@ module _ (w : List ℕ) (q : ℕ) where
           behind = k .behind;
           first = then (g .first) (k .first) refl;
           last = k .last;
-          is = g .is ∙ ap (λ (v : List Item). g .before ++ v) (k .is) ∙ sym (append-assoc (g .before) (k .before) (k .behind));
+          is = g .is ∙ ap (λ (v : List OwnItem). g .before ++ v) (k .is) ∙ sym (append-assoc (g .before) (k .before) (k .behind));
         }
     rightly-sound p l (either a b ∷ m) x h f =
         ⊎-elim (λ z. let g = sound (p ∷ l) (a ∷ m) x z f in record { before = g .before; behind = g .behind; first = left (g .first); last = g .last; is = g .is })
@@ -241,7 +241,7 @@ module _ (w : List ℕ) (q : ℕ) where
           behind = k .behind;
           first = more (g .first) (k .first) refl;
           last = k .last;
-          is = g .is ∙ ap (λ (v : List Item). g .before ++ v) (k .is) ∙ sym (append-assoc (g .before) (k .before) (k .behind));
+          is = g .is ∙ ap (λ (v : List OwnItem). g .before ++ v) (k .is) ∙ sym (append-assoc (g .before) (k .before) (k .behind));
         })
         (or-cases (s (p ∷ l) m) (s (p ∷ l) (a ∷ many a ∷ m)) u))
         (or-cases (manyIn s a p && s l m) (s (p ∷ l) m || s (p ∷ l) (a ∷ many a ∷ m)) h)
@@ -250,18 +250,18 @@ module _ (w : List ℕ) (q : ℕ) where
     step-sound [] m x h f = subst (FitsAll w q m) (sym f) (nulls-fit m h)
     step-sound (nothing ∷ l) m x h f = sound l m x h (un (f .before) (f .behind) (f .first) (f .last) (f .is))
       where
-        un : (y z : List Item) → Fits w q nothing y → FitsAll w q l z → x ≡ y ++ z → FitsAll w q l x
+        un : (y z : List OwnItem) → Fits w q nothing y → FitsAll w q l z → x ≡ y ++ z → FitsAll w q l x
         un y z none g d = subst (FitsAll w q l) (sym d) g
     step-sound (one t K ∷ l) m x h f = rightly-sound (one t K) l m x h f
     step-sound (operand S ∷ l) m x h f = rightly-sound (operand S) l m x h f
     step-sound (both a b ∷ l) m x h f = sound (a ∷ b ∷ l) m x h (un (f .before) (f .behind) (f .first) (f .last) (f .is))
       where
-        un : (y z : List Item) → Fits w q (both a b) y → FitsAll w q l z → x ≡ y ++ z → FitsAll w q (a ∷ b ∷ l) x
+        un : (y z : List OwnItem) → Fits w q (both a b) y → FitsAll w q l z → x ≡ y ++ z → FitsAll w q (a ∷ b ∷ l) x
         un y z (then {x = u} {y = v} g k d′) r d =
             record { before = u; behind = v ++ z; first = g; last = record { before = v; behind = z; first = k; last = r; is = refl }; is = regroup u v y z x d d′ }
     step-sound (either a b ∷ l) m x h f = un (f .before) (f .behind) (f .first) (f .last) (f .is)
       where
-        un : (y z : List Item) → Fits w q (either a b) y → FitsAll w q l z → x ≡ y ++ z → FitsAll w q m x
+        un : (y z : List OwnItem) → Fits w q (either a b) y → FitsAll w q l z → x ≡ y ++ z → FitsAll w q m x
         un y z (left g) r d = sound (a ∷ l) m x (and-left (s (a ∷ l) m) (s (b ∷ l) m) h) (record { before = y; behind = z; first = g; last = r; is = d })
         un y z (right g) r d = sound (b ∷ l) m x (and-right (s (a ∷ l) m) (s (b ∷ l) m) h) (record { before = y; behind = z; first = g; last = r; is = d })
     step-sound (many a ∷ l) m x h f = rightly-sound (many a) l m x h f
@@ -283,7 +283,7 @@ abbrev pub plains : List Pattern → Bool
 plains [] = true
 plains (p ∷ l) = plain p && plains l
 
-other : (q q′ t : ℕ) (i : Item) → T (not (eqb t 1)) → IsOf q t i → IsOf q′ t i
+other : (q q′ t : ℕ) (i : OwnItem) → T (not (eqb t 1)) → IsOf q t i → IsOf q′ t i
 other q q′ zero (at j) h c = c
 other q q′ zero (row s) h c = c
 other q q′ (suc zero) (at j) h c = absurd h
@@ -291,7 +291,7 @@ other q q′ (suc zero) (row s) h c = absurd h
 other q q′ (suc (suc t)) (at j) h c = c
 other q q′ (suc (suc t)) (row s) h c = c
 
-pub replain : (w : List ℕ) (q q′ : ℕ) (p : Pattern) (x : List Item) → T (plain p) → Fits w q p x → Fits w q′ p x
+pub replain : (w : List ℕ) (q q′ : ℕ) (p : Pattern) (x : List OwnItem) → T (plain p) → Fits w q p x → Fits w q′ p x
 replain w q q′ nothing x h none = none
 replain w q q′ (one t K) x h (this {x = i} c m) = this (other q q′ t i h c) m
 replain w q q′ (operand S) x h (bare m) = bare m
@@ -302,7 +302,7 @@ replain w q q′ (either a b) x h (right f) = right (replain w q q′ b x (and-r
 replain w q q′ (many a) x h no-more = no-more
 replain w q q′ (many a) x h (more f g d) = more (replain w q q′ a _ h f) (replain w q q′ (many a) _ h g) d
 
-pub replains : (w : List ℕ) (q q′ : ℕ) (l : List Pattern) (x : List Item) → T (plains l) → FitsAll w q l x → FitsAll w q′ l x
+pub replains : (w : List ℕ) (q q′ : ℕ) (l : List Pattern) (x : List OwnItem) → T (plains l) → FitsAll w q l x → FitsAll w q′ l x
 replains w q q′ [] x h f = f
 replains w q q′ (p ∷ l) x h f =
     record {
@@ -313,13 +313,13 @@ replains w q q′ (p ∷ l) x h f =
       is = f .is;
     }
 
-pub fits-append : (w : List ℕ) (q : ℕ) (l m : List Pattern) (x y : List Item) → FitsAll w q l x → FitsAll w q m y → FitsAll w q (l ++ m) (x ++ y)
-fits-append w q [] m x y f g = subst (λ (z : List Item). FitsAll w q m (z ++ y)) (sym f) g
+pub fits-append : (w : List ℕ) (q : ℕ) (l m : List Pattern) (x y : List OwnItem) → FitsAll w q l x → FitsAll w q m y → FitsAll w q (l ++ m) (x ++ y)
+fits-append w q [] m x y f g = subst (λ (z : List OwnItem). FitsAll w q m (z ++ y)) (sym f) g
 fits-append w q (p ∷ l) m x y f g =
     record {
       before = f .before;
       behind = f .behind ++ y;
       first = f .first;
       last = fits-append w q l m (f .behind) y (f .last) g;
-      is = ap (λ (z : List Item). z ++ y) (f .is) ∙ append-assoc (f .before) (f .behind) y;
+      is = ap (λ (z : List OwnItem). z ++ y) (f .is) ∙ append-assoc (f .before) (f .behind) y;
     }

@@ -12,7 +12,7 @@ use Rattle.grammars.proofs.Theory.{and-left, and-right}
 use Rattle.grammars.proofs.Check.{below-at}
 use Rattle.forms.specs.code.Rules.{forms, body}
 use Rattle.forms.specs.Tree.{Row}
-use Rattle.forms.specs.code.Frames.{Frame, State, Refusal, name-differs, too-deep, fresh, top, onTop, joined, marked, named, rowed, isNamed, does}
+use Rattle.forms.specs.code.Frames.{Frame, State, Refusal, name-differs, too-deep, fresh, top, onTop, joined, marked, named, rowed, frameIsNamed, does}
 
 abbrev pub Positive : List Row → Type 0
 Positive [] = Unit {0}
@@ -69,7 +69,7 @@ module _ (alike : ℕ → ℕ → Bool) (k : ℕ) (s t : State) where
   kept (suc zero) e q h = to (record { frames = joined (s .frames); depth = s .depth }) (cc) (all-joined (s .frames) h)
   kept (suc (suc zero)) e q h = to (record { frames = onTop (marked (k - 1)) (s .frames); depth = s .depth }) (cc) (all-top (marked (k - 1)) (s .frames) (λ f x. x) h)
   kept (suc (suc (suc zero))) e q h = to (record { frames = onTop (named k) (s .frames); depth = s .depth }) (cc) (all-top (named k) (s .frames) (λ f x. x) h)
-  kept (suc (suc (suc (suc zero)))) e q h = to s (picked (isNamed alike (top (s .frames) .name) (k - 1)) s name-differs t e) h
+  kept (suc (suc (suc (suc zero)))) e q h = to s (picked (frameIsNamed alike (top (s .frames) .name) (k - 1)) s name-differs t e) h
   kept (suc (suc (suc (suc (suc zero))))) e q h = to (record { frames = s .frames; depth = s .depth + 1 }) (picked (ltb (s .depth) 32) (record { frames = s .frames; depth = s .depth + 1 }) too-deep t e) h
   kept (suc (suc (suc (suc (suc (suc zero)))))) e q h = to (record { frames = s .frames; depth = s .depth - 1 }) (cc) h
   kept (suc (suc (suc (suc (suc (suc (suc zero))))))) e q h = absurd q

@@ -18,7 +18,7 @@ use Rattle.forms.specs.code.Kinds.{numberOf, identifier, word-constant, 
 use Rattle.forms.specs.code.Names.{constant, subtype, subtype-range, range, expression, mark, nameNumber, nameNumbers}
 use Rattle.forms.specs.code.Rules.{forms, body, ruleOf}
 use Rattle.forms.specs.Tree.{Row}
-use Rattle.forms.specs.code.Frames.{Frame, State, Refusal, name-differs, too-deep, fresh, top, onTop, joined, marked, named, rowed, isNamed, does, start, rowsOf}
+use Rattle.forms.specs.code.Frames.{Frame, State, Refusal, name-differs, too-deep, fresh, top, onTop, joined, marked, named, rowed, frameIsNamed, does, start, stateRows}
 use Rattle.forms.specs.code.ItemReading.{ItemReading, itemRow, markRow, BeginWithMark}
 use Rattle.forms.proofs.Positive.{picked}
 use Rattle.forms.proofs.Tests as tests
@@ -138,7 +138,7 @@ module _ (alike : ℕ → ℕ → Bool) where
       let z : _≡_ {A = State} (record { frames = onTop (named k) (s .frames); depth = s .depth }) t = cc in
       subst (λ (x : State). Keeps (suc i) (x .frames)) z (keeps-top i (named k) (s .frames) h)
   keeps-act i (suc (suc zero)) k s t e h =
-      subst (λ (x : State). Keeps (suc i) (x .frames)) (picked (isNamed alike (top (s .frames) .name) (k - 1)) s name-differs t e) h
+      subst (λ (x : State). Keeps (suc i) (x .frames)) (picked (frameIsNamed alike (top (s .frames) .name) (k - 1)) s name-differs t e) h
   keeps-act i (suc (suc (suc zero))) k s t e h =
       subst (λ (x : State). Keeps (suc i) (x .frames)) (picked (ltb (s .depth) 32) (record { frames = s .frames; depth = s .depth + 1 }) too-deep t e) h
   keeps-act i (suc (suc (suc (suc zero)))) k s t e h =
@@ -149,7 +149,7 @@ module _ (alike : ℕ → ℕ → Bool) where
       subst (λ (x : State). Keeps (suc i) (x .frames)) z (keeps-top i (rowed f k) (s .frames) h)
 
   abbrev Marked : ℕ → ℕ → State → Type 0
-  Marked f n s = (m : List Row) × (rowsOf s ≡ itemRow f n m ∷ (markRow ∷ m))
+  Marked f n s = (m : List Row) × (stateRows s ≡ itemRow f n m ∷ (markRow ∷ m))
 
   -- the last two actions
   closed : (f k : ℕ) (fs : List Frame) → Keeps 0 fs → (m : List Row) × (top (joined (onTop (rowed f k) fs)) .rows ≡ itemRow f k m ∷ (markRow ∷ m))
@@ -173,7 +173,7 @@ module _ (alike : ℕ → ℕ → Bool) where
       let y : _≡_ {A = State} (record { frames = joined (t .frames); depth = t .depth }) s′ = cc in
       let c = closed f k (s .frames) h in
       let n : k ≡ k + 0 = omega arith in
-      (c .0, ap rowsOf (flip y) ∙ ap (λ (x : State). top (joined (x .frames)) .rows) (flip z) ∙ c .1 ∙ ap (λ (x : ℕ). itemRow f x (c .0) ∷ (markRow ∷ c .0)) n)
+      (c .0, ap stateRows (flip y) ∙ ap (λ (x : State). top (joined (x .frames)) .rows) (flip z) ∙ c .1 ∙ ap (λ (x : ℕ). itemRow f x (c .0) ∷ (markRow ∷ c .0)) n)
 
   tail-act : (f i a k : ℕ) (s t : State) (α : List Sym) (w : List ℕ) (s′ : State) → does alike a k s ≡ go t → Reads State Refusal forms (does alike) α k t w s′
       → Tail f i (act a ∷ α) → Keeps i (s .frames) → ((j : ℕ) → Tail f j α → Keeps j (t .frames) → Marked f (k + length w) s′) → Marked f (k + length w) s′

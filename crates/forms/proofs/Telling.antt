@@ -11,7 +11,7 @@ use Rattle.grammars.proofs.Theory.{mem, keep}
 use Rattle.grammars.proofs.Check.{below-at, every}
 use Rattle.forms.specs.code.Names.{package-word, entity-word, architecture-word, closing, after-name, labelled-concurrent, block, process, after-first, labelled, loop, label}
 use Rattle.forms.specs.code.Rules.{forms, body}
-use Rattle.forms.specs.Spellings.{among}
+use Rattle.forms.specs.Spellings.{spelledAmong}
 use Rattle.forms.specs.Closing.{isIdentifier, isEnd, behindUnit, opensOne, behindEnd}
 use Rattle.forms.proofs.Walking.{Closed, nothing, named, Walk, innermost, labelOf, walked, closedBy}
 use Rattle.forms.proofs.Hints as hints
@@ -175,13 +175,13 @@ through kept owns = owns
 abbrev pub stays : ℕ → Known → Known
 stays a unknown = unknown
 stays a unnamed = unnamed
-stays a just = cond (among a (":" ∷ [])) labels unknown
+stays a just = cond (spelledAmong a (":" ∷ [])) labels unknown
 stays a labels = unknown
 stays a pushed = unknown
 stays a owns = owns
 
 abbrev pub noColon : List ℕ → Bool
-noColon S = every (λ p. isFalse (among p (":" ∷ []))) S
+noColon S = every (λ p. isFalse (spelledAmong p (":" ∷ []))) S
 
 -- after a word that opens, one of S before it
 abbrev pub opened : List ℕ → Known → Known

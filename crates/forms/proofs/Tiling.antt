@@ -16,10 +16,10 @@ use Rattle.grammars.proofs.Check.{below-at, imp, imp-at}
 use Rattle.grammars.proofs.Room.{pickT, pickB, nested, nest-down}
 use Rattle.forms.specs.code.Names.{file, units, unit, package-unit, entity-unit, architecture-unit, nameNumbers, firstRow}
 use Rattle.forms.specs.code.Rules.{forms, body}
-use Rattle.forms.specs.Tree.{Row}
-use Rattle.forms.specs.code.Frames.{Frame, State, Refusal, name-differs, too-deep, fresh, top, onTop, joined, marked, named, rowOf, rowed, does, isNamed, rowsOf, Reading}
-use Rattle.forms.specs.Forest.{Forest, bare, Tiled, none}
-use Rattle.forms.specs.Forest as forest
+use Rattle.forms.specs.Tree.{Row, Forest, bare}
+use Rattle.forms.specs.code.Frames.{Frame, State, Refusal, name-differs, too-deep, fresh, top, onTop, joined, marked, named, frameRow, rowed, does, frameIsNamed, stateRows, Reading}
+use Rattle.forms.specs.Files.{Tiled, none}
+use Rattle.forms.specs.Files as files
 use Rattle.forms.proofs.Tests as tests
 use Rattle.forms.proofs.Nesting.{top-size, joined-less, one-frame, Nested, nested-eat, nested-act, nested-grow, nested-start}
 use Rattle.forms.proofs.Growing.{Standing, kept, standing-eat, forest-le, forest-more}
@@ -126,8 +126,8 @@ record Whole (d : Frame) (k : ℕ) : Type 0 where
 
 tiled-append : {lo mid hi : ℕ} {l m : List Row} → Tiled lo mid l → Tiled mid hi m → Tiled lo hi (l ++ m)
 tiled-append {hi = hi} {m = m} (none e) g = subst (λ (x : ℕ). Tiled x hi m) (sym e) g
-tiled-append {m = m} (forest.Tiled.unit {inside = x} {after = y} a f e g j) h =
-    forest.Tiled.unit a f e (tiled-append g h) (sym (append-assoc x y m) ∙ ap (λ (z : List Row). z ++ m) j)
+tiled-append {m = m} (files.Tiled.unit {inside = x} {after = y} a f e g j) h =
+    files.Tiled.unit a f e (tiled-append g h) (sym (append-assoc x y m) ∙ ap (λ (z : List Row). z ++ m) j)
 
 -- The file's rows are tiled, up to where the unit begins that is being read, if one is.
 abbrev Tiling : Bool → ℕ → List Frame → Type 0
@@ -154,7 +154,7 @@ tiling-closes b k (d ∷ o ∷ []) i e l t h =
     let w = h .1 (t (omega arith)) in
     tiled-append (h .0)
     (subst (λ (x : List Row). Tiled (d .first) k x) (sym (w .is))
-    (forest.Tiled.unit {r = w .r} (w .begins) (w .within) (w .size) (none (w .ends)) (append-nil (w .inside))))
+    (files.Tiled.unit {r = w .r} (w .begins) (w .within) (w .size) (none (w .ends)) (append-nil (w .inside))))
 tiling-closes b k (x ∷ d ∷ o ∷ []) i e l t h = (h .0, λ z. absurd z)
 tiling-closes b k (x ∷ d ∷ o ∷ u ∷ fs) i e l t h = h
 
@@ -175,7 +175,7 @@ tiling-row b n k (d ∷ o ∷ []) i e l s h =
     let z : d .first + (k - d .first) ≡ k = omega arith in (
       h .0,
       λ _. record {
-        r = rowOf n k d;
+        r = frameRow n k d;
         inside = d .rows;
         is = refl;
         begins = refl;
@@ -221,7 +221,7 @@ module _ (alike : ℕ → ℕ → Bool) (k : ℕ) (s t : State) (α : List Sym) 
   step (suc zero) e l h = to (i - 1) false (record { frames = joined (s .frames); depth = s .depth }) (cc) (let m = l refl in omega (arith, joined-less (s .frames) (omega arith))) (h .1) (tiling-closes b k (s .frames) i size (l refl) (h .0) tiling)
   step (suc (suc zero)) e l h = to i b (record { frames = onTop (marked (k - 1)) (s .frames); depth = s .depth }) (cc) (top-size (marked (k - 1)) (s .frames) ∙ size) h (tiling-top b k (marked (k - 1)) (s .frames) (λ f. refl) (λ f. refl) tiling)
   step (suc (suc (suc zero))) e l h = to i b (record { frames = onTop (named k) (s .frames); depth = s .depth }) (cc) (top-size (named k) (s .frames) ∙ size) h (tiling-top b k (named k) (s .frames) (λ f. refl) (λ f. refl) tiling)
-  step (suc (suc (suc (suc zero)))) e l h = still (named-frames s t (isNamed alike (top (s .frames) .name) (k - 1)) e) h
+  step (suc (suc (suc (suc zero)))) e l h = still (named-frames s t (frameIsNamed alike (top (s .frames) .name) (k - 1)) e) h
   step (suc (suc (suc (suc (suc zero))))) e l h = still (deeper-frames s t (ltb (s .depth) 32) e) h
   step (suc (suc (suc (suc (suc (suc zero)))))) e l h = to i b (record { frames = s .frames; depth = s .depth - 1 }) (cc) size h tiling
   step (suc (suc (suc (suc (suc (suc (suc n))))))) e l h =
@@ -259,7 +259,7 @@ tiles alike (grow {n = m} {k = k} {α = α} {s = s} p l q r) n i e b u st ti =
     tiles alike r (nested-grow p l m α s n) i e false (units-grow i b p m α l q u) st (lowered b k (s .frames) ti)
 
 -- the units of a file tile its elements
-pub rows-tiled : (alike : ℕ → ℕ → Bool) (w : List ℕ) (s : State) → Reading alike w s → Tiled 0 (length w) (rowsOf s)
+pub rows-tiled : (alike : ℕ → ℕ → Bool) (w : List ℕ) (s : State) → Reading alike w s → Tiled 0 (length w) (stateRows s)
 rows-tiled alike w s r =
     let z : 0 + length w ≡ length w = omega arith in
     let m = tiles alike r nested-start 0 refl false ((λ _. tt), tt) (bare {lo = 0} {hi = 0} (omega arith), refl) (none refl) in

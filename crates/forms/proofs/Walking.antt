@@ -7,7 +7,7 @@ use mathlib.Core.List.{List, [], _∷_}
 use native.Mathlib.Omega.{arith}
 use lib.ListN.{getD}
 use Rattle.laws.proofs.Laws.{clash}
-use Rattle.forms.specs.code.Frames.{isNamed}
+use Rattle.forms.specs.code.Frames.{frameIsNamed}
 use Rattle.forms.specs.Closing.{Name, no-name, element, isIdentifier, isEnd, isColon, behindUnit, opensOne, behindEnd, beforeLast, isNamedAs}
 use Rattle.forms.specs.Closing as paper
 
@@ -141,7 +141,7 @@ closes-of w k =
     through closedOf (isIdentifier (getD w k 0)) (walkOver unwalked w k .ends) nothing
     ∙ ap (λ (y : paper.Walk). paper.closedBy y (getD w k 0)) (walk-of unwalked w k)
 
-pub named-as : (alike : ℕ → ℕ → Bool) (n k : ℕ) → isNamedAs alike (nameOf n) k ≡ isNamed alike n k
+pub named-as : (alike : ℕ → ℕ → Bool) (n k : ℕ) → isNamedAs alike (nameOf n) k ≡ frameIsNamed alike n k
 named-as alike zero k = refl
 named-as alike (suc n) k = refl
 

@@ -7,7 +7,7 @@ use mathlib.Core.Bool.{Bool, true, false, _&&_, cond}
 use mathlib.Core.List.{List, [], _∷_}
 use lib.Dec.{eqb}
 use lib.ListN.{getD}
-use Rattle.forms.specs.Spellings.{identifier, among}
+use Rattle.forms.specs.Spellings.{identifier, spelledAmong}
 use Rattle.forms.specs.Open.{Role, opening, closing, neither, role}
 
 -- the name or label of what stands open: an element, or none
@@ -49,22 +49,22 @@ abbrev pub isIdentifier : ℕ → Bool
 isIdentifier t = eqb t identifier
 
 abbrev pub isEnd : ℕ → Bool
-isEnd t = among t ("end" ∷ [])
+isEnd t = spelledAmong t ("end" ∷ [])
 
 abbrev pub isColon : ℕ → Bool
-isColon t = among t (":" ∷ [])
+isColon t = spelledAmong t (":" ∷ [])
 
 -- an identifier after a unit's word
 abbrev pub behindUnit : ℕ → ℕ → Bool
-behindUnit p t = isIdentifier t && among p unitWords
+behindUnit p t = isIdentifier t && spelledAmong p unitWords
 
 -- the word of a block, process, loop or if that opens
 abbrev pub opensOne : ℕ → ℕ → Bool
-opensOne p t = isOpening (cond (among t ("(" ∷ [])) neither (role p t))
+opensOne p t = isOpening (cond (spelledAmong t ("(" ∷ [])) neither (role p t))
 
 -- a word right after end, of what may be closed by name
 abbrev pub behindEnd : ℕ → ℕ → Bool
-behindEnd p t = isEnd p && among t closedWords
+behindEnd p t = isEnd p && spelledAmong t closedWords
 
 -- The three steps. A unit opens, with its name, which is element k.
 abbrev pub opensNamed : ℕ → List Name → List Name

@@ -3,7 +3,7 @@
 use Prim.Native.Nat.{_<_}
 use mathlib.Core.Path.{_≡_}
 use mathlib.Core.List.{List, [], _∷_}
-use Rattle.form_numbers.specs.Forms.{label}
+use Rattle.form_numbers.specs.Statements as form
 use Rattle.forms.specs.Tree.{Row}
 
 -- The label r leads the statement s whose row stands right before its own: s has rows inside it, of which the one right after it is the
@@ -14,9 +14,9 @@ Leads r s = (1 < s .rows) × (r .first ≡ s .first)
 -- each label among the rows after s leads the row right before it
 abbrev pub EachLeads : Row → List Row → Type 0
 EachLeads s [] = Unit {0}
-EachLeads s (r ∷ l) = (r .form ≡ label → Leads r s) × EachLeads r l
+EachLeads s (r ∷ l) = (r .form ≡ form.label → Leads r s) × EachLeads r l
 
 -- of all the rows: the first is no label
 abbrev pub LabelsLead : List Row → Type 0
 LabelsLead [] = Unit {0}
-LabelsLead (r ∷ l) = (r .form ≡ label → ⊥) × EachLeads r l
+LabelsLead (r ∷ l) = (r .form ≡ form.label → ⊥) × EachLeads r l

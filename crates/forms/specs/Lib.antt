@@ -2,10 +2,10 @@ pub mod Spellings
 pub mod code
 pub mod Tree
 pub mod Words
-pub mod Forest
 pub mod Open
 pub mod Operators
 pub mod Closing
 pub mod Lines
+pub mod Files
 pub mod Owners
 pub mod Labels

@@ -4,7 +4,7 @@
 use Prim.Native.Nat.{ℕ, zero, suc, _+_, _-_}
 use mathlib.Core.Bool.{cond}
 use mathlib.Core.List.{List, [], _∷_}
-use Rattle.forms.specs.Spellings.{among}
+use Rattle.forms.specs.Spellings.{spelledAmong}
 
 pub data Role : Type 0 where
   opening : Role
@@ -15,12 +15,12 @@ pub data Role : Type 0 where
 -- a range or a condition it belongs to its for or while.
 abbrev pub role : ℕ → ℕ → Role
 role p t =
-    cond (among t ("(" ∷ "for" ∷ "while" ∷ [])) opening
-    (cond (among t (")" ∷ [])) closing
-    (cond (among t ("if" ∷ "process" ∷ "block" ∷ [])) (cond (among p ("end" ∷ [])) closing opening)
-    (cond (among t ("loop" ∷ []))
-    (cond (among p ("end" ∷ [])) closing
-    (cond (among p ("begin" ∷ "then" ∷ "else" ∷ "loop" ∷ ";" ∷ ":" ∷ [])) opening neither))
+    cond (spelledAmong t ("(" ∷ "for" ∷ "while" ∷ [])) opening
+    (cond (spelledAmong t (")" ∷ [])) closing
+    (cond (spelledAmong t ("if" ∷ "process" ∷ "block" ∷ [])) (cond (spelledAmong p ("end" ∷ [])) closing opening)
+    (cond (spelledAmong t ("loop" ∷ []))
+    (cond (spelledAmong p ("end" ∷ [])) closing
+    (cond (spelledAmong p ("begin" ∷ "then" ∷ "else" ∷ "loop" ∷ ";" ∷ ":" ∷ [])) opening neither))
     neither)))
 
 abbrev pub after : Role → ℕ → ℕ

@@ -1,6 +1,6 @@
 -- The operator element of a row (01, "Forms of the strict reading"). Assumes nothing: these are definitions, and proofs/OwnOperators.antt has
 -- the proof.
-use Prim.Native.Nat.{ℕ}
+use Prim.Native.Nat.{ℕ, suc}
 use Prim.Native.String.{String}
 use mathlib.Core.Path.{_≡_}
 use mathlib.Core.Bool.{true, cond}
@@ -9,8 +9,8 @@ use lib.Dec.{eqb}
 use lib.ListN.{getD}
 use Rattle.form_numbers.specs.Forms as form
 use Rattle.forms.specs.Tree.{Row}
-use Rattle.forms.specs.Spellings.{among}
-use Rattle.forms.specs.Lines.{at, ownItems, IsAmong, childrenIn}
+use Rattle.forms.specs.Spellings.{spelledAmong}
+use Rattle.forms.specs.Lines.{OwnItem, at, row, ownItems, IsAmong}
 
 -- form 28: sign, abs or not
 abbrev pub unaryOperators : List String
@@ -23,11 +23,17 @@ binaryOperators =
     ∷ "=" ∷ "/=" ∷ "<" ∷ "<=" ∷ ">" ∷ ">="
     ∷ "+" ∷ "-" ∷ "&" ∷ "*" ∷ "/" ∷ "mod" ∷ "rem" ∷ "**" ∷ []
 
+-- how many of the items are children
+abbrev pub childrenIn : List OwnItem → ℕ
+childrenIn [] = 0
+childrenIn (at i ∷ x) = childrenIn x
+childrenIn (row s ∷ x) = suc (childrenIn x)
+
 -- The operator column of a row of form 28 or 29, l being the rows after it: one of the row's own leaves, spanned by no child, and of one of
 -- these kinds; and the row has so many children, which are what the operator works on.
 abbrev pub HasOperator : List ℕ → List String → ℕ → Row → List Row → Type 0
 HasOperator w kinds operands r l =
-    IsAmong (at (r .operator)) (ownItems w r l) × (among (getD w (r .operator) 0) kinds ≡ true) × (childrenIn (ownItems w r l) ≡ operands)
+    IsAmong (at (r .operator)) (ownItems w r l) × (spelledAmong (getD w (r .operator) 0) kinds ≡ true) × (childrenIn (ownItems w r l) ≡ operands)
 
 -- the operands of a binary operator: left and right
 abbrev pub bothSides : ℕ
@@ -45,8 +51,3 @@ OperatorRight w r l =
 abbrev pub OperatorsRight : List ℕ → List Row → Type 0
 OperatorsRight w [] = Unit {0}
 OperatorsRight w (r ∷ l) = OperatorRight w r l × OperatorsRight w l
-
--- of every row
-abbrev pub EachRow : (Row → Type 0) → List Row → Type 0
-EachRow P [] = Unit {0}
-EachRow P (r ∷ rows) = P r × EachRow P rows

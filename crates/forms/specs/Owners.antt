@@ -7,8 +7,7 @@ use mathlib.Core.Bool.{Bool, false, _&&_, cond}
 use mathlib.Core.List.{List, [], _∷_, _++_}
 use lib.Dec.{T, leb, ltb}
 use lib.ListN.{length}
-use Rattle.forms.specs.Tree.{Row}
-use Rattle.forms.specs.Operators.{EachRow}
+use Rattle.forms.specs.Tree.{Row, EachRow}
 use Rattle.forms.specs.Lines.{at, ownItems, IsAmong}
 
 -- the row spans element i

@@ -25,9 +25,6 @@ string = 5
 abbrev pub literals : List ℕ
 literals = integer ∷ real ∷ character ∷ string ∷ []
 
-abbrev pub firstSpelled : ℕ
-firstSpelled = 6
-
 -- the words and the delimiters of 01's table of forms
 abbrev pub spellings : List String
 spellings =
@@ -37,20 +34,20 @@ spellings =
     "&" ∷ "'" ∷ "(" ∷ ")" ∷ "*" ∷ "+" ∷ "," ∷ "-" ∷ "/" ∷ ":" ∷ ";" ∷ "<" ∷ "=" ∷ ">" ∷ []
 
 -- two spellings are the same
-abbrev pub alike : String → String → Bool
-alike empty empty = true
-alike empty (_then_ d t) = false
-alike (_then_ c s) empty = false
-alike (_then_ c s) (_then_ d t) = eqb (code c) (code d) && alike s t
+abbrev pub sameSpelling : String → String → Bool
+sameSpelling empty empty = true
+sameSpelling empty (_then_ d t) = false
+sameSpelling (_then_ c s) empty = false
+sameSpelling (_then_ c s) (_then_ d t) = eqb (code c) (code d) && sameSpelling s t
 
 -- the place of a spelling among these, the first being number n
 abbrev pub placeOf : ℕ → String → List String → ℕ
 placeOf n s [] = n
-placeOf n s (t ∷ l) = cond (alike s t) n (placeOf (suc n) s l)
+placeOf n s (t ∷ l) = cond (sameSpelling s t) n (placeOf (suc n) s l)
 
--- the number of what is spelled so
+-- the number of what is spelled so: the first of these comes after the literals
 abbrev pub spelled : String → ℕ
-spelled s = placeOf firstSpelled s spellings
+spelled s = placeOf (suc string) s spellings
 
 abbrev pub spelledEach : List String → List ℕ
 spelledEach [] = []
@@ -62,5 +59,5 @@ isIn t [] = false
 isIn t (x ∷ l) = eqb t x || isIn t l
 
 -- what is spelled as one of these
-abbrev pub among : ℕ → List String → Bool
-among t l = isIn t (spelledEach l)
+abbrev pub spelledAmong : ℕ → List String → Bool
+spelledAmong t l = isIn t (spelledEach l)

@@ -33,9 +33,9 @@ rowAt words k =
     }
 
 -- the first n rows of a table of words
-unfoldable pub rowsIn : ℕ → List ℕ → List Row
-rowsIn zero words = []
-rowsIn (suc n) words = rowAt words 0 ∷ rowsIn n (drop rowNumbers words)
+unfoldable pub treeRowsIn : ℕ → List ℕ → List Row
+treeRowsIn zero words = []
+treeRowsIn (suc n) words = rowAt words 0 ∷ treeRowsIn n (drop rowNumbers words)
 
 -- the words of rows, one after the other
 abbrev pub wordsOf : List Row → List ℕ

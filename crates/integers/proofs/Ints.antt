@@ -13,7 +13,8 @@ use mir.Val.{SFits, toZ, ofZ}
 use mir.ValLaws.{toZ-ofZ}
 use mir.Facts.{sfits-widen}
 use borrow.Author.Tests.{ltb-true, ltb-false, le-leb, lt-leb, ne-eqb, leb-false, leb-true}
-use Rattle.integers.specs.Integers.{beyond, largest, toSign}
+use Rattle.integers.specs.Integers.{largest, toSign}
+use Rattle.integers.specs.Numbers.{beyond}
 
 -- ---- sizes
 

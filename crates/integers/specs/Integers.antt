@@ -1,11 +1,11 @@
 -- Arithmetic on integers, in ℤ, as 01's section "Pieces, items, states" has it: a whole number, or the state that stops it.
 -- Assumes nothing.
-use Prim.Native.Nat.{ℕ, zero, suc, _+_}
+use Prim.Native.Nat.{ℕ, zero, suc}
 use mathlib.Core.Bool.{cond}
 use lib.Dec.{leb, eqb}
 use lib.IntN.{ℤ, pos, negsuc, natAbs, _+ℤ_, _-ℤ_, _*ℤ_, pow}
 use lib.Signed.{quotZ, remZ}
-use Rattle.states.specs.States.{divisor, exponent, size}
+use Rattle.states.specs.States as state
 use Rattle.integers.specs.declared.Folded.{Folded}
 use Rattle.integers.specs.declared.Folded.the-variants.{Whole, Stopped}
 use Rattle.integers.specs.declared.Arithmetic.{Arithmetic}
@@ -15,17 +15,13 @@ use Rattle.integers.specs.declared.Arithmetic.the-variants.{Add, Subtrac
 abbrev pub largest : ℕ
 largest = 2147483647
 
--- the first number beyond it, the size of no integer; a number of 32 bits is at most this large in size
-abbrev pub beyond : ℕ
-beyond = largest + 1
-
 -- state 9, "a literal or result beyond 2147483647 in size"
 unfoldable pub sizedOf : ℤ → Folded
-sizedOf z = cond (leb (natAbs z) largest) (Whole z) (Stopped size)
+sizedOf z = cond (leb (natAbs z) largest) (Whole z) (Stopped state.size)
 
 -- state 7, "divisor zero"; else the result z
 unfoldable pub dividedOf : ℤ → ℤ → Folded
-dividedOf b z = cond (eqb (natAbs b) 0) (Stopped divisor) (sizedOf z)
+dividedOf b z = cond (eqb (natAbs b) 0) (Stopped state.divisor) (sizedOf z)
 
 -- "`rem` takes the dividend's sign, `mod` the divisor's": a remainder r moved by the divisor b where their signs differ
 unfoldable pub toSign : ℤ → ℤ → ℤ
@@ -38,7 +34,7 @@ toSign (negsuc r) (negsuc b) = negsuc r
 -- state 8, "negative exponent"
 unfoldable pub powerOf : ℤ → ℤ → Folded
 powerOf a (pos n) = sizedOf (pow a n)
-powerOf a (negsuc n) = Stopped exponent
+powerOf a (negsuc n) = Stopped state.exponent
 
 -- the seven operators on integers; "Division truncates to zero"
 abbrev pub arithmeticOf : Arithmetic → ℤ → ℤ → Folded

@@ -1,12 +1,16 @@
 -- 01's numbers for each case of the enum, "an integer, a truth, or the state that stopped it". Assumes nothing: these are definitions.
-use Prim.Native.Nat.{ℕ, _≤_, _<_}
+use Prim.Native.Nat.{ℕ, _+_, _≤_, _<_}
 use mathlib.Core.Path.{_≡_}
 use mathlib.Core.Bool.{true, false}
 use lib.IntN.{ℤ, pos, natAbs}
-use Rattle.states.specs.States.{size}
+use Rattle.states.specs.States as states
 use Rattle.integers.specs.Integers.{largest, sizedOf}
 use Rattle.integers.specs.declared.Folded.{Folded}
 use Rattle.integers.specs.declared.Folded.the-variants.{Whole, Truth, Stopped}
+
+-- the first number beyond it, the size of no integer; a number of 32 bits is at most this large in size
+abbrev pub beyond : ℕ
+beyond = largest + 1
 
 -- the kinds of a value: "kind, 1 integer or 2 truth"
 abbrev pub integerKind : ℕ
@@ -37,4 +41,4 @@ abbrev pub SizedNumbers : Type 0
 SizedNumbers =
     (z : ℤ)
     → (natAbs z ≤ largest → numbersOf (sizedOf z) ≡ record { state = 0; kind = integerKind; number = z })
-    × (largest < natAbs z → numbersOf (sizedOf z) ≡ record { state = size; kind = 0; number = pos 0 })
+    × (largest < natAbs z → numbersOf (sizedOf z) ≡ record { state = states.size; kind = 0; number = pos 0 })

@@ -3,7 +3,8 @@ ghost use mathlib.Core.Path.{_≡_};
 ghost use Prim.Native.Nat.{_≤_};
 ghost use lib.IntN.{pos, natAbs, negℤ, _+ℤ_, _-ℤ_, _*ℤ_, pow};
 ghost use lib.Signed.{quotZ, remZ};
-ghost use Rattle.integers.specs.Integers.{beyond, sizedOf, dividedOf, toSign, powerOf, arithmeticOf};
+ghost use Rattle.integers.specs.Integers.{sizedOf, dividedOf, toSign, powerOf, arithmeticOf};
+ghost use Rattle.integers.specs.Numbers.{beyond};
 
 // How large an integer is at most, in size.
 pub const LARGEST: i64 = 2147483647;

@@ -8,7 +8,7 @@ use lib.ListN.{length, getD, take, drop}
 use Rattle.words.specs.Words.{bytesOf}
 use Rattle.places.specs.Places.{firstColumn, sizeColumn, cellAt, within}
 use Rattle.pieces.specs.Records.{recordWords}
-use Rattle.pieces.specs.Classes.{constant, subtype}
+use Rattle.pieces.specs.Classes as classes
 use Rattle.pieces.specs.Columns as column
 use Rattle.records.specs.Records.{wordAt, isItem}
 use Rattle.integers.specs.Numbers.{truthKind}
@@ -24,8 +24,8 @@ spelledOf text elements e =
 -- "The word after the number is `constant` or `subtype`, or `piece` with `-` for the name of an item that claims none."
 unfoldable pub claimText : List ℕ → List ℕ → ℕ → ℕ → List ℕ
 claimText text elements class name =
-    cond (eqb class constant) (bytesOf " constant " ++ spelledOf text elements name)
-    (cond (eqb class subtype) (bytesOf " subtype " ++ spelledOf text elements name) (bytesOf " piece -"))
+    cond (eqb class classes.constant) (bytesOf " constant " ++ spelledOf text elements name)
+    (cond (eqb class classes.subtype) (bytesOf " subtype " ++ spelledOf text elements name) (bytesOf " piece -"))
 
 -- "states by their word": those of the states 0 to 9; any other is `range`, 10
 unfoldable pub stateWords : List String
@@ -41,7 +41,7 @@ foldedText kind word = cond (eqb kind truthKind) (cond (eqb word 0) (bytesOf "fa
 
 -- "a subtype `value LOW to HIGH`": its high end
 unfoldable pub upperOf : ℕ → ℕ → ℕ → List ℕ
-upperOf class kind high = cond (eqb class subtype) (bytesOf " to " ++ foldedText kind high) []
+upperOf class kind high = cond (eqb class classes.subtype) (bytesOf " to " ++ foldedText kind high) []
 
 -- "`value` and the number, `true` or `false`, or for a subtype `value LOW to HIGH`"
 unfoldable pub valueText : ℕ → ℕ → ℕ → ℕ → List ℕ

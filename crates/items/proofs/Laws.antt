@@ -15,7 +15,7 @@ use Rattle.classes.proofs.Laws.{by-test}
 use Rattle.places.specs.Places.{rowsIn, cellAt, kindsOf}
 use Rattle.places.proofs.Laws.{kinds-length, kind-at}
 use Rattle.records.specs.Records.{wordAt, isItem, isClaim}
-use Rattle.names.specs.Language.{languageOf}
+use Rattle.names.specs.code.Language.{languageOf}
 use Rattle.folding.specs.declared.Outcome.{Outcome}
 use Rattle.expressions.specs.Folds.{nameValue, foldOf}
 use Rattle.marks.specs.code.Marks.{constantOf, subtypeOf, rangedOf}
@@ -25,7 +25,7 @@ use Rattle.pieces.specs.Columns as column
 use Rattle.pieces.specs.Columns.{recordWords}
 use Rattle.states.specs.States as state
 use Rattle.forms.specs.Words.{rowNumbers, rowAt}
-use Rattle.pieces.specs.Classes.{constant}
+use Rattle.pieces.specs.Classes as classes
 use Rattle.items.specs.code.Items.{rowsUntil, rowsHeld, goesDownIn, doubledIn, expressionAt, rangeAt, boundedAt, markIn, formedAt, valueAt, completedAt, completedFrom, completed, afterMark, boundAt}
 use Rattle.values.specs.Words.{stateOf, valueKind, lowOf, highOf, valueWords}
 use Rattle.pieces.specs.Kinds.{anyDown, word-downto}
@@ -173,13 +173,13 @@ module _ (text table items links rows : List ℕ) (i m : ℕ) where
   formed-not h = rw (lt-ltb m afterMark h)
 
   module _ (class : ℕ) (mark r : Value) (h : afterMark ≤ m) (p : class ≡ wordAt items i column.class) (q : mark ≡ markIn text table items links i rows) where
-    pub is-constant : (x : Outcome) → class ≡ constant → x ≡ expressionAt text table items links i rows afterMark m → r ≡ constantOf mark x → r ≡ formedAt text table items links i rows m
+    pub is-constant : (x : Outcome) → class ≡ classes.constant → x ≡ expressionAt text table items links i rows afterMark m → r ≡ constantOf mark x → r ≡ formedAt text table items links i rows m
     unfolding formedAt
-    is-constant x c e z = rw (le-ltb m afterMark h, ← p, eq-eqb class constant c, ← q, ← e) z
+    is-constant x c e z = rw (le-ltb m afterMark h, ← p, eq-eqb class classes.constant c, ← q, ← e) z
 
-    pub is-subtype : (class ≡ constant → ⊥) → r ≡ boundedAt text table items links i rows m mark → r ≡ formedAt text table items links i rows m
+    pub is-subtype : (class ≡ classes.constant → ⊥) → r ≡ boundedAt text table items links i rows m mark → r ≡ formedAt text table items links i rows m
     unfolding formedAt
-    is-subtype c z = rw (le-ltb m afterMark h, ← p, ne-eqb class constant c, ← q) z
+    is-subtype c z = rw (le-ltb m afterMark h, ← p, ne-eqb class classes.constant c, ← q) z
 
 module _ (text table links twins rows items : List ℕ) (i m : ℕ) (e : m ≡ rowsHeld rows items i) where
   pub is-broken : m ≡ 0 → Without state.broken ≡ valueAt text table links twins rows items i

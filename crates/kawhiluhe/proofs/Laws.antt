@@ -20,7 +20,7 @@ use Rattle.refusals.specs.declared.SurveyRefusal.{SurveyRefusal}
 use Rattle.survey_reading.specs.declared.Summary.{Summary}
 use Rattle.survey_reading.specs.declared.Ended.the-variants as O
 use Rattle.survey_reading.specs.declared.Survey.{Survey}
-use Rattle.records.specs.Tallies.{oneIf}
+use Rattle.records.specs.Counting.{oneIf}
 use Rattle.kawhiluhe.specs.Numbers.{elementNumbers, strictNumbers, StrictPermitted, pairNumber, earlierNumber, laterNumber, surveyNumbers, SurveyPermitted}
 use Rattle.kawhiluhe.specs.declared.Judged.{Judged}
 use Rattle.kawhiluhe.specs.declared.Surveyed.{Surveyed}

@@ -11,7 +11,7 @@ use Rattle.strict_reading.specs.declared.Strict.the-variants as S
 use Rattle.strict_reading.specs.Permitted as strict
 use Rattle.survey_reading.specs.Permitted as survey
 use Rattle.verdict.specs.declared.Verdict.the-variants.{Passes, NotSupported}
-use Rattle.records.specs.Tallies.{oneIf}
+use Rattle.records.specs.Counting.{oneIf}
 use Rattle.pairs.specs.declared.Pair.{Pair}
 use Rattle.pairs.specs.declared.Pair.the-variants.{Both, Neither}
 use Rattle.refusals.specs.Refusals.{surveyNumber, surveyPlace}

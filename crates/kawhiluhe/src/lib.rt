@@ -19,7 +19,7 @@ ghost use Rattle.element_reading.specs.Reading.{readingOf, tableOf};
 ghost use Rattle.lookup.specs.Lookup.{foundOf};
 ghost use Rattle.lookup.specs.Structs.{structWords};
 ghost use Rattle.pieces.specs.Records.{recordWords};
-ghost use Rattle.records.specs.Tallies.{oneIf};
+ghost use Rattle.records.specs.Counting.{oneIf};
 ghost use Rattle.puts.specs.Lines.{Part};
 ghost use Rattle.item_lines.specs.Lines.{surveyLine, surveyLines};
 ghost use Rattle.record_lines.specs.Lines.{recordLine, recordLines};

@@ -18,10 +18,10 @@ use Rattle.records.specs.Frames.{nameAgrees, goodIn, frameGood, wholeOf}
 use Rattle.pieces.specs.Frames.{lastFramed, framedFrom, frameOf}
 use Rattle.names.specs.code.Names.{share, sharedPair}
 use Rattle.pairs.specs.code.Pairs.{laterOf, pairFrom}
-use Rattle.meaning.specs.Elements.{piecesOf}
+use Rattle.meaning.specs.Pieces.{piecesOf}
 use Rattle.meaning.specs.code.PieceValues.{recordsOf}
 use Rattle.survey_reading.specs.declared.Survey.{Survey}
-use Rattle.survey_reading.specs.code.Survey.{itemTable, summedOf, summary, byRecording, byReading, surveyOf, left, elementsAfter, itemsAfter}
+use Rattle.survey_reading.specs.code.Survey.{itemTable, summedOf, summary, surveyByRecording, surveyByReading, surveyOf, left, elementsAfterSurvey, itemsAfter}
 use Rattle.survey_reading.proofs.Permits.{permits}
 use Rattle.words.specs.Words.{bytesOf}
 use Rattle.puts.specs.Decimals.{digitsOf, decimalOf, signedText, fieldOf, fieldsOf}
@@ -98,8 +98,8 @@ item-table-is =
 survey-by : surveyOf gas elementRoom itemRoom ≡ summary gas (tableOf gas elementRoom) 38 (itemTable gas itemRoom) 6
 unfolding surveyOf recording
 survey-by =
-    ap (λ (r : Reading). byReading r gas (tableOf gas elementRoom) itemRoom) reading-is
-    ∙ ap (λ (n : ℕ). byRecording (recording n itemRoom) gas (tableOf gas elementRoom) (length (rowsOf gas)) (itemTable gas itemRoom)) pieces-are
+    ap (λ (r : Reading). surveyByReading r gas (tableOf gas elementRoom) itemRoom) reading-is
+    ∙ ap (λ (n : ℕ). surveyByRecording (recording n itemRoom) gas (tableOf gas elementRoom) (length (rowsOf gas)) (itemTable gas itemRoom)) pieces-are
     ∙ ap (λ (k : ℕ). summary gas (tableOf gas elementRoom) k (itemTable gas itemRoom) 6) count-is
 
 survey-is : surveyOf gas elementRoom itemRoom ≡ summary gas gasElements 38 gasTable 6
@@ -108,8 +108,8 @@ survey-is =
     ∙ ap (λ (t : List ℕ). summary gas t 38 (itemTable gas itemRoom) 6) table-is
     ∙ ap (λ (t : List ℕ). summary gas gasElements 38 t 6) item-table-is
 
-elements-left : elementsAfter gas elementRoom itemRoom ≡ gasElements
-unfolding elementsAfter summary summedOf
+elements-left : elementsAfterSurvey gas elementRoom itemRoom ≡ gasElements
+unfolding elementsAfterSurvey summary summedOf
 elements-left = ap (λ (x : Survey). left (x .outcome) elementRoom (tableOf gas elementRoom)) survey-is ∙ table-is
 
 items-left : itemsAfter gas elementRoom itemRoom ≡ gasTable
@@ -132,14 +132,14 @@ pub sample : Sample
 sample = (
   surveyOf gas elementRoom itemRoom,
   (
-    elementsAfter gas elementRoom itemRoom,
+    elementsAfterSurvey gas elementRoom itemRoom,
     (
       itemsAfter gas elementRoom itemRoom,
       (
         permits gas elementRoom itemRoom,
         sym
-            (ap (λ (x : Survey). surveyListing gas (elementsAfter gas elementRoom itemRoom) (itemsAfter gas elementRoom itemRoom) (surveyedWords (surveyNumbers x))) survey-is
-            ∙ ap (λ (a : List ℕ). surveyListing gas (elementsAfter gas elementRoom itemRoom) (itemsAfter gas elementRoom itemRoom) a) answer-is
+            (ap (λ (x : Survey). surveyListing gas (elementsAfterSurvey gas elementRoom itemRoom) (itemsAfter gas elementRoom itemRoom) (surveyedWords (surveyNumbers x))) survey-is
+            ∙ ap (λ (a : List ℕ). surveyListing gas (elementsAfterSurvey gas elementRoom itemRoom) (itemsAfter gas elementRoom itemRoom) a) answer-is
             ∙ ap (λ (t : List ℕ). surveyListing gas t (itemsAfter gas elementRoom itemRoom) gasAnswer) elements-left
             ∙ ap (λ (t : List ℕ). surveyListing gas gasElements t gasAnswer) items-left
             ∙ lines-are),
@@ -156,7 +156,7 @@ pub sample-records : SampleRecords
 sample-records = (
   surveyOf gas elementRoom itemRoom,
   (
-    elementsAfter gas elementRoom itemRoom,
+    elementsAfterSurvey gas elementRoom itemRoom,
     (
       itemsAfter gas elementRoom itemRoom,
       (

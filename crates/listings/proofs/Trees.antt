@@ -18,7 +18,7 @@ use Rattle.verdict.specs.declared.Verdict.the-variants.{Passes}
 use Rattle.refusals.specs.declared.StrictRefusal.the-variants.{NoFile}
 use Rattle.strict_reading.specs.declared.Strict.{Strict}
 use Rattle.strict_reading.specs.declared.Strict.the-variants as strict
-use Rattle.strict_reading.specs.code.Strict.{unreadableFrom, treeTable, fileOf, elementsAs, byReading, strictOf, elementsAfter, treeAs, treeByReading, treeAfter}
+use Rattle.strict_reading.specs.code.Strict.{unreadableFrom, treeTable, fileOf, elementsAs, strictByReading, strictOf, elementsAfterStrict, treeAs, treeByReading, treeAfter}
 use Rattle.strict_reading.proofs.Promises.{is-permitted}
 use Rattle.puts.specs.Decimals.{digitsOf, decimalOf, signedText, fieldOf, fieldsOf}
 use Rattle.puts.specs.Lines.{linesFrom}
@@ -28,7 +28,7 @@ use Rattle.kawhiluhe.specs.Numbers.{strictNumbers}
 use Rattle.kawhiluhe.specs.Words.{judgedWords}
 use Rattle.edges.specs.Incident.{gas}
 use Rattle.edges.proofs.Computing.{computing}
-use Rattle.listings.specs.Samples.{elementRoom, treeRoom, SampleRefused, small, smallTreeLines, SampleTree}
+use Rattle.listings.specs.Samples.{elementRoom, treeRoom, SampleRefused, smallText, smallTreeLines, SampleTree}
 use Rattle.listings.proofs.Samples as gas-is
 use Rattle.listings.proofs.Samples.{gasRows, gasElements}
 
@@ -40,7 +40,7 @@ gas-answer = refl
 gas-strict : strictOf gas elementRoom treeRoom ≡ strict.Refused (NoFile (record { 0 = 15 }))
 unfolding strictOf
 gas-strict =
-    ap (λ (r : Reading). byReading r gas (tableOf gas elementRoom) treeRoom) gas-is.reading-is
+    ap (λ (r : Reading). strictByReading r gas (tableOf gas elementRoom) treeRoom) gas-is.reading-is
     ∙ ap (λ (t : List ℕ). elementsAs gas t 38 treeRoom) gas-is.table-is ∙ gas-answer
 
 refused-line-is : (tree : List ℕ) → treeListing tree (5 ∷ 15 ∷ 0 ∷ 0 ∷ 0 ∷ []) ≡ bytesOf "refused 5 at 15\n"
@@ -52,7 +52,7 @@ unfolding judgedWords
 sample-refused = (
   strictOf gas elementRoom treeRoom,
   (
-    elementsAfter gas elementRoom treeRoom,
+    elementsAfterStrict gas elementRoom treeRoom,
     (
       treeAfter gas elementRoom treeRoom,
       (
@@ -81,44 +81,44 @@ smallTree =
 smallTable : List ℕ
 smallTable = smallTree ++ replicate (treeRoom - rowNumbers * 4) 0
 
-rows-are : cells (rowsOf small) ≡ smallRows
+rows-are : cells (rowsOf smallText) ≡ smallRows
 unfolding computing cells smallRows
 rows-are = refl
 
-count-is : length (rowsOf small) ≡ 12
+count-is : length (rowsOf smallText) ≡ 12
 unfolding computing
 count-is = refl
 
-reading-is : readingOf small elementRoom ≡ Read (record { 0 = 12 })
+reading-is : readingOf smallText elementRoom ≡ Read (record { 0 = 12 })
 unfolding computing readingOf
 reading-is = refl
 
-table-is : tableOf small elementRoom ≡ smallElements
+table-is : tableOf smallText elementRoom ≡ smallElements
 unfolding tableOf smallElements
 table-is =
-    ap (λ (r : Reading). tableBy r small elementRoom) reading-is
-    ∙ ap (λ (l : List ℕ). l ++ replicate (elementRoom - rowWords * length (rowsOf small)) 0) rows-are
+    ap (λ (r : Reading). tableBy r smallText elementRoom) reading-is
+    ∙ ap (λ (l : List ℕ). l ++ replicate (elementRoom - rowWords * length (rowsOf smallText)) 0) rows-are
     ∙ ap (λ (n : ℕ). smallRows ++ replicate (elementRoom - rowWords * n) 0) count-is
 
-tree-is : treeAs small smallElements 12 treeRoom ≡ smallTable
+tree-is : treeAs smallText smallElements 12 treeRoom ≡ smallTable
 unfolding treeAs unreadableFrom treeTable terminalsOf kindsOf smallElements smallRows smallTable smallTree computing agree spelledSame sameName cellAt
 tree-is = refl
 
-tree-left : treeAfter small elementRoom treeRoom ≡ smallTable
+tree-left : treeAfter smallText elementRoom treeRoom ≡ smallTable
 unfolding treeAfter
 tree-left =
-    ap (λ (r : Reading). treeByReading r small (tableOf small elementRoom) treeRoom) reading-is
-    ∙ ap (λ (t : List ℕ). treeAs small t 12 treeRoom) table-is ∙ tree-is
+    ap (λ (r : Reading). treeByReading r smallText (tableOf smallText elementRoom) treeRoom) reading-is
+    ∙ ap (λ (t : List ℕ). treeAs smallText t 12 treeRoom) table-is ∙ tree-is
 
-answer-is : elementsAs small smallElements 12 treeRoom ≡ strict.Read 4 Passes
+answer-is : elementsAs smallText smallElements 12 treeRoom ≡ strict.Read 4 Passes
 unfolding elementsAs unreadableFrom fileOf treeTable terminalsOf kindsOf smallElements smallRows computing agree spelledSame sameName cellAt verdictFrom formsIn verdictOf
 answer-is = refl
 
-strict-is : strictOf small elementRoom treeRoom ≡ strict.Read 4 Passes
+strict-is : strictOf smallText elementRoom treeRoom ≡ strict.Read 4 Passes
 unfolding strictOf
 strict-is =
-    ap (λ (r : Reading). byReading r small (tableOf small elementRoom) treeRoom) reading-is
-    ∙ ap (λ (t : List ℕ). elementsAs small t 12 treeRoom) table-is ∙ answer-is
+    ap (λ (r : Reading). strictByReading r smallText (tableOf smallText elementRoom) treeRoom) reading-is
+    ∙ ap (λ (t : List ℕ). elementsAs smallText t 12 treeRoom) table-is ∙ answer-is
 
 lines-are : treeListing smallTable (0 ∷ 0 ∷ 4 ∷ 1 ∷ 0 ∷ []) ≡ smallTreeLines
 unfolding smallTable smallTree treeListing treeLine treeLines listedLine rowText numbersAt headOf verdictLine failsOf lineBy linesBy linesFrom fieldsOf fieldOf signedText decimalOf digitsOf bytesOf
@@ -127,15 +127,15 @@ lines-are = refl
 pub sample-tree : SampleTree
 unfolding judgedWords
 sample-tree = (
-  strictOf small elementRoom treeRoom,
+  strictOf smallText elementRoom treeRoom,
   (
-    elementsAfter small elementRoom treeRoom,
+    elementsAfterStrict smallText elementRoom treeRoom,
     (
-      treeAfter small elementRoom treeRoom,
+      treeAfter smallText elementRoom treeRoom,
       (
-        is-permitted small elementRoom treeRoom,
+        is-permitted smallText elementRoom treeRoom,
         sym
-            (ap (λ (x : Strict). treeListing (treeAfter small elementRoom treeRoom) (judgedWords (strictNumbers x))) strict-is
+            (ap (λ (x : Strict). treeListing (treeAfter smallText elementRoom treeRoom) (judgedWords (strictNumbers x))) strict-is
             ∙ ap (λ (t : List ℕ). treeListing t (0 ∷ 0 ∷ 4 ∷ 1 ∷ 0 ∷ [])) tree-left ∙ lines-are),
       ),
     ),

@@ -16,20 +16,20 @@ use Rattle.kawhiluhe.specs.Numbers.{elementNumbers, strictNumbers, surveyNumber
 use Rattle.kawhiluhe.specs.Words.{elementWords, judgedWords, surveyedWords}
 
 -- what `survey` prints of a text
-abbrev pub IsListing : List ℕ → ℕ → ℕ → List ℕ → Type 0
-IsListing text elementRoom itemRoom bytes =
+abbrev pub IsItemListing : List ℕ → ℕ → ℕ → List ℕ → Type 0
+IsItemListing text elementRoom itemRoom bytes =
     (x : Survey) × ((elements : List ℕ) × ((items : List ℕ)
     × (survey.Permitted text elementRoom itemRoom x elements items × (bytes ≡ surveyListing text elements items (surveyedWords (surveyNumbers x))))))
 
 -- what `survey --records` prints
-abbrev pub IsRecords : List ℕ → ℕ → ℕ → List ℕ → Type 0
-IsRecords text elementRoom itemRoom bytes =
+abbrev pub IsRecordListing : List ℕ → ℕ → ℕ → List ℕ → Type 0
+IsRecordListing text elementRoom itemRoom bytes =
     (x : Survey) × ((elements : List ℕ) × ((items : List ℕ)
     × (survey.Permitted text elementRoom itemRoom x elements items × (bytes ≡ recordListing items (surveyedWords (surveyNumbers x))))))
 
 -- what `strict` prints
-abbrev pub IsTree : List ℕ → ℕ → ℕ → List ℕ → Type 0
-IsTree text elementRoom treeRoom bytes =
+abbrev pub IsTreeListing : List ℕ → ℕ → ℕ → List ℕ → Type 0
+IsTreeListing text elementRoom treeRoom bytes =
     (x : Strict) × ((elements : List ℕ) × ((tree : List ℕ)
     × (strict.Permitted text elementRoom treeRoom x elements tree × (bytes ≡ treeListing tree (judgedWords (strictNumbers x))))))
 
@@ -44,20 +44,20 @@ OneOf Is = (text : List ℕ) (e i : ℕ) (bytes bytes′ : List ℕ) → Is text
 abbrev pub SomeOf : (List ℕ → ℕ → ℕ → List ℕ → Type 0) → Type 0
 SomeOf Is = (text : List ℕ) (e i : ℕ) → (bytes : List ℕ) × Is text e i bytes
 
-abbrev pub OneListing : Type 0
-OneListing = OneOf IsListing
+abbrev pub OneItemListing : Type 0
+OneItemListing = OneOf IsItemListing
 
-abbrev pub OneRecords : Type 0
-OneRecords = OneOf IsRecords
+abbrev pub OneRecordListing : Type 0
+OneRecordListing = OneOf IsRecordListing
 
-abbrev pub OneTree : Type 0
-OneTree = OneOf IsTree
+abbrev pub OneTreeListing : Type 0
+OneTreeListing = OneOf IsTreeListing
 
-abbrev pub SomeListing : Type 0
-SomeListing = SomeOf IsListing
+abbrev pub SomeItemListing : Type 0
+SomeItemListing = SomeOf IsItemListing
 
-abbrev pub SomeRecords : Type 0
-SomeRecords = SomeOf IsRecords
+abbrev pub SomeRecordListing : Type 0
+SomeRecordListing = SomeOf IsRecordListing
 
-abbrev pub SomeTree : Type 0
-SomeTree = SomeOf IsTree
+abbrev pub SomeTreeListing : Type 0
+SomeTreeListing = SomeOf IsTreeListing

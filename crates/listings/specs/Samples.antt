@@ -8,7 +8,7 @@ use Rattle.places.specs.Places.{rowWords}
 use Rattle.pieces.specs.Records.{recordWords}
 use Rattle.forms.specs.Words.{rowNumbers}
 use Rattle.edges.specs.Incident.{gas}
-use Rattle.listings.specs.Listings.{IsListing, IsRecords, IsTree, elementsListed}
+use Rattle.listings.specs.Listings.{IsItemListing, IsRecordListing, IsTreeListing, elementsListed}
 
 -- the tables that the program lends: a row to each element, and a record to each piece, of any text
 abbrev pub elementRoom : ℕ
@@ -27,7 +27,7 @@ gasListing =
     ++ bytesOf "4 constant idle value 1450\n"
 
 abbrev pub Sample : Type 0
-Sample = IsListing gas elementRoom itemRoom gasListing
+Sample = IsItemListing gas elementRoom itemRoom gasListing
 
 -- the same text's records, its tally and its pair
 abbrev pub gasRecords : List ℕ
@@ -43,7 +43,7 @@ gasRecords =
     ++ bytesOf "pair none\n"
 
 abbrev pub SampleRecords : Type 0
-SampleRecords = IsRecords gas elementRoom itemRoom gasRecords
+SampleRecords = IsRecordListing gas elementRoom itemRoom gasRecords
 
 -- what `strict --elements` prints of it
 abbrev pub gasElementLines : List ℕ
@@ -69,11 +69,11 @@ treeRoom = rowNumbers * mostElements
 
 -- what `strict` prints of the incident's package: its hole refuses it, at the semicolon where an operand should stand
 abbrev pub SampleRefused : Type 0
-SampleRefused = IsTree gas elementRoom treeRoom (bytesOf "refused 5 at 15\n")
+SampleRefused = IsTreeListing gas elementRoom treeRoom (bytesOf "refused 5 at 15\n")
 
 -- and of a package that it reads: the package, its constant, the type mark and the literal
-abbrev pub small : List ℕ
-small = bytesOf "package p is constant c : natural := 1; end;"
+abbrev pub smallText : List ℕ
+smallText = bytesOf "package p is constant c : natural := 1; end;"
 
 abbrev pub smallTreeLines : List ℕ
 smallTreeLines =
@@ -84,4 +84,4 @@ smallTreeLines =
     ++ bytesOf "3 27 8 1 1 8\n"
 
 abbrev pub SampleTree : Type 0
-SampleTree = IsTree small elementRoom treeRoom smallTreeLines
+SampleTree = IsTreeListing smallText elementRoom treeRoom smallTreeLines

@@ -15,9 +15,10 @@ use Rattle.classes.specs.Bytes.{lower}
 use Rattle.classes.specs.Runs.{run}
 use Rattle.classes.specs.declared.Run.the-variants.{Below}
 use Rattle.classes.proofs.Laws.{part-rest, run-le, byte-inside}
-use Rattle.numbers.specs.Numbers.{spelled, leading, exponentHead}
+use Rattle.numbers.specs.Digits.{valueSpelled, leading, exponentHead}
 use Rattle.numbers.proofs.Spelled.{sides}
-use Rattle.integers.specs.Integers.{sizedOf, beyond, largest}
+use Rattle.integers.specs.Integers.{sizedOf, largest}
+use Rattle.integers.specs.Numbers.{beyond}
 use Rattle.integers.specs.declared.Folded.{Folded}
 use Rattle.integers.specs.declared.Folded.the-variants.{Whole, Stopped}
 use Rattle.states.specs.States as state
@@ -29,7 +30,7 @@ pub product-fits : (v base : ℕ) → v ≤ beyond → base ≤ 16 → v * base 
 product-fits v base h k = mul-le-mul h k
 
 -- the digits at the front
-pub leading-is : (base : ℕ) (s : List ℕ) (n r : ℕ) → n ≡ run (Below base) s → r ≡ min beyond (spelled base 0 (take n s)) → r ≡ min beyond (leading base s)
+pub leading-is : (base : ℕ) (s : List ℕ) (n r : ℕ) → n ≡ run (Below base) s → r ≡ min beyond (valueSpelled base 0 (take n s)) → r ≡ min beyond (leading base s)
 unfolding leading
 leading-is base s n r p q = rw (← p) q
 

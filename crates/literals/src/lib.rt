@@ -7,8 +7,9 @@ ghost use Prim.Native.Nat.{_+_, _*_, _^_, _≤_, _<_, min};
 ghost use lib.IntN.{pos};
 ghost use lib.ListN.{drop};
 ghost use Rattle.classes.specs.Bytes.{leastBase, greatestBase};
-ghost use Rattle.numbers.specs.Numbers.{digitIn, spelled, leading};
-ghost use Rattle.integers.specs.Integers.{largest, beyond, sizedOf};
+ghost use Rattle.numbers.specs.Digits.{digitIn, valueSpelled, leading};
+ghost use Rattle.integers.specs.Integers.{largest, sizedOf};
+ghost use Rattle.integers.specs.Numbers.{beyond};
 ghost use Rattle.literals.specs.Literals.{exponentOf, numberIn, literalOf};
 
 // How large a literal is at most, and the first number beyond.
@@ -39,7 +40,7 @@ fn with_digit(base: u8, v: u64, b: u8) -> u64
 // The number that digits and underscores spell, or the first number beyond the largest where it is larger.
 fn capped(base: u8, s: &[u8]) -> u64
     requires { ⌜ (leastBase ≤ base) × (base ≤ greatestBase) ⌝ }
-    ensures { λ r. ⌜ r ≡ min beyond (spelled base 0 (now (s .entry))) ⌝ }
+    ensures { λ r. ⌜ r ≡ min beyond (valueSpelled base 0 (now (s .entry))) ⌝ }
 {
     let mut v: u64 = 0;
     let mut i = 0;

@@ -6,13 +6,13 @@ use Prim.Native.Nat.{ℕ, zero, suc, _+_, _-_, _/_, _≤_, _<_}
 use native.Mathlib.Numerals.{add-one}
 use native.Mathlib.Omega.{arith}
 use lib.ListN.{length}
-use Rattle.same_names.specs.Alike.{byKind}
+use Rattle.same_names.specs.Spelling.{byKind}
 use Rattle.places.specs.Places.{cellAt}
 use Rattle.records.specs.Records.{wordAt, isClaim}
-use Rattle.same_names.specs.Spelling.{spelledAs}
+use Rattle.same_names.specs.Alike.{spelledAs}
 use Rattle.pieces.specs.Columns as column
 use Rattle.pieces.specs.Columns.{recordWords}
-use Rattle.places.specs.Kinds.{identifier, extended}
+use Rattle.places.specs.Kinds.{identifierKind, extendedKind}
 use Rattle.lookup.specs.Lookup.{isNamed, claimsName, foundFrom, foundOf}
 use Rattle.lookup.specs.Finds.{Finds}
 use Rattle.lookup.specs.declared.Found.{Found}
@@ -20,21 +20,21 @@ use Rattle.lookup.specs.declared.Found.the-variants.{At, Nothing}
 use Rattle.lookup.proofs.Promises.{found-exactly}
 
 module _ (text elements : List ℕ) (e k : ℕ) (name : List ℕ) (p : k ≡ cellAt elements e 0) where
-  pub named-basic : (r : Bool) → k ≡ identifier → r ≡ spelledAs true text elements e name → r ≡ isNamed text elements e name
+  pub named-basic : (r : Bool) → k ≡ identifierKind → r ≡ spelledAs true text elements e name → r ≡ isNamed text elements e name
   unfolding isNamed
   named-basic r h z = rw (← p, h) z
 
-  pub named-extended : (r : Bool) → k ≡ extended → r ≡ spelledAs false text elements e name → r ≡ isNamed text elements e name
+  pub named-extended : (r : Bool) → k ≡ extendedKind → r ≡ spelledAs false text elements e name → r ≡ isNamed text elements e name
   unfolding isNamed
   named-extended r h z = rw (← p, h) z
 
-  neither : (k : ℕ) (x y : Bool) → (k ≡ identifier → ⊥) → (k ≡ extended → ⊥) → false ≡ byKind k x y
+  neither : (k : ℕ) (x y : Bool) → (k ≡ identifierKind → ⊥) → (k ≡ extendedKind → ⊥) → false ≡ byKind k x y
   neither zero x y h g = refl
   neither (suc zero) x y h g = absurd (h refl)
   neither (suc (suc zero)) x y h g = absurd (g refl)
   neither (suc (suc (suc k))) x y h g = refl
 
-  pub named-neither : (k ≡ identifier → ⊥) → (k ≡ extended → ⊥) → false ≡ isNamed text elements e name
+  pub named-neither : (k ≡ identifierKind → ⊥) → (k ≡ extendedKind → ⊥) → false ≡ isNamed text elements e name
   unfolding isNamed
   named-neither h g = rw (← p) (neither k (spelledAs true text elements e name) (spelledAs false text elements e name) h g)
 

@@ -11,11 +11,11 @@ use lib.Dec.{ltb}
 use lib.ListN.{length, take, drop, getD}
 use Rattle.laws.proofs.Laws.{clash}
 use Rattle.places.specs.Places.{rowsIn, cellAt, within, rowWords}
-use Rattle.same_names.specs.Alike.{byKind}
-use Rattle.same_names.specs.Spelling.{spelt, spelledAs}
+use Rattle.same_names.specs.Spelling.{spelt, byKind}
+use Rattle.same_names.specs.Alike.{spelledAs}
 use Rattle.records.specs.Records.{wordAt, isClaim}
 use Rattle.lookup.specs.Lookup.{isNamed, claimsName, foundFrom, foundOf}
-use Rattle.lookup.specs.Finds.{recordsHeld, classIn, nameElement, kindIn, firstByte, sizeIn, Inside, Spells, Claims, NoneOf, Finds}
+use Rattle.lookup.specs.Finds.{recordsHeld, classIn, nameElement, kindIn, firstByte, sizeIn, InsideText, Spells, Claims, NoneOfFirst, Finds}
 use Rattle.lookup.specs.Promises.{OneAnswer, OutsideClaimsNothing, ByNameElement, FoundExactly}
 use Rattle.lookup.specs.declared.Found.{Found}
 use Rattle.lookup.specs.declared.Found.the-variants.{At, Nothing}
@@ -43,17 +43,17 @@ module _ (text elements : List ℕ) (e : ℕ) (name : List ℕ) where
       go true q z = (leb-true (firstByte elements e + sizeIn elements e) (length text) q, z)
       go false q z = let o : _≡_ {A = ℕ} 0 1 = cc in clash o
 
-  named-so : isNamed text elements e name ≡ true → Inside text elements e × Spells text elements e name
+  named-so : isNamed text elements e name ≡ true → InsideText text elements e × Spells text elements e name
   unfolding isNamed
   named-so h = go (kindIn elements e) refl h
     where
-      go : (k : ℕ) → kindIn elements e ≡ k → byKind k (spelledAs true text elements e name) (spelledAs false text elements e name) ≡ true → Inside text elements e × Spells text elements e name
+      go : (k : ℕ) → kindIn elements e ≡ k → byKind k (spelledAs true text elements e name) (spelledAs false text elements e name) ≡ true → InsideText text elements e × Spells text elements e name
       go zero q z = let o : _≡_ {A = ℕ} 0 1 = cc in clash o
       go (suc zero) q z = let s = spelled-true true z in ((row-there elements e 0 q, omega arith), inl (q, s .1))
       go (suc (suc zero)) q z = let s = spelled-true false z in ((row-there elements e 1 q, omega arith), inr (q, s .1))
       go (suc (suc (suc k))) q z = let o : _≡_ {A = ℕ} 0 1 = cc in clash o
 
-  so-named : Inside text elements e → Spells text elements e name → isNamed text elements e name ≡ true
+  so-named : InsideText text elements e → Spells text elements e name → isNamed text elements e name ≡ true
   unfolding isNamed spelledAs
   so-named i (inl (k, s)) = rw (k, le-leb (firstByte elements e + sizeIn elements e) (length text) (i .1)) s
   so-named i (inr (k, s)) = rw (k, le-leb (firstByte elements e + sizeIn elements e) (length text) (i .1)) s
@@ -69,7 +69,7 @@ module _ (text elements name items : List ℕ) where
   claims-so i h = go (isClaim (classIn items i)) (isNamed text elements (nameElement items i) name) refl refl h
     where
       go : (b c : Bool) → isClaim (classIn items i) ≡ b → isNamed text elements (nameElement items i) name ≡ c → (b && c) ≡ true
-          → (isClaim (classIn items i) ≡ true) × Inside text elements (nameElement items i) × Spells text elements (nameElement items i) name
+          → (isClaim (classIn items i) ≡ true) × InsideText text elements (nameElement items i) × Spells text elements (nameElement items i) name
       go true c p q z = let s = named-so text elements (nameElement items i) name (q ∙ z) in (p, s .0, s .1)
       go false c p q z = let o : _≡_ {A = ℕ} 0 1 = cc in clash o
 

@@ -11,7 +11,7 @@ use Rattle.same_names.specs.Spelling.{spelt}
 use Rattle.pieces.specs.Records.{recordWords}
 use Rattle.records.specs.Records.{wordAt, isClaim}
 use Rattle.pieces.specs.Columns as column
-use Rattle.places.specs.Kinds.{identifier, extended}
+use Rattle.places.specs.Kinds.{identifierKind, extendedKind}
 use Rattle.lookup.specs.declared.Found.{Found}
 use Rattle.lookup.specs.declared.Found.the-variants.{At, Nothing}
 
@@ -36,25 +36,25 @@ abbrev pub sizeIn : List ℕ → ℕ → ℕ
 sizeIn elements e = cellAt elements e sizeColumn
 
 -- it has a row, and its bytes stand in the text
-abbrev pub Inside : List ℕ → List ℕ → ℕ → Type 0
-Inside text elements e = (e < rowsIn elements) × (firstByte elements e + sizeIn elements e ≤ length text)
+abbrev pub InsideText : List ℕ → List ℕ → ℕ → Type 0
+InsideText text elements e = (e < rowsIn elements) × (firstByte elements e + sizeIn elements e ≤ length text)
 
 -- it is that name: an identifier, case aside; or an extended one, which keeps it
 abbrev pub Spells : List ℕ → List ℕ → ℕ → List ℕ → Type 0
 Spells text elements e name =
-    ((kindIn elements e ≡ identifier) × (spelt true (take (sizeIn elements e) (drop (firstByte elements e) text)) name ≡ true))
-    ⊎ ((kindIn elements e ≡ extended) × (spelt false (take (sizeIn elements e) (drop (firstByte elements e) text)) name ≡ true))
+    ((kindIn elements e ≡ identifierKind) × (spelt true (take (sizeIn elements e) (drop (firstByte elements e) text)) name ≡ true))
+    ⊎ ((kindIn elements e ≡ extendedKind) × (spelt false (take (sizeIn elements e) (drop (firstByte elements e) text)) name ≡ true))
 
 -- record i claims the name: a constant or a subtype, whose name element is that name; "a record pointing outside the tables claiming nothing"
 unfoldable pub Claims : List ℕ → List ℕ → List ℕ → List ℕ → ℕ → Type 0
 Claims text elements name items i =
-    (isClaim (classIn items i) ≡ true) × Inside text elements (nameElement items i) × Spells text elements (nameElement items i) name
+    (isClaim (classIn items i) ≡ true) × InsideText text elements (nameElement items i) × Spells text elements (nameElement items i) name
 
 -- none of the first n records does
-abbrev pub NoneOf : List ℕ → List ℕ → List ℕ → List ℕ → ℕ → Type 0
-NoneOf text elements name items n = (j : ℕ) → j < n → Claims text elements name items j → ⊥
+abbrev pub NoneOfFirst : List ℕ → List ℕ → List ℕ → List ℕ → ℕ → Type 0
+NoneOfFirst text elements name items n = (j : ℕ) → j < n → Claims text elements name items j → ⊥
 
 -- what a lookup may answer: "the first item that claims it, or none"
 unfoldable pub Finds : List ℕ → List ℕ → List ℕ → List ℕ → Found → Type 0
-Finds text elements name items (At k) = (k < recordsHeld items) × Claims text elements name items k × NoneOf text elements name items k
-Finds text elements name items Nothing = NoneOf text elements name items (recordsHeld items)
+Finds text elements name items (At k) = (k < recordsHeld items) × Claims text elements name items k × NoneOfFirst text elements name items k
+Finds text elements name items Nothing = NoneOfFirst text elements name items (recordsHeld items)

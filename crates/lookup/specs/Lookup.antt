@@ -3,9 +3,9 @@ use Prim.Native.Nat.{ℕ, zero, suc, _/_}
 use mathlib.Core.Bool.{Bool, true, false, _&&_}
 use mathlib.Core.List.{List}
 use lib.ListN.{length}
-use Rattle.same_names.specs.Alike.{byKind}
+use Rattle.same_names.specs.Spelling.{byKind}
 use Rattle.places.specs.Places.{cellAt}
-use Rattle.same_names.specs.Spelling.{spelledAs}
+use Rattle.same_names.specs.Alike.{spelledAs}
 use Rattle.pieces.specs.Records.{recordWords}
 use Rattle.records.specs.Records.{wordAt, isClaim}
 use Rattle.pieces.specs.Columns as column

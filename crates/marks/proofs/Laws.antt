@@ -17,11 +17,12 @@ use Rattle.folding.specs.declared.Outcome.{Outcome}
 use Rattle.folding.specs.code.Outcomes.{operatorSort}
 use Rattle.values.specs.declared.Value.{Value}
 use Rattle.values.specs.declared.Value.the-variants.{Number, Truth, Range, Truths, Without}
-use Rattle.values.specs.Words.{stateOf, valueKind, lowOf, highOf, leanOf}
+use Rattle.values.specs.Words.{stateOf, valueKind, lowOf, highOf}
+use Rattle.values.specs.Values.{leanOf}
 use Rattle.values.specs.code.Used.{usedConstant, usedSubtype, usedValue}
 use Rattle.values.proofs.Laws.{number-word}
 use Rattle.states.specs.States as state
-use Rattle.pieces.specs.Classes.{constant, subtype}
+use Rattle.pieces.specs.Classes as classes
 use Rattle.marks.specs.code.Marks.{withoutOf, besideMark, valueIn, constantOf, subtypeOf, firstBound, insideOf, rangeUnder, boundsIn, rangedOf, markSort}
 use Rattle.marks.proofs.Sound.{Keeps, small, SoundFolded, SoundOutcome, Sound, sort-sound, settle-sound, mark-sound}
 
@@ -45,11 +46,11 @@ Subtype K (Without s) = K .ended s
 
 -- of a record's class, 3 or 4
 abbrev pub Fits : ℕ → Value → Type 0
-Fits class v = ((class ≡ constant) × Constant small v) ⊎ ((class ≡ subtype) × Subtype small v)
+Fits class v = ((class ≡ classes.constant) × Constant small v) ⊎ ((class ≡ classes.subtype) × Subtype small v)
 
 -- ---- a record's words
 
-pub lean-constant : (v : Value) → Constant small v → usedValue constant (stateOf v) (valueKind v) (lowOf v) (highOf v) ≡ leanOf v
+pub lean-constant : (v : Value) → Constant small v → usedValue classes.constant (stateOf v) (valueKind v) (lowOf v) (highOf v) ≡ leanOf v
 unfolding usedValue usedConstant
 lean-constant (Number z) f = ap Number (number-word z f)
 lean-constant (Truth true) f = refl
@@ -58,7 +59,7 @@ lean-constant (Range low high) f = absurd f
 lean-constant Truths f = absurd f
 lean-constant (Without s) f = rw (ne-eqb s 0 (λ e. omega arith))
 
-pub lean-subtype : (v : Value) → Subtype small v → usedValue subtype (stateOf v) (valueKind v) (lowOf v) (highOf v) ≡ leanOf v
+pub lean-subtype : (v : Value) → Subtype small v → usedValue classes.subtype (stateOf v) (valueKind v) (lowOf v) (highOf v) ≡ leanOf v
 unfolding usedValue usedSubtype
 lean-subtype (Number z) f = absurd f
 lean-subtype (Truth t) f = absurd f

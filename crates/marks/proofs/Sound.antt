@@ -4,7 +4,7 @@
 use mathlib.Core.Path.{_≡_, refl, sym, subst}
 use mathlib.Core.Bool.{Bool, true, false, cond}
 use mathlib.Core.List.{List}
-use Prim.Native.Nat.{ℕ, _≤_, min}
+use Prim.Native.Nat.{ℕ, zero, suc, _≤_, min}
 use native.Mathlib.Omega.{arith}
 use lib.Dec.{leb, eqb}
 use lib.IntN.{ℤ, pos, negsuc, natAbs}
@@ -32,10 +32,8 @@ use Rattle.operands.specs.code.Leaves.{wrongLeaf, literalLeaf}
 use Rattle.operands.proofs.Literal.{literal-sized}
 use Rattle.values.specs.declared.Value.{Value}
 use Rattle.values.specs.declared.Value.the-variants.{Number, Truth, Range, Truths, Without}
-use Rattle.values.specs.Values.{languageValue}
-use Rattle.values.specs.Words.{leanOf}
+use Rattle.values.specs.Values.{languageValue, leanOf}
 use Rattle.states.specs.States as state
-use Rattle.names.specs.Language.{name-natural, name-positive, name-boolean, name-true, name-false}
 use Rattle.integers.specs.declared.Kind.{Kind}
 use Rattle.marks.specs.code.Marks.{operandOf, markSort}
 
@@ -308,8 +306,11 @@ module _ (K : Keeps) where
 -- what a name comes to by the language
 pub language-sound : (k : ℕ) → Sound small (languageValue k)
 unfolding languageValue
-language-sound k =
-    choose-sound small (eqb k 1) _ _ (record { sfits = omega arith }, record { sfits = omega arith })
-    (choose-sound small (eqb k name-natural) _ _ (record { sfits = omega arith }, record { sfits = omega arith })
-    (choose-sound small (eqb k name-positive) _ _ (record { sfits = omega arith }, record { sfits = omega arith })
-    (choose-sound small (eqb k name-boolean) _ _ tt (choose-sound small (eqb k name-true) _ _ tt (choose-sound small (eqb k name-false) _ _ tt (omega arith))))))
+language-sound zero = omega arith
+language-sound (suc zero) = (record { sfits = omega arith }, record { sfits = omega arith })
+language-sound (suc (suc zero)) = (record { sfits = omega arith }, record { sfits = omega arith })
+language-sound (suc (suc (suc zero))) = (record { sfits = omega arith }, record { sfits = omega arith })
+language-sound (suc (suc (suc (suc zero)))) = tt
+language-sound (suc (suc (suc (suc (suc zero))))) = tt
+language-sound (suc (suc (suc (suc (suc (suc zero)))))) = tt
+language-sound (suc (suc (suc (suc (suc (suc (suc k))))))) = omega arith

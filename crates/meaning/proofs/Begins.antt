@@ -1,13 +1,11 @@
 -- How a piece begins that has a form: with its word, constant or subtype, and then a name. So its class is that of its form. Assumes nothing.
-use Prim.Native.Nat.{ℕ, _<_, _≤_}
+use Prim.Native.Nat.{ℕ}
 use mathlib.Core.Path.{_≡_, refl, sym, ap, subst, _∙_}
 use mathlib.Core.Logic.{_⊎_, inl, inr, ⊎-elim}
-use mathlib.Core.Bool.{Bool, true, false, _||_}
+use mathlib.Core.Bool.{Bool, true, false}
 use mathlib.Core.List.{List, [], _∷_, _++_}
-use native.Mathlib.Omega.{arith}
 use borrow.Author.Tests.{eq-eqb, ltb-true, ltb-false}
 use lib.Dec.{T, eqb, ltb, eqb→eq}
-use lib.ListN.{length}
 use Rattle.laws.proofs.Laws.{clash}
 use Rattle.grammars.specs.code.Grammar.{Sym, tok}
 use Rattle.grammars.specs.code.Actions.{Reads, eat, acts, grow}
@@ -21,14 +19,16 @@ use Rattle.forms.specs.Tree.{Row}
 use Rattle.forms.specs.code.Frames.{State, Refusal, does, start}
 use Rattle.forms.specs.code.ItemReading.{ItemReading}
 use Rattle.form_table.proofs.Tables.{picksAt, kind-past}
-use Rattle.pieces.specs.Kinds.{word-constant, word-subtype, isName, isHeading, isClosing, endsAt, claimOf, claimClass, pieceClass}
+use Rattle.pieces.specs.Kinds.{word-constant, word-subtype, claimOf, claimClass, pieceClass}
+use Rattle.places.specs.Kinds.{isName}
 use Rattle.pieces.specs.declared.PieceClass.{PieceClass}
 use Rattle.one_tree.specs.Trees.{IsConstant, IsSubtype}
 use Rattle.tree.specs.code.Answers.{terminalsIn}
 use Rattle.tree.specs.code.PieceRows.{unlike}
-use Rattle.meaning.specs.Elements.{Piece, at, kinds}
-use Rattle.meaning.specs.Names.{classOf}
+use Rattle.meaning.specs.Elements.{Piece, at}
+use Rattle.meaning.specs.Pieces.{kindsInPiece, classOf}
 use Rattle.meaning.specs.Forms.{Tree}
+use Rattle.meaning.proofs.Begun.{no-heading, no-closing}
 use Rattle.meaning.proofs.Readings.{constant-reading, subtype-reading}
 use Rattle.forms.proofs.Shapes.{only}
 
@@ -64,7 +64,7 @@ is-name-kind k e = ⊎-elim (λ h. inl (eqb→eq k 1 h)) (λ h. inr (eqb→eq k 
 
 -- the kinds of a piece that is read so begin with these two
 abbrev Two : Sym → Piece → Type 0
-Two word p = (k : ℕ) × (j : ℕ) × (ks : List ℕ) × (kinds p ≡ k ∷ (j ∷ ks)) × (terminalOf k ≡ numberOf word) × (terminalOf j ≡ numberOf identifier)
+Two word p = (k : ℕ) × (j : ℕ) × (ks : List ℕ) × (kindsInPiece p ≡ k ∷ (j ∷ ks)) × (terminalOf k ≡ numberOf word) × (terminalOf j ≡ numberOf identifier)
 
 two-kinds : (ks : List ℕ) (a b : ℕ) (v : List ℕ) → terminalsIn ks ≡ a ∷ (b ∷ v) → (k : ℕ) × (j : ℕ) × (l : List ℕ) × (ks ≡ k ∷ (j ∷ l)) × (terminalOf k ≡ a) × (terminalOf j ≡ b)
 two-kinds [] a b v e = let z : _≡_ {A = ℕ} 0 1 = cc in clash z
@@ -74,31 +74,19 @@ two-kinds (k ∷ j ∷ l) a b v e = (k, j, l, refl, cc, cc)
 read-two : (a b k : ℕ) {α : List Sym} {s t : State} {w : List ℕ} → Reads State Refusal forms (does unlike) (opens ∷ tok a ∷ tok b ∷ α) k s w t → (v : List ℕ) × (w ≡ a ∷ (b ∷ v))
 read-two a b k (acts e (eat (eat {w = v} r))) = (v, refl)
 
-constant-two : (p : Piece) (s : State) → ItemReading constant unlike (terminalsIn (kinds p)) s → Two kind.word-constant p
+constant-two : (p : Piece) (s : State) → ItemReading constant unlike (terminalsIn (kindsInPiece p)) s → Two kind.word-constant p
 constant-two p s (grow q l e r) =
-    let w = terminalsIn (kinds p) in
+    let w = terminalsIn (kindsInPiece p) in
     let h = read-two (numberOf kind.word-constant) (numberOf identifier) 0 (subst (λ (x : ℕ). Reads State Refusal forms (does unlike) (body x ++ []) 0 start w s) (only (nameNumber constant) (ruleOf (nameNumber constant)) tt q l e) r) in
-    two-kinds (kinds p) _ _ (h .0) (h .1)
+    two-kinds (kindsInPiece p) _ _ (h .0) (h .1)
 
-subtype-two : (p : Piece) (s : State) → ItemReading subtype unlike (terminalsIn (kinds p)) s → Two kind.word-subtype p
+subtype-two : (p : Piece) (s : State) → ItemReading subtype unlike (terminalsIn (kindsInPiece p)) s → Two kind.word-subtype p
 subtype-two p s (grow q l e r) =
-    let w = terminalsIn (kinds p) in
+    let w = terminalsIn (kindsInPiece p) in
     let h = read-two (numberOf kind.word-subtype) (numberOf identifier) 0 (subst (λ (x : ℕ). Reads State Refusal forms (does unlike) (body x ++ []) 0 start w s) (only (nameNumber subtype) (ruleOf (nameNumber subtype)) tt q l e) r) in
-    two-kinds (kinds p) _ _ (h .0) (h .1)
+    two-kinds (kindsInPiece p) _ _ (h .0) (h .1)
 
 -- ---- the class
-
-no-heading : (k : ℕ) (l : List ℕ) → eqb k 98 ≡ false → isHeading (k ∷ l) ≡ false
-unfolding isHeading
-no-heading k l e = go (eqb (length (k ∷ l)) 3) refl
-  where
-    go : (b : Bool) → eqb (length (k ∷ l)) 3 ≡ b → isHeading (k ∷ l) ≡ false
-    go true q = rw (q, e)
-    go false q = rw q
-
-no-closing : (k : ℕ) (l : List ℕ) → eqb k 61 ≡ false → isClosing (k ∷ l) ≡ false
-unfolding isClosing endsAt
-no-closing k l e = rw e
 
 claimed : (k j : ℕ) (l : List ℕ) → (j ≡ 1) ⊎ (j ≡ 2) → claimClass (k ∷ (j ∷ l)) ≡ claimOf k
 unfolding claimClass
@@ -107,25 +95,25 @@ claimed k j l (inr e) = rw e
 
 class-by : (k j : ℕ) (l : List ℕ) → eqb k 98 ≡ false → eqb k 61 ≡ false → (j ≡ 1) ⊎ (j ≡ 2) → pieceClass (k ∷ (j ∷ l)) ≡ claimOf k
 unfolding pieceClass
-class-by k j l a b h = rw (no-heading k (j ∷ l) a, no-closing k (j ∷ l) b) (claimed k j l h)
+class-by k j l a b h = rw (no-heading (k ∷ (j ∷ l)) a, no-closing (k ∷ (j ∷ l)) b) (claimed k j l h)
 
 -- the first kind of a piece, and its class
 pub record Begun (p : Piece) (word class : ℕ) : Type 0 where
   pub first : at p 0 .kind ≡ word
   pub classed : classOf p ≡ class
 
-first-kind : (p : Piece) (k : ℕ) (l : List ℕ) → kinds p ≡ k ∷ l → at p 0 .kind ≡ k
-unfolding kinds at
+first-kind : (p : Piece) (k : ℕ) (l : List ℕ) → kindsInPiece p ≡ k ∷ l → at p 0 .kind ≡ k
+unfolding kindsInPiece at
 first-kind [] k l e = let z : _≡_ {A = ℕ} 0 1 = cc in clash z
 first-kind (x ∷ p) k l e = cc
 
-pub constant-begins : (p : Piece) (s : State) → ItemReading constant unlike (terminalsIn (kinds p)) s → Begun p word-constant 3
+pub constant-begins : (p : Piece) (s : State) → ItemReading constant unlike (terminalsIn (kindsInPiece p)) s → Begun p word-constant 3
 constant-begins p s r =
     let t = constant-two p s r in
     let e = t .3 ∙ ap (λ (k : ℕ). k ∷ (t .1 ∷ t .2)) (is-constant-word (t .0) (t .4)) in
     record { first = first-kind p 53 (t .1 ∷ t .2) e; classed = ap (λ (ks : List ℕ). pieceClass ks .class) e ∙ ap (λ (m : PieceClass). m .class) (class-by 53 (t .1) (t .2) refl refl (is-name-kind (t .1) (t .5))) }
 
-pub subtype-begins : (p : Piece) (s : State) → ItemReading subtype unlike (terminalsIn (kinds p)) s → Begun p word-subtype 4
+pub subtype-begins : (p : Piece) (s : State) → ItemReading subtype unlike (terminalsIn (kindsInPiece p)) s → Begun p word-subtype 4
 subtype-begins p s r =
     let t = subtype-two p s r in
     let e = t .3 ∙ ap (λ (k : ℕ). k ∷ (t .1 ∷ t .2)) (is-subtype-word (t .0) (t .4)) in

@@ -1,13 +1,14 @@
 -- A piece claims one name or none: what follows of a claim. Assumes nothing.
-use mathlib.Core.Path.{_≡_, refl, sym, _∙_}
+use mathlib.Core.Path.{_≡_, refl, sym, ap, _∙_}
 use mathlib.Core.Bool.{Bool, true, false, cond, _&&_, _||_}
 use mathlib.Core.List.{List, [], _∷_}
 use Prim.Native.Nat.{ℕ}
 use Rattle.laws.proofs.Laws.{both-left, both-right}
 use Rattle.records.specs.Records.{isClaim}
 use Rattle.meaning.specs.Elements.{Element, Piece}
-use Rattle.meaning.specs.Sameness.{sameAs}
-use Rattle.meaning.specs.Names.{classOf, ownName, namesClaimed, isOneOf, claims, doubled, anyDoubled, ownDoubled}
+use Rattle.meaning.specs.Names.{ownName, isOneOf, claims, isDoubled, anyDoubled, ownDoubled, sameAs}
+use Rattle.meaning.specs.Pieces.{classOf}
+use Rattle.meaning.proofs.Begun.{names-by-class}
 use Rattle.meaning.specs.Together.{pieceAt, claimsOneOf, shares}
 
 or-none : (a : Bool) → (a || false) ≡ a
@@ -15,24 +16,22 @@ or-none true = refl
 or-none false = refl
 
 pub claims-one : (x : Element) (p : Piece) → claims x p ≡ (isClaim (classOf p) && sameAs (ownName p) x)
-unfolding claims namesClaimed
-claims-one x p = go (isClaim (classOf p))
+unfolding claims
+claims-one x p = ap (λ (l : List Element). isOneOf x l) (names-by-class p) ∙ go (isClaim (classOf p))
   where
     go : (b : Bool) → isOneOf x (cond b (ownName p ∷ []) []) ≡ (b && sameAs (ownName p) x)
     go true = or-none (sameAs (ownName p) x)
     go false = refl
 
-pub doubled-one : (all : List Piece) (p : Piece) → ownDoubled all p ≡ (isClaim (classOf p) && doubled all (ownName p))
-unfolding namesClaimed
-doubled-one all p = go (isClaim (classOf p))
+pub doubled-one : (all : List Piece) (p : Piece) → ownDoubled all p ≡ (isClaim (classOf p) && isDoubled all (ownName p))
+doubled-one all p = ap (λ (l : List Element). anyDoubled all l) (names-by-class p) ∙ go (isClaim (classOf p))
   where
-    go : (b : Bool) → anyDoubled all (cond b (ownName p ∷ []) []) ≡ (b && doubled all (ownName p))
-    go true = or-none (doubled all (ownName p))
+    go : (b : Bool) → anyDoubled all (cond b (ownName p ∷ []) []) ≡ (b && isDoubled all (ownName p))
+    go true = or-none (isDoubled all (ownName p))
     go false = refl
 
 pub shares-one : (ps : List Piece) (i j : ℕ) → shares ps i j ≡ (isClaim (classOf (pieceAt ps i)) && claims (ownName (pieceAt ps i)) (pieceAt ps j))
-unfolding namesClaimed
-shares-one ps i j = go (isClaim (classOf (pieceAt ps i)))
+shares-one ps i j = ap (λ (l : List Element). claimsOneOf l (pieceAt ps j)) (names-by-class (pieceAt ps i)) ∙ go (isClaim (classOf (pieceAt ps i)))
   where
     go : (b : Bool) → claimsOneOf (cond b (ownName (pieceAt ps i) ∷ []) []) (pieceAt ps j) ≡ (b && claims (ownName (pieceAt ps i)) (pieceAt ps j))
     go true = or-none (claims (ownName (pieceAt ps i)) (pieceAt ps j))

@@ -11,28 +11,25 @@ use lib.ListN.{length, getD, take, drop, List·getD-eq-default}
 use lib.Seq.{split-at}
 use Rattle.same_names.specs.Alike.{sameName}
 use Rattle.element_reading.specs.Rows.{rowsOf}
-use Rattle.pieces.specs.Kinds.{classAt, isName, isHeading, behindWord, hasName, endsAt, isClosing, claimClass, pieceClass}
+use Rattle.pieces.specs.Kinds.{isHeading, behindWord, hasName, endsAt, isClosing, claimClass, pieceClass}
+use Rattle.places.specs.Kinds.{isName}
 use Rattle.pieces.specs.Records.{nameOf}
-use Rattle.pieces.specs.declared.PieceClass.{PieceClass}
 use Rattle.records.specs.Records.{wordAt, isClaim}
 use Rattle.names.specs.code.Links.{recordsIn, firstFrom, claimsElement, linkOf, filled, linksTable}
 use Rattle.names.proofs.Tables.{filled-length, filled-at, filled-past}
 use Rattle.pieces.specs.Columns as column
+use Rattle.meaning.proofs.Begun.{kinds-at, marked}
 use Rattle.meaning.proofs.Claimed.{claims-one}
-use Rattle.meaning.specs.Elements.{Element, Piece, nothing, at, kinds, piecesOf}
-use Rattle.meaning.specs.Sameness.{sameAs}
+use Rattle.meaning.specs.Elements.{Element, Piece, nothing, at}
+use Rattle.meaning.specs.Pieces.{kindsInPiece, piecesOf, classOf}
 use Rattle.meaning.proofs.Cutting.{joinAll, total, cut-joins, at-piece, kinds-length}
 use Rattle.meaning.proofs.Named.{same-name}
-use Rattle.meaning.specs.Names.{classOf, ownName, claims, Done}
+use Rattle.meaning.specs.Names.{ownName, claims, Done, sameAs}
 use Rattle.meaning.proofs.Records.{piecesDone, pieces-length, word-past}
 use Rattle.meaning.proofs.Places.{tableOf, elements, elements-length, table-length, at-past}
 use Rattle.meaning.proofs.Words.{pieceAt, doneAt, itemTable, pieces-at, items-length, class-at, name-at}
 
 -- ---- a piece that claims a name has it at its second element
-
-abbrev marked : Bool → Bool → Bool → Bool → Bool → ℕ → PieceClass
-marked heading closing named constant subtype place =
-    cond heading (classAt 1 1) (cond closing (classAt 2 place) (cond named (cond constant (classAt 3 1) (cond subtype (classAt 4 1) (classAt 5 0))) (classAt 5 0)))
 
 marked-claim : (heading closing named constant subtype : Bool) (place : ℕ) → isClaim (marked heading closing named constant subtype place .class) ≡ true
     → (marked heading closing named constant subtype place .place ≡ 1) × (named ≡ true)
@@ -56,18 +53,12 @@ claim-place ks h = (claim-opens ks h .0, long ks (claim-opens ks h .1))
     long (x ∷ []) e = absurd (false≢true e)
     long (x ∷ y ∷ ks) e = omega arith
 
-pub kinds-at : (p : Piece) (i : ℕ) → getD (kinds p) i 0 ≡ at p i .kind
-unfolding kinds at
-kinds-at [] i = refl
-kinds-at (x ∷ p) zero = refl
-kinds-at (x ∷ p) (suc i) = kinds-at p i
-
 pub claim-name : (p : Piece) → isClaim (classOf p) ≡ true → isName (ownName p .kind) ≡ true
-claim-name p h = ap isName (sym (kinds-at p 1)) ∙ claim-opens (kinds p) h .1
+claim-name p h = ap isName (sym (kinds-at p 1)) ∙ claim-opens (kindsInPiece p) h .1
 
 -- an empty piece claims nothing, and nothing claims what is no element
 empty-claim : isClaim (classOf []) ≡ false
-unfolding kinds pieceClass isHeading isClosing endsAt hasName behindWord claimClass
+unfolding kindsInPiece pieceClass isHeading isClosing endsAt hasName behindWord claimClass
 empty-claim = refl
 
 pub none-claims : (x : Element) → claims x [] ≡ false
@@ -140,8 +131,8 @@ module _ (s : List ℕ) (z y : ℕ) (ds : List Done) (cuts : piecesDone ds ≡ p
       inside : j < length ds
       inside = claims-inside j h
 
-      place : (pieceClass (kinds (doneAt ds j .piece)) .place ≡ 1) × (1 < length (kinds (doneAt ds j .piece)))
-      place = claim-place (kinds (doneAt ds j .piece)) (ap (λ (p : Piece). isClaim (classOf p)) (piece-is j) ∙ h)
+      place : (pieceClass (kindsInPiece (doneAt ds j .piece)) .place ≡ 1) × (1 < length (kindsInPiece (doneAt ds j .piece)))
+      place = claim-place (kindsInPiece (doneAt ds j .piece)) (ap (λ (p : Piece). isClaim (classOf p)) (piece-is j) ∙ h)
 
       long : 1 < length (doneAt ds j .piece)
       long = omega (arith, place .1, kinds-length (doneAt ds j .piece))

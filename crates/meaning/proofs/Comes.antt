@@ -19,14 +19,15 @@ use Rattle.values.specs.Words.{stateOf}
 use Rattle.values.specs.declared.Value.{Value}
 use Rattle.values.specs.declared.Value.the-variants.{Without}
 use Rattle.integers.specs.declared.Kind.the-variants as K
-use Rattle.meaning.specs.Elements.{Element, Piece, at, kinds}
-use Rattle.meaning.specs.Names.{classOf, ownDoubled, Done, useOf}
-use Rattle.meaning.specs.Forms.{Item, ranged, HasForm, is-constant, is-subtype, is-ranged}
+use Rattle.meaning.specs.Elements.{Element, Piece, at}
+use Rattle.meaning.specs.Pieces.{kindsInPiece, classOf}
+use Rattle.meaning.specs.Names.{ownDoubled, Done, useOf}
+use Rattle.meaning.specs.Forms.{ItemForm, ranged, HasForm, is-constant, is-subtype, is-ranged}
 use Rattle.meaning.specs.States.{ItemMeets, Met, broken, doubled, by-form, Least, NoneMet}
 use Rattle.meaning.specs.Values.{Gives}
 use Rattle.meaning.specs.Meaning.{Comes, stands, gives, Come, none, more}
 use Rattle.meaning.specs.code.PieceValues.{valued, bounded, marked, formed, unlessDoubled, valueOf, doneOf, donesFrom}
-use Rattle.meaning.specs.Forms.{Fits}
+use Rattle.meaning.specs.Items.{FitsAForm}
 use Rattle.meaning.specs.code.Promises.{ComesExactly, ComeExactly, ClassByForm}
 use Rattle.meaning.proofs.States.{Late, use-late, marked-late}
 use Rattle.meaning.proofs.Least.{Exact}
@@ -48,33 +49,33 @@ module _ (all : List Piece) (above : List Done) (p : Piece) where
 
   -- what the code makes of the piece's rows, if its name is not doubled
   abbrev made : Value
-  made = formed p used (rowsOfPiece (kinds p))
+  made = formed p used (rowsOfPiece (kindsInPiece p))
 
   -- ---- an item of the piece
 
-  chosen-constant : (item mark : Row) (rs : List Row) → classOf p ≡ 3 → rowsOfPiece (kinds p) ≡ item ∷ (mark ∷ rs) → constantOf (used (at p (mark .first))) (valued p used rs) ≡ made
+  chosen-constant : (item mark : Row) (rs : List Row) → classOf p ≡ 3 → rowsOfPiece (kindsInPiece p) ≡ item ∷ (mark ∷ rs) → constantOf (used (at p (mark .first))) (valued p used rs) ≡ made
   chosen-constant item mark rs c e = rw (e, c)
 
-  chosen-subtype : (item mark : Row) (rs : List Row) → classOf p ≡ 4 → rowsOfPiece (kinds p) ≡ item ∷ (mark ∷ rs) → bounded p used (used (at p (mark .first))) rs ≡ made
+  chosen-subtype : (item mark : Row) (rs : List Row) → classOf p ≡ 4 → rowsOfPiece (kindsInPiece p) ≡ item ∷ (mark ∷ rs) → bounded p used (used (at p (mark .first))) rs ≡ made
   chosen-subtype item mark rs c e = rw (e, c)
 
-  made-is : (i : Item) → HasForm p i → Made used i made
+  made-is : (i : ItemForm) → HasForm p i → Made used i made
   made-is i (is-constant {item = item} {mark = mark} {rs = rs} {x = x} t is) =
       let b = constant-tree-begins p _ t in
       let r = constant-reading p _ .0 t in
-      let q = constant-read (kinds p) (first-kind p ∙ b .first) unlike (r .0) (r .1 .0) ∙ r .1 .1 in
+      let q = constant-read (kindsInPiece p) (first-kind p ∙ b .first) unlike (r .0) (r .1 .0) ∙ r .1 .1 in
       subst (Made used i) (chosen-constant item mark rs (b .classed) q) (constant-made used p (use-late all above) (at p (mark .first)) x rs is)
   made-is i (is-subtype {item = item} {mark = mark} t) =
       let b = subtype-tree-begins p _ t in
       let r = subtype-reading p _ .0 t in
-      let q = subtype-read (kinds p) (first-kind p ∙ b .first) unlike (r .0) (r .1 .0) ∙ r .1 .1 in
+      let q = subtype-read (kindsInPiece p) (first-kind p ∙ b .first) unlike (r .0) (r .1 .0) ∙ r .1 .1 in
       subst (Made used i) (chosen-subtype item mark [] (b .classed) q) (subtype-made used (at p (mark .first)) (use-late all above (at p (mark .first))))
   made-is i (is-ranged {item = item} {mark = mark} {range = range} {rs = rs} {x = x} {y = y} {down = down} t g is js) =
       let b = subtype-tree-begins p _ t in
       let r = subtype-reading p _ .0 t in
-      let q = subtype-read (kinds p) (first-kind p ∙ b .first) unlike (r .0) (r .1 .0) ∙ r .1 .1 in
+      let q = subtype-read (kindsInPiece p) (first-kind p ∙ b .first) unlike (r .0) (r .1 .0) ∙ r .1 .1 in
       subst (λ (d : Bool). Made used (ranged (at p (mark .first)) x d y) made) (sym (direction p _ (t .0) g))
-      (subst (Made used (ranged (at p (mark .first)) x (anyDown (kinds p)) y)) (chosen-subtype item mark (range ∷ rs) (b .classed) q) (ranged-made used p (use-late all above) (at p (mark .first)) x y (anyDown (kinds p)) rs is js))
+      (subst (Made used (ranged (at p (mark .first)) x (anyDown (kindsInPiece p)) y)) (chosen-subtype item mark (range ∷ rs) (b .classed) q) (ranged-made used p (use-late all above) (at p (mark .first)) x y (anyDown (kindsInPiece p)) rs is js))
 
   made-late : HasRows p → Late made
   made-late (item, (mark, (m, e))) = subst (λ (rs : List Row). Late (formed p used rs)) (sym e) (marked-late all above p (at p (mark .first)) m)
@@ -89,7 +90,7 @@ module _ (all : List Piece) (above : List Done) (p : Piece) where
   same-state v s t e f = ap stateOf (sym e ∙ f)
 
   -- a state that the item meets, from the one that the code gives
-  at-least : (i : Item) (o : Made used i made) → Late made → (s : ℕ) → ItemMeets used i s → (t : ℕ) × (Least (ItemMeets used i) t × ((made ≡ Without t) × ((3 ≤ t) × (t ≤ s))))
+  at-least : (i : ItemForm) (o : Made used i made) → Late made → (s : ℕ) → ItemMeets used i s → (t : ℕ) × (Least (ItemMeets used i) t × ((made ≡ Without t) × ((3 ≤ t) × (t ≤ s))))
   at-least i o l s h = go (o .sort) (o .exact) (o .ends)
     where
       go : (r : Sort) → Exact r (o .kind) (ItemMeets used i) → Ends r made → (t : ℕ) × (Least (ItemMeets used i) t × ((made ≡ Without t) × ((3 ≤ t) × (t ≤ s))))
@@ -98,7 +99,7 @@ module _ (all : List Piece) (above : List Done) (p : Piece) where
       go (S.Wrong t) e f = let b = subst Late f l in (t, (e .0, (f, (b .0, e .0 .1 s h))))
 
   -- the least of what is met, or none
-  least-or-none : (i : Item) (o : Made used i made) → ((t : ℕ) × (Least (ItemMeets used i) t × ((made ≡ Without t) × (t ≤ 6)))) ⊎ (NoneMet (ItemMeets used i) × Later made)
+  least-or-none : (i : ItemForm) (o : Made used i made) → ((t : ℕ) × (Least (ItemMeets used i) t × ((made ≡ Without t) × (t ≤ 6)))) ⊎ (NoneMet (ItemMeets used i) × Later made)
   least-or-none i o = go (o .sort) (o .exact) (o .ends)
     where
       go : (r : Sort) → Exact r (o .kind) (ItemMeets used i) → Ends r made → ((t : ℕ) × (Least (ItemMeets used i) t × ((made ≡ Without t) × (t ≤ 6)))) ⊎ (NoneMet (ItemMeets used i) × Later made)
@@ -108,7 +109,7 @@ module _ (all : List Piece) (above : List Done) (p : Piece) where
 
   -- ---- the states apart: what is met is one of 1 to 6, and what an item ends in else is none of them
 
-  met-small : (i : Item) → HasForm p i → (s : ℕ) → ItemMeets used i s → (t : ℕ) × (ItemMeets used i t × (t ≤ 6))
+  met-small : (i : ItemForm) → HasForm p i → (s : ℕ) → ItemMeets used i s → (t : ℕ) × (ItemMeets used i t × (t ≤ 6))
   met-small i f s m = go (least-or-none i (made-is i f))
     where
       go : ((t : ℕ) × (Least (ItemMeets used i) t × ((made ≡ Without t) × (t ≤ 6)))) ⊎ (NoneMet (ItemMeets used i) × Later made) → (t : ℕ) × (ItemMeets used i t × (t ≤ 6))
@@ -123,7 +124,7 @@ module _ (all : List Piece) (above : List Done) (p : Piece) where
       go (doubled d) l = omega arith
       go (by-form {i = i} {s = s} f m) l = let t = met-small i f s m in let a = l (t .0) (by-form f (t .1 .0)) in let b = t .1 .1 in omega arith
 
-  pub given-later : {i : Item} {v : Value} → NoneMet (Met all above p) → HasForm p i → Gives used i v → Later v
+  pub given-later : {i : ItemForm} {v : Value} → NoneMet (Met all above p) → HasForm p i → Gives used i v → Later v
   given-later {i = i} {v = v} n f g = subst Later (made-is i f .given (λ t a. n t (by-form f a)) v g) (go (least-or-none i (made-is i f)))
     where
       go : ((t : ℕ) × (Least (ItemMeets used i) t × ((made ≡ Without t) × (t ≤ 6)))) ⊎ (NoneMet (ItemMeets used i) × Later made) → Later made

@@ -9,10 +9,12 @@ use borrow.Author.Tests.{eqb-true, eqb-false, ne-eqb}
 use lib.Dec.{eqb}
 use lib.ListN.{length, getD, length-append}
 use Rattle.records.specs.Records.{isItem, itemState}
-use Rattle.records.specs.Tallies.{oneIf, inState, countsFrom, tallyOf}
+use Rattle.records.specs.Tallies.{inState, countsFrom, tallyOf}
+use Rattle.records.specs.Counting.{oneIf}
 use Rattle.values.specs.Words as words
-use Rattle.meaning.specs.Elements.{Piece, piecesOf}
-use Rattle.meaning.specs.Names.{classOf, Done}
+use Rattle.meaning.specs.Elements.{Piece}
+use Rattle.meaning.specs.Pieces.{piecesOf, classOf}
+use Rattle.meaning.specs.Names.{Done}
 use Rattle.meaning.specs.code.PieceValues.{valueOf, doneOf, donesFrom, donesOf, recordsOf}
 use Rattle.meaning.specs.Records.{itemValueWords, recordOf, recordsFrom}
 use Rattle.meaning.specs.code.Promises.{itemsAmong, sum}

@@ -9,29 +9,30 @@ use lib.ListN.{length, getD, length-append}
 use Rattle.pieces.specs.Cutting.{cut, joined, putFront}
 use Rattle.pieces.specs.Kinds.{closesPiece, opensPiece}
 use Rattle.pieces.specs.Kinds as by-kinds
-use Rattle.meaning.specs.Elements.{Element, Piece, nothing, at, kinds, closes, opens}
+use Rattle.meaning.specs.Elements.{Element, Piece, nothing, at}
+use Rattle.meaning.specs.Pieces.{kindsInPiece, cutsAfter, cutsBefore}
 
 -- the kinds of pieces, one by one
 unfoldable pub kindsEach : List Piece → List (List ℕ)
 kindsEach [] = []
-kindsEach (p ∷ ps) = kinds p ∷ kindsEach ps
+kindsEach (p ∷ ps) = kindsInPiece p ∷ kindsEach ps
 
-front : (x : Element) (ps : List Piece) → kindsEach (putFront closes opens x ps) ≡ putFront closesPiece opensPiece (x .kind) (kindsEach ps)
-unfolding kindsEach kinds
+front : (x : Element) (ps : List Piece) → kindsEach (putFront cutsAfter cutsBefore x ps) ≡ putFront closesPiece opensPiece (x .kind) (kindsEach ps)
+unfolding kindsEach kindsInPiece
 front x [] = refl
 front x (p ∷ ps) = refl
 
-join : (b : Bool) (x : Element) (ps : List Piece) → kindsEach (joined closes opens b x ps) ≡ joined closesPiece opensPiece b (x .kind) (kindsEach ps)
-unfolding kindsEach kinds
+join : (b : Bool) (x : Element) (ps : List Piece) → kindsEach (joined cutsAfter cutsBefore b x ps) ≡ joined closesPiece opensPiece b (x .kind) (kindsEach ps)
+unfolding kindsEach kindsInPiece
 join true x ps = refl
 join false x ps = front x ps
 
-pub cut-kinds : (l : List Element) → kindsEach (cut closes opens l) ≡ by-kinds.kindPieces (kinds l)
-unfolding kindsEach kinds cut
+pub cut-kinds : (l : List Element) → kindsEach (cut cutsAfter cutsBefore l) ≡ by-kinds.kindPieces (kindsInPiece l)
+unfolding kindsEach kindsInPiece cut
 cut-kinds [] = refl
 cut-kinds (x ∷ []) = refl
 cut-kinds (x ∷ y ∷ l) =
-    join (closes x || opens y) x (cut closes opens (y ∷ l))
+    join (cutsAfter x || cutsBefore y) x (cut cutsAfter cutsBefore (y ∷ l))
     ∙ ap (λ (ps : List (List ℕ)). joined closesPiece opensPiece (closesPiece (x .kind) || opensPiece (y .kind)) (x .kind) ps) (cut-kinds (y ∷ l))
 
 -- pieces one after the other
@@ -44,22 +45,22 @@ unfoldable pub total : List Piece → ℕ
 total [] = 0
 total (p ∷ ps) = length p + total ps
 
-joins-front : (x : Element) (ps : List Piece) → joinAll (putFront closes opens x ps) ≡ x ∷ joinAll ps
+joins-front : (x : Element) (ps : List Piece) → joinAll (putFront cutsAfter cutsBefore x ps) ≡ x ∷ joinAll ps
 unfolding joinAll
 joins-front x [] = refl
 joins-front x (p ∷ ps) = refl
 
-joins-join : (b : Bool) (x : Element) (ps : List Piece) → joinAll (joined closes opens b x ps) ≡ x ∷ joinAll ps
+joins-join : (b : Bool) (x : Element) (ps : List Piece) → joinAll (joined cutsAfter cutsBefore b x ps) ≡ x ∷ joinAll ps
 unfolding joinAll
 joins-join true x ps = refl
 joins-join false x ps = joins-front x ps
 
 -- the pieces are the elements, nothing lost
-pub cut-joins : (l : List Element) → joinAll (cut closes opens l) ≡ l
+pub cut-joins : (l : List Element) → joinAll (cut cutsAfter cutsBefore l) ≡ l
 unfolding joinAll cut
 cut-joins [] = refl
 cut-joins (x ∷ []) = refl
-cut-joins (x ∷ y ∷ l) = joins-join (closes x || opens y) x (cut closes opens (y ∷ l)) ∙ ap (λ (m : List Element). x ∷ m) (cut-joins (y ∷ l))
+cut-joins (x ∷ y ∷ l) = joins-join (cutsAfter x || cutsBefore y) x (cut cutsAfter cutsBefore (y ∷ l)) ∙ ap (λ (m : List Element). x ∷ m) (cut-joins (y ∷ l))
 
 at-front : (p l : List Element) (i : ℕ) → i < length p → at (p ++ l) i ≡ at p i
 unfolding at
@@ -91,7 +92,7 @@ unfolding joinAll total
 total-joins [] = refl
 total-joins (p ∷ ps) = length-append p (joinAll ps) ∙ ap (λ (n : ℕ). length p + n) (total-joins ps)
 
-pub kinds-length : (p : Piece) → length (kinds p) ≡ length p
-unfolding kinds
+pub kinds-length : (p : Piece) → length (kindsInPiece p) ≡ length p
+unfolding kindsInPiece
 kinds-length [] = refl
 kinds-length (x ∷ p) = ap suc (kinds-length p)

@@ -9,13 +9,14 @@ use lib.Dec.{eqb, eqb→eq}
 use lib.ListN.{getD}
 use Rattle.forms.specs.code.Kinds.{numberOf, terminalOf}
 use Rattle.forms.specs.code.Kinds as kind
-use Rattle.forms.specs.Lines.{Item}
+use Rattle.forms.specs.Lines.{OwnItem}
 use Rattle.forms.specs.Tree.{Row}
 use Rattle.one_tree.specs.Trees.{IsSubtype}
 use Rattle.one_tree.proofs.Alone.{one-direction}
 use Rattle.pieces.specs.Kinds.{word-downto, anyDown}
 use Rattle.tree.specs.code.Answers.{terminalsIn}
-use Rattle.meaning.specs.Elements.{Piece, kinds}
+use Rattle.meaning.specs.Elements.{Piece}
+use Rattle.meaning.specs.Pieces.{kindsInPiece}
 use Rattle.meaning.specs.Forms.{toForms, Goes, to, downto}
 use Rattle.meaning.proofs.Readings.{to-forms}
 use Rattle.meaning.proofs.Begins.{told}
@@ -51,13 +52,13 @@ stands (k ∷ ks) e = by (eqb k word-downto) refl e (λ h. stands ks h)
     by true q h more = (0, ap terminalOf (eqb-true k word-downto q) ∙ downto-is)
     by false q h more = let s = more h in (suc (s .0), s .1)
 
-pub direction : (p : Piece) (l : List Row) → IsSubtype (toForms p) l → {own : List Item} {down : Bool} → Goes (toForms p) own down → down ≡ anyDown (kinds p)
-direction p l t (to i m e) = by (anyDown (kinds p)) refl
+pub direction : (p : Piece) (l : List Row) → IsSubtype (toForms p) l → {own : List OwnItem} {down : Bool} → Goes (toForms p) own down → down ≡ anyDown (kindsInPiece p)
+direction p l t (to i m e) = by (anyDown (kindsInPiece p)) refl
   where
-    there : (i : ℕ) → getD (toForms p) i 0 ≡ numberOf kind.word-to → getD (terminalsIn (kinds p)) i 0 ≡ numberOf kind.word-to
+    there : (i : ℕ) → getD (toForms p) i 0 ≡ numberOf kind.word-to → getD (terminalsIn (kindsInPiece p)) i 0 ≡ numberOf kind.word-to
     there i e = subst (λ (w : List ℕ). getD w i 0 ≡ numberOf kind.word-to) (to-forms p) e
 
-    by : (b : Bool) → anyDown (kinds p) ≡ b → false ≡ b
-    by true q = let s = stands (kinds p) q in absurd (one-direction (terminalsIn (kinds p)) l (subst (λ (w : List ℕ). IsSubtype w l) (to-forms p) t) i (s .0) (there i e) (s .1))
+    by : (b : Bool) → anyDown (kindsInPiece p) ≡ b → false ≡ b
+    by true q = let s = stands (kindsInPiece p) q in absurd (one-direction (terminalsIn (kindsInPiece p)) l (subst (λ (w : List ℕ). IsSubtype w l) (to-forms p) t) i (s .0) (there i e) (s .1))
     by false q = refl
-direction p l t (downto i m e) = sym (found (kinds p) i (subst (λ (w : List ℕ). getD w i 0 ≡ numberOf kind.word-downto) (to-forms p) e))
+direction p l t (downto i m e) = sym (found (kindsInPiece p) i (subst (λ (w : List ℕ). getD w i 0 ≡ numberOf kind.word-downto) (to-forms p) e))

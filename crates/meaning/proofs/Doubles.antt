@@ -8,9 +8,9 @@ use borrow.Author.Tests.{ltb-true, ltb-false, eqb-false, ne-eqb, le-leb, lt-leb,
 use lib.Dec.{eqb, ltb, leb}
 use lib.ListN.{length, getD, take}
 use Rattle.laws.proofs.Laws.{both-left, both-right}
-use Rattle.same_names.specs.Alike.{sameName}
+use Rattle.same_names.specs.Alike.{sameName, spelledAs}
 use Rattle.places.specs.Places.{cellAt}
-use Rattle.same_names.specs.Spelling.{spelt, spelledAs}
+use Rattle.same_names.specs.Spelling.{spelt}
 use Rattle.same_names.proofs.Sameness.{same-flips}
 use Rattle.element_reading.specs.Rows.{rowsOf}
 use Rattle.element_reading.proofs.Promises.{stand-in-order}
@@ -20,8 +20,9 @@ use Rattle.pairs.specs.code.Pairs.{laterOf, pairFrom}
 use Rattle.pairs.specs.declared.Pair.{Pair}
 use Rattle.pairs.specs.declared.Pair.the-variants.{Neither}
 use Rattle.records.specs.Records.{wordAt, isClaim}
-use Rattle.records.specs.Tallies.{oneIf}
-use Rattle.names.specs.Language.{languageNames, languageOf}
+use Rattle.records.specs.Counting.{oneIf}
+use Rattle.names.specs.Language.{languageNames}
+use Rattle.names.specs.code.Language.{languageOf}
 use Rattle.names.specs.code.Names.{share, sharedPair}
 use Rattle.names.specs.code.Links.{recordsIn, claimsElement, another, twinOf, twinsTable}
 use Rattle.names.proofs.Firsts.{any-found, any-at}
@@ -29,10 +30,11 @@ use Rattle.names.proofs.Tables.{filled-at}
 use Rattle.operands.specs.code.Operands.{bytesAt}
 use Rattle.items.specs.code.Items.{doubledIn}
 use Rattle.pieces.specs.Columns as column
-use Rattle.meaning.specs.Elements.{Element, Piece, at, kinds, piecesOf}
+use Rattle.meaning.specs.Elements.{Element, Piece, at}
+use Rattle.meaning.specs.Pieces.{kindsInPiece, piecesOf, classOf}
 use Rattle.meaning.proofs.Cutting.{total}
 use Rattle.meaning.proofs.Tables.{cell-word, element-at, row-within, elementAt}
-use Rattle.meaning.specs.Names.{classOf, ownName, claims, language, claimsIn, doubled, ownDoubled, Done}
+use Rattle.meaning.specs.Names.{ownName, claims, language, claimsIn, isDoubled, ownDoubled, Done}
 use Rattle.meaning.proofs.Records.{piecesDone, pieces-length, word-past}
 use Rattle.meaning.proofs.Places.{tableOf, elements}
 use Rattle.meaning.proofs.Words.{pieceAt, doneAt, itemTable, pieces-at, class-at, name-at}
@@ -118,7 +120,7 @@ module _ (s : List ℕ) (z y : ℕ) (ds : List Done) (cuts : piecesDone ds ≡ p
   inside : i < recordsIn (itemTable ds y)
   inside = omega (arith, claims-inside s z y ds cuts i c, records-room s z y ds cuts few, dones-length s z y ds cuts)
 
-  pub twin-doubled : (twinOf s (tableOf s z) (itemTable ds y) i || not (eqb (language (ownName (pieceAt (piecesOf s) i))) 0)) ≡ doubled (piecesOf s) (ownName (pieceAt (piecesOf s) i))
+  pub twin-doubled : (twinOf s (tableOf s z) (itemTable ds y) i || not (eqb (language (ownName (pieceAt (piecesOf s) i))) 0)) ≡ isDoubled (piecesOf s) (ownName (pieceAt (piecesOf s) i))
   unfolding twinOf
   twin-doubled = go (twinOf s (tableOf s z) (itemTable ds y) i) refl
     where
@@ -142,7 +144,7 @@ module _ (s : List ℕ) (z y : ℕ) (ds : List Done) (cuts : piecesDone ds ≡ p
           at-test true a b = sym (lt-leb 2 n (omega arith))
           at-test false a b = sym (le-leb 2 n (omega arith))
 
-      go : (b : Bool) → twinOf s (tableOf s z) (itemTable ds y) i ≡ b → (b || not (eqb (language (ownName (pieceAt (piecesOf s) i))) 0)) ≡ doubled (piecesOf s) (ownName (pieceAt (piecesOf s) i))
+      go : (b : Bool) → twinOf s (tableOf s z) (itemTable ds y) i ≡ b → (b || not (eqb (language (ownName (pieceAt (piecesOf s) i))) 0)) ≡ isDoubled (piecesOf s) (ownName (pieceAt (piecesOf s) i))
       go true e =
           let w = any-found (another (share s (tableOf s z) (itemTable ds y)) i) 0 (recordsIn (itemTable ds y)) e in
           let k = w .0 in
@@ -163,7 +165,7 @@ module _ (s : List ℕ) (z y : ℕ) (ds : List Done) (cuts : piecesDone ds ≡ p
 
   module _ (cs : List Done) (v : ℕ) (also : piecesDone cs ≡ piecesOf s) where
     pub twins-doubled : (not (eqb (getD (twinsTable s (tableOf s z) (itemTable ds y) 1024) i 0) 0) || not (eqb (languageOf s (tableOf s z) (wordAt (itemTable cs v) i column.name)) 0))
-        ≡ doubled (piecesOf s) (ownName (pieceAt (piecesOf s) i))
+        ≡ isDoubled (piecesOf s) (ownName (pieceAt (piecesOf s) i))
     twins-doubled =
         ap₂ (λ (a b : ℕ). not (eqb a 0) || not (eqb b 0)) twin-word (language-at s z (wordAt (itemTable cs v) i column.name) ∙ ap language (name-element s z v cs also i c))
         ∙ ap (λ (b : Bool). b || not (eqb (language (ownName (pieceAt (piecesOf s) i))) 0)) (told (twinOf s (tableOf s z) (itemTable ds y) i))
@@ -207,7 +209,7 @@ module _ (ds cs : List Done) (y v : ℕ) (one : piecesDone ds ≡ piecesDone cs)
       go true e =
           let h = ltb-true j (length ds) e in
           name-at ds y j h
-          ∙ ap₂ (λ (ps : List Piece) (p : Piece). nameOf (total (take j ps)) (pieceClass (kinds p) .place)) one (same-piece j)
+          ∙ ap₂ (λ (ps : List Piece) (p : Piece). nameOf (total (take j ps)) (pieceClass (kindsInPiece p) .place)) one (same-piece j)
           ∙ sym (name-at cs v j (omega (arith, same-length)))
       go false e = let h = ltb-false j (length ds) e in word-past ds y j 3 h ∙ sym (word-past cs v j 3 (omega (arith, same-length)))
 

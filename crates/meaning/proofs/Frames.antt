@@ -18,14 +18,15 @@ use Rattle.element_reading.specs.Table.{cells}
 use Rattle.element_reading.proofs.TableLaws.{length-cells}
 use Rattle.pieces.specs.Classes as class
 use Rattle.pieces.specs.Classes.{isEither}
-use Rattle.pieces.specs.Kinds.{pieceClass, isName, isHeading, isClosing, endsAt, hasName, behindWord, claimClass, classAt}
+use Rattle.pieces.specs.Kinds.{pieceClass, isHeading, isClosing, endsAt, hasName, behindWord, claimClass, classAt}
+use Rattle.places.specs.Kinds.{isName}
 use Rattle.pieces.specs.Records.{nameOf, piecesIn}
 use Rattle.pieces.specs.Frames.{framed, unframed, lastFramed, framedFrom, frameOf}
 use Rattle.pieces.specs.declared.Frame.{Frame}
 use Rattle.records.specs.Frames.{nameAgrees, goodIn, frameGood}
-use Rattle.meaning.specs.Elements.{Element, Piece, at, kinds, elementsOf, piecesOf}
-use Rattle.meaning.specs.Sameness.{sameAs}
-use Rattle.meaning.specs.Names.{classOf}
+use Rattle.meaning.specs.Elements.{Element, Piece, at}
+use Rattle.meaning.specs.Pieces.{kindsInPiece, elementsOf, piecesOf, classOf}
+use Rattle.meaning.specs.Names.{sameAs}
 use Rattle.meaning.specs.Together.{pieceAt, GoodFrame, Agrees, namePlace}
 use Rattle.meaning.proofs.Tables.{kinds-of}
 use Rattle.meaning.proofs.Cutting.{kindsEach, cut-kinds, cut-joins, total, joinAll, at-piece, kinds-length}
@@ -49,11 +50,11 @@ ended name from (p ∷ []) zero e h = (go (eqb (classOf p) class.closing) refl h
     go true q k = eqb-true (classOf p) class.closing q
     go false q k = absurd (false≢true k)
 ended name from (p ∷ (q ∷ ps)) zero e h = absurd (omega arith)
-ended name from (p ∷ (q ∷ ps)) (suc n) e h = go (isEither (classOf p)) refl (λ k. ended name (from + length (kinds p)) (q ∷ ps) n (omega arith) k) h
+ended name from (p ∷ (q ∷ ps)) (suc n) e h = go (isEither (classOf p)) refl (λ k. ended name (from + length (kindsInPiece p)) (q ∷ ps) n (omega arith) k) h
   where
     go : (b : Bool) → isEither (classOf p) ≡ b
-        → (framedFrom name (from + length (kinds p)) (kindsEach (q ∷ ps)) .good ≡ true → (classOf (pieceAt (q ∷ ps) n) ≡ class.closing) × Others (q ∷ ps) n)
-        → cond b unframed (framedFrom name (from + length (kinds p)) (kindsEach (q ∷ ps))) .good ≡ true
+        → (framedFrom name (from + length (kindsInPiece p)) (kindsEach (q ∷ ps)) .good ≡ true → (classOf (pieceAt (q ∷ ps) n) ≡ class.closing) × Others (q ∷ ps) n)
+        → cond b unframed (framedFrom name (from + length (kindsInPiece p)) (kindsEach (q ∷ ps))) .good ≡ true
         → (classOf (pieceAt (q ∷ ps) n) ≡ class.closing) × Others (p ∷ (q ∷ ps)) (suc n)
     go true u again k = absurd (false≢true k)
     go false u again k = let r = again k in (r .0, each (r .1))
@@ -70,8 +71,8 @@ ends name from (p ∷ []) (suc n) e c o = absurd (omega arith)
 ends name from (p ∷ []) zero e c o = rw (eq-eqb (classOf p) class.closing c, add-zero from)
 ends name from (p ∷ (q ∷ ps)) zero e c o = absurd (omega arith)
 ends name from (p ∷ (q ∷ ps)) (suc n) e c o =
-    ap (λ (b : Bool). cond b unframed (framedFrom name (from + length (kinds p)) (kindsEach (q ∷ ps)))) (o 0 (omega arith))
-    ∙ ends name (from + length (kinds p)) (q ∷ ps) n (omega arith) c (λ i l. o (suc i) (omega arith))
+    ap (λ (b : Bool). cond b unframed (framedFrom name (from + length (kindsInPiece p)) (kindsEach (q ∷ ps)))) (o 0 (omega arith))
+    ∙ ends name (from + length (kindsInPiece p)) (q ∷ ps) n (omega arith) c (λ i l. o (suc i) (omega arith))
     ∙ ap (λ (k : ℕ). framed name (nameOf k (namePlace (pieceAt (q ∷ ps) n))))
     (ap (λ (k : ℕ). from + k + total (take n (q ∷ ps))) (kinds-length p) ∙ add-assoc from (length p) (total (take n (q ∷ ps))))
 
@@ -121,7 +122,7 @@ closing-place ks = go (isHeading ks) (isClosing ks) (hasName ks) refl
     go false false c e h = absurd (omega (arith, claim-class ks))
 
 empty-class : classOf [] ≡ 5
-unfolding kinds pieceClass isHeading isClosing endsAt hasName behindWord claimClass
+unfolding kindsInPiece pieceClass isHeading isClosing endsAt hasName behindWord claimClass
 empty-class = refl
 
 -- ---- the whole frame
@@ -157,18 +158,18 @@ module _ (s t : List ℕ) where
     last-one = omega arith
 
     abbrev rest : Frame
-    rest = framedFrom (nameOf 0 (namePlace p)) (length (kinds p)) (kindsEach (q ∷ ps))
+    rest = framedFrom (nameOf 0 (namePlace p)) (length (kindsInPiece p)) (kindsEach (q ∷ ps))
 
     rest-is : classOf (pieceAt all n) ≡ class.closing → Others (q ∷ ps) (length ps) → rest ≡ framed (nameOf 0 (namePlace p)) (nameOf (total (take n all)) (namePlace (pieceAt all n)))
     unfolding total
     rest-is c o =
-        ends (nameOf 0 (namePlace p)) (length (kinds p)) (q ∷ ps) (length ps) refl c o
+        ends (nameOf 0 (namePlace p)) (length (kindsInPiece p)) (q ∷ ps) (length ps) refl c o
         ∙ ap (λ (k : ℕ). framed (nameOf 0 (namePlace p)) (nameOf (k + total (take (length ps) (q ∷ ps))) (namePlace (pieceAt all n)))) (kinds-length p)
 
     headed : classOf p ≡ class.heading → goodIn s t rest ≡ true → GoodFrame all
     unfolding goodIn
     headed a g =
-        let r = ended (nameOf 0 (namePlace p)) (length (kinds p)) (q ∷ ps) (length ps) refl (good-of rest g) in
+        let r = ended (nameOf 0 (namePlace p)) (length (kindsInPiece p)) (q ∷ ps) (length ps) refl (good-of rest g) in
         let k = agree n refl (omega arith) a (r .0) .0 (subst (λ (f : Frame). goodIn s t f ≡ true) (rest-is (r .0) (r .1)) g) in
         record {
           first = a;
@@ -219,11 +220,11 @@ module _ (s : List ℕ) (z : ℕ) where
   unfolding piecesOf
   joined = cut-joins (elements s)
 
-  element-here : (j q : ℕ) → j < length ps → isName (getD (kinds (pieceAt ps j)) q 0) ≡ true → at (elements s) (total (take j ps) + q) ≡ at (pieceAt ps j) q
+  element-here : (j q : ℕ) → j < length ps → isName (getD (kindsInPiece (pieceAt ps j)) q 0) ≡ true → at (elements s) (total (take j ps) + q) ≡ at (pieceAt ps j) q
   element-here j q h g =
       sym (ap (λ (l : List Element). at l (total (take j ps) + q)) joined)
       ∙ ap (λ (qs : List Piece). at (joinAll qs) (total (take j ps) + q)) (split-at ps j [] h)
-      ∙ at-piece (take j ps) (pieceAt ps j) (drop (suc j) ps) q (omega (arith, long-enough (kinds (pieceAt ps j)) q g, kinds-length (pieceAt ps j)))
+      ∙ at-piece (take j ps) (pieceAt ps j) (drop (suc j) ps) q (omega (arith, long-enough (kindsInPiece (pieceAt ps j)) q g, kinds-length (pieceAt ps j)))
 
   module _ (n : ℕ) (e : length ps ≡ suc n) (a : classOf (pieceAt ps 0) ≡ class.heading) (b : classOf (pieceAt ps n) ≡ class.closing) where
     abbrev h : Piece
@@ -242,7 +243,7 @@ module _ (s : List ℕ) (z : ℕ) where
     head-name : at (elements s) hn ≡ at h (namePlace h)
     unfolding nameOf total
     head-name =
-        let q = heading-place (kinds h) a in
+        let q = heading-place (kindsInPiece h) a in
         ap (λ (k : ℕ). at (elements s) (nameOf 0 k)) (q .0) ∙ element-here 0 1 (omega arith) (q .1) ∙ ap (at h) (sym (q .0))
 
     last-place : eqb (namePlace c) 0 ≡ false → cn ≡ total (take n ps) + namePlace c
@@ -254,9 +255,9 @@ module _ (s : List ℕ) (z : ℕ) where
     last-none q = rw q
 
     last-name : eqb (namePlace c) 0 ≡ false → at (elements s) cn ≡ at c (namePlace c)
-    last-name q = go (closing-place (kinds c) b)
+    last-name q = go (closing-place (kindsInPiece c) b)
       where
-        go : (namePlace c ≡ 0) ⊎ (isName (getD (kinds c) (namePlace c) 0) ≡ true) → at (elements s) cn ≡ at c (namePlace c)
+        go : (namePlace c ≡ 0) ⊎ (isName (getD (kindsInPiece c) (namePlace c) 0) ≡ true) → at (elements s) cn ≡ at c (namePlace c)
         go (inl k) = absurd (eqb-false (namePlace c) 0 q k)
         go (inr k) = ap (at (elements s)) (last-place q) ∙ element-here n (namePlace c) (omega arith) k
 

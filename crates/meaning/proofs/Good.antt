@@ -4,12 +4,13 @@ use mathlib.Core.Path.{_≡_}
 use mathlib.Core.Bool.{true}
 use mathlib.Core.List.{List, [], _∷_}
 use Rattle.records.specs.Records.{isClaim}
-use Rattle.values.specs.Words.{leanOf}
+use Rattle.values.specs.Values.{leanOf}
 use Rattle.values.specs.declared.Value.the-variants.{Without}
 use Rattle.marks.proofs.Laws.{Fits}
 use Rattle.states.specs.States as state
 use Rattle.meaning.specs.Elements.{Piece}
-use Rattle.meaning.specs.Names.{classOf, ownDoubled, Done}
+use Rattle.meaning.specs.Names.{ownDoubled, Done}
+use Rattle.meaning.specs.Pieces.{classOf}
 
 -- of one piece
 abbrev pub GoodDone : List Piece → Done → Type 0

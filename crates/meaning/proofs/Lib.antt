@@ -9,6 +9,7 @@ pub mod Places
 pub mod Values
 pub mod Stages
 pub mod Words
+pub mod Begun
 pub mod Claims
 pub mod Sameness
 pub mod Doubles

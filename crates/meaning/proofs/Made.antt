@@ -25,7 +25,7 @@ use Rattle.values.specs.declared.Value.{Value}
 use Rattle.values.specs.declared.Value.the-variants.{Number, Truth, Range, Truths, Without}
 use Rattle.integers.specs.declared.Kind.the-variants as K
 use Rattle.meaning.specs.Elements.{Element, Piece}
-use Rattle.meaning.specs.Forms.{Expression, Is, Item, constant, subtype, ranged}
+use Rattle.meaning.specs.Forms.{Expression, Is, ItemForm, constant, subtype, ranged}
 use Rattle.meaning.specs.States.{Kind, integer, truth, neither, expressionKind, Meets, markOf, Least, NoneMet}
 use Rattle.meaning.specs.States.{ItemMeets, mark-without, number-as-type, truth-as-type, value, truth-in-range, integer-in-boolean, range-on-boolean, first, first-truth, second, second-truth}
 use Rattle.meaning.specs.Values.{Folds, Gives, value-stops, first-stops, second-stops, number-held, truth-held, same-range, boolean, upward, downward}
@@ -36,7 +36,7 @@ use Rattle.meaning.proofs.Folding.{OfKind, folds-sound, folds-complete,
 use Rattle.meaning.proofs.Later.{Later, Ends, valued-fit, constant-ends, subtype-ends, ranged-ends}
 
 -- an item and what the code makes of it
-pub record Made (used : Element → Value) (i : Item) (v : Value) : Type 0 where
+pub record Made (used : Element → Value) (i : ItemForm) (v : Value) : Type 0 where
   pub sort : Sort
   pub kind : Kind
   pub exact : Exact sort kind (ItemMeets used i)
@@ -74,7 +74,7 @@ settled (S.Of K.Truth) k M f h n = refl
 settled (S.Wrong s) k M f h n = absurd (n s (h .0 .0))
 
 module _ (used : Element → Value) where
-  mark-met : (i : Item) (s : ℕ) (v : Value) → used (markOf i) ≡ v → Among s (markStates v) → ItemMeets used i s
+  mark-met : (i : ItemForm) (s : ℕ) (v : Value) → used (markOf i) ≡ v → Among s (markStates v) → ItemMeets used i s
   mark-met i s (Number z) e (inl q) = subst (ItemMeets used i) (sym q) (number-as-type e)
   mark-met i s (Number z) e (inr h) = absurd h
   mark-met i s (Truth t) e (inl q) = subst (ItemMeets used i) (sym q) (truth-as-type e)
@@ -210,7 +210,7 @@ module _ (used : Element → Value) where
     -- ---- subtype N is mark range 10
 
     module _ (m : Element) (x y : Expression) (down : Bool) where
-      abbrev It : Item
+      abbrev It : ItemForm
       It = ranged m x down y
 
       abbrev Bounds : ℕ → Type 0

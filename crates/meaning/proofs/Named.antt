@@ -8,16 +8,17 @@ use borrow.Author.Tests.{le-leb, eqb-true, eqb-false}
 use lib.Dec.{eqb}
 use lib.ListN.{length, getD, take, drop, replicate, length-drop}
 use lib.Seq.{drop-cons, length-take-le}
-use Rattle.same_names.specs.Alike.{counts, agree, spelledSame, sameName}
+use Rattle.same_names.specs.Alike.{agree, spelledSame, sameName}
 use Rattle.places.specs.Places.{cellAt}
-use Rattle.same_names.specs.Spelling.{spelt}
+use Rattle.same_names.specs.Spelling.{spelt, counts}
 use Rattle.same_names.proofs.Spelling.{unlike}
 use Rattle.element_reading.specs.Rows.{rowsOf}
 use Rattle.element_reading.specs.Table.{cells}
 use Rattle.operands.specs.code.Operands.{bytesAt}
 use Rattle.element_reading.proofs.Promises.{stand-in-order}
-use Rattle.meaning.specs.Elements.{elementsOf, at}
-use Rattle.meaning.specs.Sameness.{sameAs}
+use Rattle.meaning.specs.Elements.{at}
+use Rattle.meaning.specs.Pieces.{elementsOf}
+use Rattle.meaning.specs.Names.{sameAs}
 use Rattle.meaning.proofs.Tables.{elementAt, cell-word, element-at, row-within}
 
 agree-bytes : (basic : Bool) (s : List ℕ) (x y n : ℕ) → x + n ≤ length s → y + n ≤ length s → agree basic s x y n ≡ spelt basic (take n (drop x s)) (take n (drop y s))

@@ -16,11 +16,12 @@ use Rattle.tree.proofs.Items.{Rows, constant-rows, subtype-rows, other-rows}
 use Rattle.values.specs.Words.{stateOf}
 use Rattle.values.specs.declared.Value.{Value}
 use Rattle.values.specs.declared.Value.the-variants.{Number, Truth, Range, Truths, Without}
-use Rattle.meaning.specs.Elements.{Piece, at, kinds}
-use Rattle.meaning.specs.Names.{classOf, ownDoubled, Done, useOf}
-use Rattle.meaning.specs.Forms.{Item, HasForm, is-constant, is-subtype, is-ranged}
+use Rattle.meaning.specs.Elements.{Piece, at}
+use Rattle.meaning.specs.Pieces.{kindsInPiece, classOf}
+use Rattle.meaning.specs.Names.{ownDoubled, Done, useOf}
+use Rattle.meaning.specs.Forms.{ItemForm, HasForm, is-constant, is-subtype, is-ranged}
 use Rattle.meaning.specs.code.PieceValues.{formed, unlessDoubled, valueOf}
-use Rattle.meaning.specs.Forms.{Fits}
+use Rattle.meaning.specs.Items.{FitsAForm}
 use Rattle.meaning.specs.code.Promises.{BrokenExactly, DoubledExactly, LaterElse, StatesKnown, AllCounted}
 use Rattle.marks.proofs.Sound.{Between}
 use Rattle.meaning.proofs.States.{Late, marked-late}
@@ -31,55 +32,55 @@ use Rattle.meaning.proofs.Shaped.{constant-form, subtype-form}
 
 -- ---- the rows of a piece
 
-pub first-kind : (p : Piece) → getD (kinds p) 0 0 ≡ at p 0 .kind
-unfolding kinds at
+pub first-kind : (p : Piece) → getD (kindsInPiece p) 0 0 ≡ at p 0 .kind
+unfolding kindsInPiece at
 first-kind [] = refl
 first-kind (x ∷ p) = refl
 
 -- at least two rows
 abbrev pub HasRows : Piece → Type 0
-HasRows p = (item : Row) × ((mark : Row) × ((m : List Row) × (rowsOfPiece (kinds p) ≡ item ∷ (mark ∷ m))))
+HasRows p = (item : Row) × ((mark : Row) × ((m : List Row) × (rowsOfPiece (kindsInPiece p) ≡ item ∷ (mark ∷ m))))
 
 -- no form fits and there are no rows, or one fits and there are
 abbrev pub Ways : Piece → Type 0
-Ways p = ((rowsOfPiece (kinds p) ≡ []) × (Fits p → ⊥)) ⊎ (Fits p × HasRows p)
+Ways p = ((rowsOfPiece (kindsInPiece p) ≡ []) × (FitsAForm p → ⊥)) ⊎ (FitsAForm p × HasRows p)
 
-pub form-class : (p : Piece) (i : Item) → HasForm p i → ((at p 0 .kind ≡ 53) × (classOf p ≡ 3)) ⊎ ((at p 0 .kind ≡ 129) × (classOf p ≡ 4))
+pub form-class : (p : Piece) (i : ItemForm) → HasForm p i → ((at p 0 .kind ≡ 53) × (classOf p ≡ 3)) ⊎ ((at p 0 .kind ≡ 129) × (classOf p ≡ 4))
 form-class p i (is-constant t x) = let b = constant-tree-begins p _ t in inl (b .first, b .classed)
 form-class p i (is-subtype t) = let b = subtype-tree-begins p _ t in inr (b .first, b .classed)
 form-class p i (is-ranged t g x y) = let b = subtype-tree-begins p _ t in inr (b .first, b .classed)
 
 module _ (p : Piece) where
-  constant-ways : getD (kinds p) 0 0 ≡ 53 → Rows constant 4 (kinds p) → Ways p
+  constant-ways : getD (kindsInPiece p) 0 0 ≡ 53 → Rows constant 4 (kindsInPiece p) → Ways p
   constant-ways e (inl h) = inl (h .0, λ f. none (f .0) (f .1))
     where
-      none : (i : Item) → HasForm p i → ⊥
+      none : (i : ItemForm) → HasForm p i → ⊥
       none i (is-constant t x) = let r = constant-reading p _ .0 t in h .1 unlike (r .0) (r .1 .0)
       none i (is-subtype t) = absurd (omega (arith, e, first-kind p, subtype-tree-begins p _ t .first))
       none i (is-ranged t g x y) = absurd (omega (arith, e, first-kind p, subtype-tree-begins p _ t .first))
   constant-ways e (inr (m, (q, (s, (r, t))))) = inr (constant-form p s r, (_, (_, (m, q))))
 
-  subtype-ways : getD (kinds p) 0 0 ≡ 129 → Rows subtype 5 (kinds p) → Ways p
+  subtype-ways : getD (kindsInPiece p) 0 0 ≡ 129 → Rows subtype 5 (kindsInPiece p) → Ways p
   subtype-ways e (inl h) = inl (h .0, λ f. none (f .0) (f .1))
     where
-      none : (i : Item) → HasForm p i → ⊥
+      none : (i : ItemForm) → HasForm p i → ⊥
       none i (is-constant t x) = absurd (omega (arith, e, first-kind p, constant-tree-begins p _ t .first))
       none i (is-subtype t) = let r = subtype-reading p _ .0 t in h .1 unlike (r .0) (r .1 .0)
       none i (is-ranged t g x y) = let r = subtype-reading p _ .0 t in h .1 unlike (r .0) (r .1 .0)
   subtype-ways e (inr (m, (q, (s, (r, t))))) = inr (subtype-form p s r, (_, (_, (m, q))))
 
   pub ways : Ways p
-  ways = go (eqb (getD (kinds p) 0 0) 53) (eqb (getD (kinds p) 0 0) 129) refl refl
+  ways = go (eqb (getD (kindsInPiece p) 0 0) 53) (eqb (getD (kindsInPiece p) 0 0) 129) refl refl
     where
-      go : (a b : Bool) → eqb (getD (kinds p) 0 0) 53 ≡ a → eqb (getD (kinds p) 0 0) 129 ≡ b → Ways p
-      go true b x y = let e = eqb-true (getD (kinds p) 0 0) 53 x in constant-ways e (constant-rows (kinds p) e)
-      go false true x y = let e = eqb-true (getD (kinds p) 0 0) 129 y in subtype-ways e (subtype-rows (kinds p) e)
+      go : (a b : Bool) → eqb (getD (kindsInPiece p) 0 0) 53 ≡ a → eqb (getD (kindsInPiece p) 0 0) 129 ≡ b → Ways p
+      go true b x y = let e = eqb-true (getD (kindsInPiece p) 0 0) 53 x in constant-ways e (constant-rows (kindsInPiece p) e)
+      go false true x y = let e = eqb-true (getD (kindsInPiece p) 0 0) 129 y in subtype-ways e (subtype-rows (kindsInPiece p) e)
       go false false x y =
-          inl (other-rows (kinds p) (eqb-false (getD (kinds p) 0 0) 53 x) (eqb-false (getD (kinds p) 0 0) 129 y), λ f. none (form-class p (f .0) (f .1)))
+          inl (other-rows (kindsInPiece p) (eqb-false (getD (kindsInPiece p) 0 0) 53 x) (eqb-false (getD (kindsInPiece p) 0 0) 129 y), λ f. none (form-class p (f .0) (f .1)))
         where
           none : ((at p 0 .kind ≡ 53) × (classOf p ≡ 3)) ⊎ ((at p 0 .kind ≡ 129) × (classOf p ≡ 4)) → ⊥
-          none (inl f) = eqb-false (getD (kinds p) 0 0) 53 x (first-kind p ∙ f .0)
-          none (inr f) = eqb-false (getD (kinds p) 0 0) 129 y (first-kind p ∙ f .0)
+          none (inl f) = eqb-false (getD (kindsInPiece p) 0 0) 53 x (first-kind p ∙ f .0)
+          none (inr f) = eqb-false (getD (kindsInPiece p) 0 0) 129 y (first-kind p ∙ f .0)
 
 -- ---- what a piece comes to
 
@@ -88,7 +89,7 @@ same-state : (v : Value) (s t : ℕ) → v ≡ Without s → v ≡ Without t →
 same-state v s t e f = ap stateOf (sym e ∙ f)
 
 module _ (all : List Piece) (above : List Done) (p : Piece) where
-  pub broken-value : rowsOfPiece (kinds p) ≡ [] → valueOf all above p ≡ Without 1
+  pub broken-value : rowsOfPiece (kindsInPiece p) ≡ [] → valueOf all above p ≡ Without 1
   unfolding valueOf
   broken-value e = ap (λ (rs : List Row). unlessDoubled (ownDoubled all p) rs (formed p (useOf all above) rs)) e
 
@@ -104,7 +105,7 @@ module _ (all : List Piece) (above : List Done) (p : Piece) where
   later-state : (s : ℕ) → HasRows p → ownDoubled all p ≡ false → valueOf all above p ≡ Without s → Between 10 s
   later-state s h d e = subst Late e (later-value h d)
 
-  broken-both : Ways p → ((valueOf all above p ≡ Without 1) → Fits p → ⊥) × ((Fits p → ⊥) → valueOf all above p ≡ Without 1)
+  broken-both : Ways p → ((valueOf all above p ≡ Without 1) → FitsAForm p → ⊥) × ((FitsAForm p → ⊥) → valueOf all above p ≡ Without 1)
   broken-both (inl h) = (λ e. h .1, λ n. broken-value (h .0))
   broken-both (inr (f, h)) = (λ e g. go (ownDoubled all p) refl e, λ n. absurd (n f))
     where
@@ -112,10 +113,10 @@ module _ (all : List Piece) (above : List Done) (p : Piece) where
       go true d e = let z = same-state (valueOf all above p) 1 2 e (doubled-value h d) in omega arith
       go false d e = let z = later-state 1 h d e .0 in omega arith
 
-  doubled-both : Ways p → (valueOf all above p ≡ Without 2 → Fits p × (ownDoubled all p ≡ true)) × (Fits p × (ownDoubled all p ≡ true) → valueOf all above p ≡ Without 2)
+  doubled-both : Ways p → (valueOf all above p ≡ Without 2 → FitsAForm p × (ownDoubled all p ≡ true)) × (FitsAForm p × (ownDoubled all p ≡ true) → valueOf all above p ≡ Without 2)
   doubled-both (inl h) = (there, λ g. absurd (h .1 (g .0)))
     where
-      there : valueOf all above p ≡ Without 2 → Fits p × (ownDoubled all p ≡ true)
+      there : valueOf all above p ≡ Without 2 → FitsAForm p × (ownDoubled all p ≡ true)
       there e = let z = same-state (valueOf all above p) 1 2 (broken-value (h .0)) e in absurd (omega arith)
   doubled-both (inr (f, h)) = (λ e. (f, go (ownDoubled all p) refl e), λ g. doubled-value h (g .1))
     where
@@ -123,7 +124,7 @@ module _ (all : List Piece) (above : List Done) (p : Piece) where
       go true d e = refl
       go false d e = let z = later-state 2 h d e .0 in absurd (omega arith)
 
-  later-by : (s : ℕ) → Ways p → Fits p → ownDoubled all p ≡ false → valueOf all above p ≡ Without s → Between 10 s
+  later-by : (s : ℕ) → Ways p → FitsAForm p → ownDoubled all p ≡ false → valueOf all above p ≡ Without s → Between 10 s
   later-by s (inl h) f d e = absurd (h .1 f)
   later-by s (inr (g, h)) f d e = later-state s h d e
 

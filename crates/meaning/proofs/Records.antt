@@ -17,9 +17,10 @@ use Rattle.values.specs.declared.Value.the-variants.{Without}
 use Rattle.values.specs.Words.{valueWords}
 use Rattle.pieces.specs.Columns.{recordWords}
 use Rattle.pieces.specs.Columns as column
-use Rattle.meaning.specs.Elements.{Piece, kinds}
+use Rattle.meaning.specs.Elements.{Piece}
+use Rattle.meaning.specs.Pieces.{kindsInPiece, classOf}
 use Rattle.meaning.proofs.Cutting.{kindsEach, total, kinds-length}
-use Rattle.meaning.specs.Names.{Done, classOf}
+use Rattle.meaning.specs.Names.{Done}
 use Rattle.meaning.specs.Records.{itemValueWords, recordOf, recordsFrom}
 use Rattle.laws.proofs.Laws.{zeros-at}
 
@@ -56,7 +57,7 @@ words-four false v = refl
 
 pub record-length : (from : ℕ) (d : Done) → length (recordOf from d) ≡ recordWords
 unfolding recordOf
-record-length from d = omega (arith, words-four (isItem (pieceClass (kinds (d .piece)) .class)) (d .value))
+record-length from d = omega (arith, words-four (isItem (pieceClass (kindsInPiece (d .piece)) .class)) (d .value))
 
 pub records-length : (from : ℕ) (ds : List Done) → length (recordsFrom from ds) ≡ recordWords * length ds
 unfolding recordsFrom
@@ -120,8 +121,8 @@ pub marked-records : (from : ℕ) (ps : List Piece) → marks.pendingRecords fro
 unfolding marks.pendingRecords marks.pendingRecord recordsFrom recordOf pendings kindsEach
 marked-records from [] = refl
 marked-records from (p ∷ ps) =
-    ap (λ (n : ℕ). (pieceClass (kinds p) .class ∷ from ∷ n ∷ marks.nameOf from (pieceClass (kinds p) .place) ∷ 0 ∷ 0 ∷ 0 ∷ 0 ∷ []) ++ marks.pendingRecords (from + n) (kindsEach ps)) (kinds-length p)
-    ∙ ap₂ (λ (a b : List ℕ). (pieceClass (kinds p) .class ∷ from ∷ length p ∷ marks.nameOf from (pieceClass (kinds p) .place) ∷ a) ++ b) (waits (isItem (pieceClass (kinds p) .class))) (marked-records (from + length p) ps)
+    ap (λ (n : ℕ). (pieceClass (kindsInPiece p) .class ∷ from ∷ n ∷ marks.nameOf from (pieceClass (kindsInPiece p) .place) ∷ 0 ∷ 0 ∷ 0 ∷ 0 ∷ []) ++ marks.pendingRecords (from + n) (kindsEach ps)) (kinds-length p)
+    ∙ ap₂ (λ (a b : List ℕ). (pieceClass (kindsInPiece p) .class ∷ from ∷ length p ∷ marks.nameOf from (pieceClass (kindsInPiece p) .place) ∷ a) ++ b) (waits (isItem (pieceClass (kindsInPiece p) .class))) (marked-records (from + length p) ps)
   where
     waits : (b : Bool) → _≡_ {A = List ℕ} (0 ∷ 0 ∷ 0 ∷ 0 ∷ []) (itemValueWords b (Without 0))
     waits true = refl
@@ -140,8 +141,8 @@ module _ (ds es : List Done) (p : Piece) (v : Value) (rest : List ℕ) where
       ∙ sym (split ds es done rest)
     where
       same : (b : Bool) → b ≡ false
-          → _≡_ {A = List ℕ} (classOf p ∷ (0 + total (piecesDone ds)) ∷ length p ∷ marks.nameOf (0 + total (piecesDone ds)) (pieceClass (kinds p) .place) ∷ itemValueWords b (Without 0))
-          (classOf p ∷ (0 + total (piecesDone ds)) ∷ length p ∷ marks.nameOf (0 + total (piecesDone ds)) (pieceClass (kinds p) .place) ∷ itemValueWords b v)
+          → _≡_ {A = List ℕ} (classOf p ∷ (0 + total (piecesDone ds)) ∷ length p ∷ marks.nameOf (0 + total (piecesDone ds)) (pieceClass (kindsInPiece p) .place) ∷ itemValueWords b (Without 0))
+          (classOf p ∷ (0 + total (piecesDone ds)) ∷ length p ∷ marks.nameOf (0 + total (piecesDone ds)) (pieceClass (kindsInPiece p) .place) ∷ itemValueWords b v)
       same true e = let z : _≡_ {A = ℕ} 0 1 = cc in absurd (omega arith)
       same false e = refl
 
@@ -164,7 +165,7 @@ module _ (ds es : List Done) (p : Piece) (v : Value) (rest : List ℕ) where
       ∙ sym (split ds es done rest)
     where
       filled : (b : Bool) → b ≡ true → (l : List ℕ)
-          → _≡_ {A = List ℕ} (sets ((classOf p ∷ (0 + total (piecesDone ds)) ∷ length p ∷ marks.nameOf (0 + total (piecesDone ds)) (pieceClass (kinds p) .place) ∷ itemValueWords b (Without 0)) ++ l) 4 (valueWords v))
-          ((classOf p ∷ (0 + total (piecesDone ds)) ∷ length p ∷ marks.nameOf (0 + total (piecesDone ds)) (pieceClass (kinds p) .place) ∷ itemValueWords b v) ++ l)
+          → _≡_ {A = List ℕ} (sets ((classOf p ∷ (0 + total (piecesDone ds)) ∷ length p ∷ marks.nameOf (0 + total (piecesDone ds)) (pieceClass (kindsInPiece p) .place) ∷ itemValueWords b (Without 0)) ++ l) 4 (valueWords v))
+          ((classOf p ∷ (0 + total (piecesDone ds)) ∷ length p ∷ marks.nameOf (0 + total (piecesDone ds)) (pieceClass (kindsInPiece p) .place) ∷ itemValueWords b v) ++ l)
       filled true e l = refl
       filled false e l = let z : _≡_ {A = ℕ} 0 1 = cc in absurd (omega arith)

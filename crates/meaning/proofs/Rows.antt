@@ -12,7 +12,7 @@ use Rattle.laws.proofs.Laws.{clash}
 use Rattle.grammars.specs.code.Actions.{End, read, bad, stopped, spent}
 use Rattle.forms.specs.code.Names.{constant, subtype}
 use Rattle.forms.specs.Tree.{Row}
-use Rattle.forms.specs.code.Frames.{State, Refusal, rowsOf}
+use Rattle.forms.specs.code.Frames.{State, Refusal, stateRows}
 use Rattle.forms.specs.code.Reading.{readingFrom}
 use Rattle.forms.proofs.Items.{reads-items}
 use Rattle.forms.proofs.Positive.{Positive, all-positive, top-positive}
@@ -21,18 +21,18 @@ use Rattle.forms.specs.Words.{wordsOf}
 use Rattle.tree.specs.code.PieceRows.{unlike, readingBy, readingOfPiece, rowsRead, rowsOfPiece, pieceWords}
 use Rattle.tree.proofs.Pieces.{rows-few}
 use Rattle.items.specs.code.Items.{rowsUntil}
-use Rattle.forms.specs.Words.{rowsIn}
+use Rattle.forms.specs.Words.{treeRowsIn}
 
 -- ---- no row has form 0
 
 module _ (w : List ℕ) (s : State) where
-  read-constant : readingFrom constant unlike w ≡ read s → Positive (rowsOf s)
+  read-constant : readingFrom constant unlike w ≡ read s → Positive (stateRows s)
   read-constant e = top-positive (s .frames) (all-positive unlike (reads-items constant (inl refl) unlike w s .0 e) tt (tt, tt))
 
-  read-subtype : readingFrom subtype unlike w ≡ read s → Positive (rowsOf s)
+  read-subtype : readingFrom subtype unlike w ≡ read s → Positive (stateRows s)
   read-subtype e = top-positive (s .frames) (all-positive unlike (reads-items subtype (inr refl) unlike w s .0 e) tt (tt, tt))
 
-  read-positive : (a b : Bool) → cond a (readingFrom constant unlike w) (cond b (readingFrom subtype unlike w) (bad 0)) ≡ read s → Positive (rowsOf s)
+  read-positive : (a b : Bool) → cond a (readingFrom constant unlike w) (cond b (readingFrom subtype unlike w) (bad 0)) ≡ read s → Positive (stateRows s)
   read-positive true b e = read-constant e
   read-positive false true e = read-subtype e
   read-positive false false e = let z : _≡_ {A = ℕ} 0 1 = cc in clash z
@@ -49,8 +49,8 @@ rows-positive k = go (readingOfPiece k) refl
 
 -- ---- words back
 
-pub rows-back : (rs : List Row) (l : List ℕ) → rowsIn (length rs) (wordsOf rs ++ l) ≡ rs
-unfolding rowsIn
+pub rows-back : (rs : List Row) (l : List ℕ) → treeRowsIn (length rs) (wordsOf rs ++ l) ≡ rs
+unfolding treeRowsIn
 rows-back [] l = refl
 rows-back (r ∷ rs) l = ap (λ (qs : List Row). r ∷ qs) (rows-back rs l)
 

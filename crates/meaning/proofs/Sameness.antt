@@ -6,16 +6,15 @@ use Prim.Native.Nat.{ℕ, zero, suc, _+_}
 use borrow.Author.Tests.{eq-eqb, eqb-true}
 use lib.Dec.{eqb}
 use Rattle.laws.proofs.Laws.{chosen, both-left, both-right}
-use Rattle.same_names.specs.Alike.{counts, byKind}
-use Rattle.same_names.specs.Spelling.{spelt}
-use Rattle.pieces.specs.Kinds.{isName}
+use Rattle.same_names.specs.Spelling.{spelt, counts, byKind}
+use Rattle.places.specs.Kinds.{isName}
 use Rattle.records.specs.Records.{isClaim}
-use Rattle.records.specs.Tallies.{oneIf}
+use Rattle.records.specs.Counting.{oneIf}
 use Rattle.names.specs.Language.{languageNames, languageNumber}
 use Rattle.meaning.proofs.Claimed.{claims-one, claims-class, claims-name, claims-by}
 use Rattle.meaning.specs.Elements.{Element, Piece}
-use Rattle.meaning.specs.Sameness.{sameAs}
-use Rattle.meaning.specs.Names.{classOf, ownName, claims, language, claimsIn, doubled}
+use Rattle.meaning.specs.Names.{ownName, claims, language, claimsIn, isDoubled, sameAs}
+use Rattle.meaning.specs.Pieces.{classOf}
 use Rattle.meaning.proofs.Claims.{claim-name}
 
 -- two tests that give each other are one
@@ -160,5 +159,5 @@ module _ (x : Element) (p : Piece) (h : claims x p ≡ true) where
   pub claimed-count : (ps : List Piece) → claimsIn x ps ≡ claimsIn (ownName p) ps
   claimed-count ps = sym (claims-in-same (ownName p) x ps claimed-name)
 
-  pub claimed-doubled : (ps : List Piece) → doubled ps x ≡ doubled ps (ownName p)
+  pub claimed-doubled : (ps : List Piece) → isDoubled ps x ≡ isDoubled ps (ownName p)
   claimed-doubled ps = rw (claimed-count ps)

@@ -14,32 +14,33 @@ use Rattle.grammars.proofs.Theory.{or-cases, and-left, and-right}
 use Rattle.forms.specs.code.Kinds.{numberOf, word-range, word-to, word-downto, semicolon}
 use Rattle.forms.specs.code.Names as form
 use Rattle.forms.specs.Spellings.{isIn}
-use Rattle.forms.specs.Lines.{Item, at, row, sort, sortOf, telling, operates, branches, Pattern, nothing, one, both, opt, seq, Fits, none, this, bare, inside, then, left, right, operand, line, rows, elements, itemsIn, ownItems, IsAmong, operatorAt, RowsFit}
-use Rattle.forms.specs.code.Shapes.{e}
+use Rattle.forms.specs.Lines.{OwnItem, at, row, sort, sortOf, telling, operates, isBranch, Pattern, nothing, one, both, opt, seq, Fits, none, this, bare, inside, then, left, right, operand, formLine, rows, elements, itemsIn, ownItems, IsAmong, operatorAt, RowsFit}
+use Rattle.forms.specs.code.Shapes.{symbol}
 use Rattle.forms.specs.Tree.{Row}
-use Rattle.forms.specs.code.Frames.{State, rowsOf}
+use Rattle.forms.specs.code.Frames.{State, stateRows}
 use Rattle.forms.specs.code.ItemReading.{ItemReading, itemRow, markRow}
 use Rattle.forms.proofs.Shapes.{begin-with-mark}
 use Rattle.forms.proofs.Fitting.{constant-rows-fit, subtype-rows-fit}
 use Rattle.form_table.proofs.Tables.{terminal-small}
 use Rattle.forms.specs.Tree.{behind}
-use Rattle.meaning.specs.Elements.{Piece, kinds}
+use Rattle.meaning.specs.Elements.{Piece}
+use Rattle.meaning.specs.Pieces.{kindsInPiece}
 use Rattle.meaning.specs.Elements as worded
 use Rattle.tree.specs.code.Answers.{terminalsIn}
 use Rattle.tree.specs.code.PieceRows.{unlike}
-use Rattle.meaning.specs.Forms.{Item as Item′, constant, subtype, ranged, Goes, to, downto, HasForm, is-constant, is-subtype, is-ranged}
+use Rattle.meaning.specs.Forms.{ItemForm as Item′, constant, subtype, ranged, Goes, to, downto, HasForm, is-constant, is-subtype, is-ranged}
 use Rattle.meaning.specs.Forms.{Expression, name, literal, unfolded, unary, binary, Is, is-name, is-called, is-attribute, is-literal, is-unary, is-binary}
 use Rattle.meaning.proofs.Readings.{to-forms, constant-reading, subtype-reading}
 use Rattle.meaning.proofs.Least.{behind-less}
 
 -- ---- the children among items, by their sorts
 
-abbrev children : List Item → List ℕ
+abbrev children : List OwnItem → List ℕ
 children [] = []
 children (at i ∷ x) = children x
 children (row s ∷ x) = s ∷ children x
 
-children-append : (x y : List Item) → children (x ++ y) ≡ children x ++ children y
+children-append : (x y : List OwnItem) → children (x ++ y) ≡ children x ++ children y
 children-append [] y = refl
 children-append (at i ∷ x) y = children-append x y
 children-append (row s ∷ x) y = ap (λ (l : List ℕ). s ∷ l) (children-append x y)
@@ -76,66 +77,66 @@ module _ (w : List ℕ) where
       (or-cases (eqb s x) (isIn s S) i)
 
   -- one child, an expression
-  abbrev OneChild : List Item → Type 0
+  abbrev OneChild : List OwnItem → Type 0
   OneChild x = (s : ℕ) × ((children x ≡ s ∷ []) × T (isExpression s))
 
-  one-operand : {q : ℕ} {S : List ℕ} {x : List Item} → Fits w q (operand S) x → T (every S) → OneChild x
+  one-operand : {q : ℕ} {S : List ℕ} {x : List OwnItem} → Fits w q (operand S) x → T (every S) → OneChild x
   one-operand {S = S} (bare {s = s} i) h = (s, (refl, every-at S h s i))
   one-operand (inside {x = x} i j a f b e) h =
       let o = one-operand f tt in
       (o .0, (ap children e ∙ children-append x (at j ∷ []) ∙ ap (λ (l : List ℕ). l ++ []) (o .1 .0), o .1 .1))
 
   -- an element, or the operator, and then the rest: the children are those of the rest
-  abbrev Rest : ℕ → Pattern → List Item → Type 0
-  Rest q P x = (y : List Item) × (Fits w q P y × (children x ≡ children y))
+  abbrev Rest : ℕ → Pattern → List OwnItem → Type 0
+  Rest q P x = (y : List OwnItem) × (Fits w q P y × (children x ≡ children y))
 
-  behind-element : {q : ℕ} {K : List ℕ} {P : Pattern} {x : List Item} → Fits w q (both (one 0 K) P) x → Rest q P x
+  behind-element : {q : ℕ} {K : List ℕ} {P : Pattern} {x : List OwnItem} → Fits w q (both (one 0 K) P) x → Rest q P x
   behind-element (then {y = y} (this {x = at i} a b) f e) = (y, (f, ap children e))
   behind-element (then (this {x = row s} a b) f e) = absurd a
 
-  behind-operator : {q : ℕ} {K : List ℕ} {P : Pattern} {x : List Item} → Fits w q (both (one 1 K) P) x → Rest q P x
+  behind-operator : {q : ℕ} {K : List ℕ} {P : Pattern} {x : List OwnItem} → Fits w q (both (one 1 K) P) x → Rest q P x
   behind-operator (then {y = y} (this {x = at i} a b) f e) = (y, (f, ap children e))
   behind-operator (then (this {x = row s} a b) f e) = absurd a
 
   -- a child and then the rest
-  abbrev More : (ℕ → Type 0) → ℕ → Pattern → List Item → Type 0
-  More Q q P x = (s : ℕ) × (Q s × ((y : List Item) × (Fits w q P y × (children x ≡ s ∷ children y))))
+  abbrev More : (ℕ → Type 0) → ℕ → Pattern → List OwnItem → Type 0
+  More Q q P x = (s : ℕ) × (Q s × ((y : List OwnItem) × (Fits w q P y × (children x ≡ s ∷ children y))))
 
-  behind-row : {q : ℕ} {K : List ℕ} {P : Pattern} {x : List Item} → Fits w q (both (one 2 K) P) x → More (λ s. T (isIn s K)) q P x
+  behind-row : {q : ℕ} {K : List ℕ} {P : Pattern} {x : List OwnItem} → Fits w q (both (one 2 K) P) x → More (λ s. T (isIn s K)) q P x
   behind-row (then (this {x = at i} a b) f e) = absurd a
   behind-row (then {y = y} (this {x = row s} a b) f e) = (s, (b, (y, (f, ap children e))))
 
-  behind-operand : {q : ℕ} {S : List ℕ} {P : Pattern} {x : List Item} → Fits w q (both (operand S) P) x → T (every S) → More (λ s. T (isExpression s)) q P x
+  behind-operand : {q : ℕ} {S : List ℕ} {P : Pattern} {x : List OwnItem} → Fits w q (both (operand S) P) x → T (every S) → More (λ s. T (isExpression s)) q P x
   behind-operand (then {x = x} {y = y} a f e) h =
       let o = one-operand a h in
       (o .0, (o .1 .1, (y, (f, ap children e ∙ children-append x y ∙ ap (λ (l : List ℕ). l ++ children y) (o .1 .0)))))
 
-  no-more-children : {q : ℕ} {x : List Item} → Fits w q nothing x → children x ≡ []
+  no-more-children : {q : ℕ} {x : List OwnItem} → Fits w q nothing x → children x ≡ []
   no-more-children none = refl
 
   -- 28: one child
-  unary-child : {q : ℕ} {K b : List ℕ} {x : List Item} → Fits w q (both (one 1 K) (both (operand b) nothing)) x → T (every b) → OneChild x
+  unary-child : {q : ℕ} {K b : List ℕ} {x : List OwnItem} → Fits w q (both (one 1 K) (both (operand b) nothing)) x → T (every b) → OneChild x
   unary-child f h =
       let o = behind-operator f in
       let c = behind-operand (o .1 .0) h in
       (c .0, (o .1 .1 ∙ c .1 .1 .1 .1 ∙ ap (λ (k : List ℕ). c .0 ∷ k) (no-more-children (c .1 .1 .1 .0)), c .1 .0))
 
   -- 29: two
-  abbrev TwoChildren : List Item → Type 0
+  abbrev TwoChildren : List OwnItem → Type 0
   TwoChildren x = (s : ℕ) × ((t : ℕ) × ((children x ≡ s ∷ (t ∷ [])) × (T (isExpression s) × T (isExpression t))))
 
-  binary-children : {q : ℕ} {a K b : List ℕ} {x : List Item} → Fits w q (both (operand a) (both (one 1 K) (both (operand b) nothing))) x → T (every a) → T (every b) → TwoChildren x
+  binary-children : {q : ℕ} {a K b : List ℕ} {x : List OwnItem} → Fits w q (both (operand a) (both (one 1 K) (both (operand b) nothing))) x → T (every a) → T (every b) → TwoChildren x
   binary-children f h k =
       let c = behind-operand f h in
       let o = behind-operator (c .1 .1 .1 .0) in
       let d = behind-operand (o .1 .0) k in
       (c .0, (d .0, (c .1 .1 .1 .1 ∙ ap (λ (m : List ℕ). c .0 ∷ m) (o .1 .1 ∙ d .1 .1 .1 .1 ∙ ap (λ (m : List ℕ). d .0 ∷ m) (no-more-children (d .1 .1 .1 .0))), (c .1 .0, d .1 .0))))
 
-  on-28 : {q : ℕ} {x : List Item} → Fits w q (line 28) x → OneChild x
+  on-28 : {q : ℕ} {x : List OwnItem} → Fits w q (formLine 28) x → OneChild x
   on-28 (left f) = unary-child f tt
   on-28 (right f) = unary-child f tt
 
-  on-29 : {q : ℕ} {x : List Item} → Fits w q (line 29) x → TwoChildren x
+  on-29 : {q : ℕ} {x : List OwnItem} → Fits w q (formLine 29) x → TwoChildren x
   on-29 (left f) = binary-children f tt tt
   on-29 (right (left f)) = binary-children f tt tt
   on-29 (right (right (left f))) = binary-children f tt tt
@@ -147,7 +148,7 @@ module _ (w : List ℕ) where
   on-29 (right (right (right (right (right (right (right (right f)))))))) = binary-children f tt tt
 
   -- 4: the mark's row and one expression's
-  on-4 : {q : ℕ} {x : List Item} → Fits w q (line 4) x → (m : ℕ) × ((s : ℕ) × ((children x ≡ m ∷ (s ∷ [])) × T (isExpression s)))
+  on-4 : {q : ℕ} {x : List OwnItem} → Fits w q (formLine 4) x → (m : ℕ) × ((s : ℕ) × ((children x ≡ m ∷ (s ∷ [])) × T (isExpression s)))
   on-4 f =
       let a = behind-element f in
       let b = behind-element (a .1 .0) in
@@ -159,7 +160,7 @@ module _ (w : List ℕ) where
       (m .0, (s .0, (a .1 .1 ∙ b .1 .1 ∙ c .1 .1 ∙ m .1 .1 .1 .1 ∙ ap (λ (l : List ℕ). m .0 ∷ l) (d .1 .1 ∙ s .1 .1 .1 .1 ∙ ap (λ (l : List ℕ). s .0 ∷ l) (g .1 .1 ∙ no-more-children (g .1 .0))), s .1 .0)))
 
   -- 5: the mark's row, and perhaps a range's
-  range-or-none : {q : ℕ} {x : List Item} → Fits w q (both (opt (seq (e word-range ∷ rows (10 ∷ []) ∷ []))) (both (e semicolon) nothing)) x
+  range-or-none : {q : ℕ} {x : List OwnItem} → Fits w q (both (opt (seq (symbol word-range ∷ rows (10 ∷ []) ∷ []))) (both (symbol semicolon) nothing)) x
       → (children x ≡ []) ⊎ ((s : ℕ) × ((children x ≡ s ∷ []) × (s ≡ sort 10 0)))
   range-or-none (then {x = x} {y = y} (left f) g e) =
       let a = behind-element f in
@@ -173,7 +174,7 @@ module _ (w : List ℕ) where
       one-in s t h = ⊎-elim (λ a. a) (λ b. absurd b) (or-cases (eqb s t) false h)
   range-or-none (then {y = y} (right none) g e) = let b = behind-element g in inl (ap children e ∙ b .1 .1 ∙ no-more-children (b .1 .0))
 
-  on-5 : {q : ℕ} {x : List Item} → Fits w q (line 5) x → (m : ℕ) × ((children x ≡ m ∷ []) ⊎ ((s : ℕ) × ((children x ≡ m ∷ (s ∷ [])) × (s ≡ sort 10 0))))
+  on-5 : {q : ℕ} {x : List OwnItem} → Fits w q (formLine 5) x → (m : ℕ) × ((children x ≡ m ∷ []) ⊎ ((s : ℕ) × ((children x ≡ m ∷ (s ∷ [])) × (s ≡ sort 10 0))))
   on-5 f =
       let a = behind-element f in
       let b = behind-element (a .1 .0) in
@@ -185,7 +186,7 @@ module _ (w : List ℕ) where
       )
 
   -- 10: the two bounds'
-  on-10 : {q : ℕ} {x : List Item} → Fits w q (line 10) x → TwoChildren x
+  on-10 : {q : ℕ} {x : List OwnItem} → Fits w q (formLine 10) x → TwoChildren x
   on-10 f =
       let c = behind-operand f tt in
       let o = behind-element (c .1 .1 .1 .0) in
@@ -193,16 +194,16 @@ module _ (w : List ℕ) where
       (c .0, (d .0, (c .1 .1 .1 .1 ∙ ap (λ (m : List ℕ). c .0 ∷ m) (o .1 .1 ∙ d .1 .1 .1 .1 ∙ ap (λ (m : List ℕ). d .0 ∷ m) (no-more-children (d .1 .1 .1 .0))), (c .1 .0, d .1 .0))))
 
   -- and to or downto between them
-  among-right : (i : ℕ) (x y : List Item) → IsAmong (at i) y → IsAmong (at i) (x ++ y)
+  among-right : (i : ℕ) (x y : List OwnItem) → IsAmong (at i) y → IsAmong (at i) (x ++ y)
   among-right i [] y h = h
   among-right i (z ∷ x) y h = inr (among-right i x y h)
 
-  goes-by : (i : ℕ) (x : List Item) → IsAmong (at i) x → T (eqb (getD w i 0) (numberOf word-to)) ⊎ T (eqb (getD w i 0) (numberOf word-downto) || false) → (down : Bool) × Goes w x down
+  goes-by : (i : ℕ) (x : List OwnItem) → IsAmong (at i) x → T (eqb (getD w i 0) (numberOf word-to)) ⊎ T (eqb (getD w i 0) (numberOf word-downto) || false) → (down : Bool) × Goes w x down
   goes-by i x m (inl h) = (false, to i m (eqb→eq (getD w i 0) (numberOf word-to) h))
   goes-by i x m (inr h) =
       (true, downto i m (eqb→eq (getD w i 0) (numberOf word-downto) (⊎-elim (λ k. k) (λ k. absurd k) (or-cases (eqb (getD w i 0) (numberOf word-downto)) false h))))
 
-  goes-10 : {q : ℕ} {x : List Item} → Fits w q (line 10) x → (down : Bool) × Goes w x down
+  goes-10 : {q : ℕ} {x : List OwnItem} → Fits w q (formLine 10) x → (down : Bool) × Goes w x down
   goes-10 {x = x} (then {x = a} {y = b} f (then {y = c} (this {x = at i} u v) g d) h) =
       goes-by i x (subst (IsAmong (at i)) (sym h) (among-right i a b (subst (IsAmong (at i)) (sym d) (inl refl))))
       (or-cases (eqb (getD w i 0) (numberOf word-to)) (eqb (getD w i 0) (numberOf word-downto) || false) v)
@@ -293,7 +294,7 @@ module _ (w : List ℕ) where
 
   module _ (small : (i : ℕ) → getD w i 0 < 128) where
     telling-small : (r : Row) → telling w r < 128
-    telling-small r = go (operates (r .form)) (branches (r .form))
+    telling-small r = go (operates (r .form)) (isBranch (r .form))
       where
         go : (a b : Bool) → cond a (getD w (r .operator) 0) (cond b (getD w (r .first) 0) 0) < 128
         go true b = small (r .operator)
@@ -331,18 +332,18 @@ module _ (w : List ℕ) where
     abbrev Some : Piece → List Row → Type 0
     Some p rs = (x : Expression) × Is p rs x
 
-    by-form : (p : Piece) (r : Row) (rs : List Row) → SixForms (r .form) → Fits w (operatorAt r) (line (r .form)) (ownItems w r rs)
+    by-form : (p : Piece) (r : Row) (rs : List Row) → SixForms (r .form) → Fits w (operatorAt r) (formLine (r .form)) (ownItems w r rs)
         → ((Headed rs) → Some p rs) → ((Headed (behind rs)) → Some p (behind rs)) → Some p (r ∷ rs)
     by-form p r rs (inl e) f g h = (name (worded.at p (r .first)), is-name e)
     by-form p r rs (inr (inl e)) f g h = (unfolded, is-called e)
     by-form p r rs (inr (inr (inl e))) f g h = (unfolded, is-attribute e)
     by-form p r rs (inr (inr (inr (inl e)))) f g h = (literal (worded.at p (r .first)), is-literal e)
     by-form p r rs (inr (inr (inr (inr (inl e))))) f g h =
-        let c = on-28 (subst (λ (n : ℕ). Fits w (operatorAt r) (line n) (ownItems w r rs)) e f) in
+        let c = on-28 (subst (λ (n : ℕ). Fits w (operatorAt r) (formLine n) (ownItems w r rs)) e f) in
         let x = g (one-behind (r .rows - 1) (r .first) (r .first + r .count) rs c) in
         (unary _ (x .0), is-unary e refl (x .1))
     by-form p r rs (inr (inr (inr (inr (inr e))))) f g h =
-        let c = on-29 (subst (λ (n : ℕ). Fits w (operatorAt r) (line n) (ownItems w r rs)) e f) in
+        let c = on-29 (subst (λ (n : ℕ). Fits w (operatorAt r) (formLine n) (ownItems w r rs)) e f) in
         let b = two-behind (r .rows - 1) (r .first) (r .first + r .count) rs c in
         let x = g (b .0) in
         let y = h (b .1) in
@@ -367,10 +368,10 @@ terminals-small (k ∷ ks) (suc i) = terminals-small ks i
 
 module _ (p : Piece) where
   abbrev w : List ℕ
-  w = terminalsIn (kinds p)
+  w = terminalsIn (kindsInPiece p)
 
   abbrev smalls : (i : ℕ) → getD w i 0 < 128
-  smalls = terminals-small (kinds p)
+  smalls = terminals-small (kindsInPiece p)
 
   -- what stands after the mark's row
   behind-mark : (m : List Row) (hi a : ℕ) (t : List ℕ) → children (itemsIn w 0 0 hi (take (length m + 2 - 1) (markRow ∷ m))) ≡ a ∷ t
@@ -384,24 +385,24 @@ module _ (p : Piece) where
   pub constant-form : (s : State) → ItemReading form.constant unlike w s → (i : Item′) × HasForm p i
   constant-form s r = by (begin-with-mark .0 unlike w s r) (constant-rows-fit unlike w s r .1)
     where
-      by : (m : List Row) × (rowsOf s ≡ itemRow 4 (length w) m ∷ (markRow ∷ m)) → RowsFit w (rowsOf s) → (i : Item′) × HasForm p i
-      by (m, e) t =
-          let f = subst (RowsFit w) e t in
+      by : (m : List Row) × (stateRows s ≡ itemRow 4 (length w) m ∷ (markRow ∷ m)) → RowsFit w (stateRows s) → (i : Item′) × HasForm p i
+      by (m, symbol) t =
+          let f = subst (RowsFit w) symbol t in
           let c = on-4 w (f .1) in
           let a = behind-mark m (0 + length w) (c .0) (c .1 .0 ∷ []) (c .1 .1 .0) in
           let x = is-expression w smalls p (length m) m (omega arith) (f .2 .2) (one-behind w (length m) (a .0) (0 + length w) m (c .1 .0, (sym (a .1), c .1 .1 .1))) in
-          (constant _ (x .0), is-constant (constant-reading p _ .1 (s, (r, e))) (x .1))
+          (constant _ (x .0), is-constant (constant-reading p _ .1 (s, (r, symbol))) (x .1))
 
   -- and so has a subtype
   ten : (r : Row) (s : ℕ) → sortOf w r ≡ s → s ≡ sort 10 0 → r .form ≡ 10
   ten r s e q = let h = telling-small w smalls r in let z = e ∙ q in omega arith
 
-  ranged-form : (m : List Row) (s : State) (lo hi a : ℕ) → ItemReading form.subtype unlike w s → rowsOf s ≡ itemRow 5 (length w) m ∷ (markRow ∷ m) → RowsFit w m
+  ranged-form : (m : List Row) (s : State) (lo hi a : ℕ) → ItemReading form.subtype unlike w s → stateRows s ≡ itemRow 5 (length w) m ∷ (markRow ∷ m) → RowsFit w m
       → children (itemsIn w 0 lo hi (take (length m) m)) ≡ a ∷ [] → a ≡ sort 10 0 → (i : Item′) × HasForm p i
   ranged-form m s lo hi a r e t c q =
       let o = first-of w (length m) lo hi m a [] c in
       let u = subst (RowsFit w) (o .is) t in
-      let f = subst (λ (n : ℕ). Fits w (operatorAt (o .one)) (line n) (ownItems w (o .one) (o .others))) (ten (o .one) a (o .sorted) q) (u .1) in
+      let f = subst (λ (n : ℕ). Fits w (operatorAt (o .one)) (formLine n) (ownItems w (o .one) (o .others))) (ten (o .one) a (o .sorted) q) (u .1) in
       let d = on-10 w f in
       let g = goes-10 w f in
       let b = two-behind w (o .one .rows - 1) (o .one .first) (o .one .first + o .one .count) (o .others) d in
@@ -412,26 +413,26 @@ module _ (p : Piece) where
   pub subtype-form : (s : State) → ItemReading form.subtype unlike w s → (i : Item′) × HasForm p i
   subtype-form s r = by (begin-with-mark .1 unlike w s r) (subtype-rows-fit unlike w s r .1)
     where
-      by : (m : List Row) × (rowsOf s ≡ itemRow 5 (length w) m ∷ (markRow ∷ m)) → RowsFit w (rowsOf s) → (i : Item′) × HasForm p i
-      by (m, e) t = on (on-5 w (f .1))
+      by : (m : List Row) × (stateRows s ≡ itemRow 5 (length w) m ∷ (markRow ∷ m)) → RowsFit w (stateRows s) → (i : Item′) × HasForm p i
+      by (m, symbol) t = on (on-5 w (f .1))
         where
           f : RowsFit w (itemRow 5 (length w) m ∷ (markRow ∷ m))
-          f = subst (RowsFit w) e t
+          f = subst (RowsFit w) symbol t
 
           on : (a : ℕ) × ((children (ownItems w (itemRow 5 (length w) m) (markRow ∷ m)) ≡ a ∷ []) ⊎ ((b : ℕ) × ((children (ownItems w (itemRow 5 (length w) m) (markRow ∷ m)) ≡ a ∷ (b ∷ [])) × (b ≡ sort 10 0))))
               → (i : Item′) × HasForm p i
           on (a, inl c) =
               let d = behind-mark m (0 + length w) a [] c in
               let n = none-of w (length m) (d .0) (0 + length w) m (d .1) (omega arith) in
-              (subtype _, is-subtype (subtype-reading p _ .1 (s, (r, e ∙ ap (λ (l : List Row). itemRow 5 (length w) m ∷ (markRow ∷ l)) n))))
-          on (a, inr (b, (c, q))) = let d = behind-mark m (0 + length w) a (b ∷ []) c in ranged-form m s (d .0) (0 + length w) b r e (f .2 .2) (sym (d .1)) q
+              (subtype _, is-subtype (subtype-reading p _ .1 (s, (r, symbol ∙ ap (λ (l : List Row). itemRow 5 (length w) m ∷ (markRow ∷ l)) n))))
+          on (a, inr (b, (c, q))) = let d = behind-mark m (0 + length w) a (b ∷ []) c in ranged-form m s (d .0) (0 + length w) b r symbol (f .2 .2) (sym (d .1)) q
 
   -- a subtype's third row, where it has one, is its range's
-  pub third-row : (s : State) → ItemReading form.subtype unlike w s → (item mark range : Row) (rs : List Row) → rowsOf s ≡ item ∷ mark ∷ range ∷ rs → range .form ≡ 10
+  pub third-row : (s : State) → ItemReading form.subtype unlike w s → (item mark range : Row) (rs : List Row) → stateRows s ≡ item ∷ mark ∷ range ∷ rs → range .form ≡ 10
   third-row s r item mark range rs q = by (begin-with-mark .1 unlike w s r) (subtype-rows-fit unlike w s r .1)
     where
-      by : (m : List Row) × (rowsOf s ≡ itemRow 5 (length w) m ∷ (markRow ∷ m)) → RowsFit w (rowsOf s) → range .form ≡ 10
-      by (m, e) t = on (on-5 w (subst (RowsFit w) e t .1))
+      by : (m : List Row) × (stateRows s ≡ itemRow 5 (length w) m ∷ (markRow ∷ m)) → RowsFit w (stateRows s) → range .form ≡ 10
+      by (m, symbol) t = on (on-5 w (subst (RowsFit w) symbol t .1))
         where
           third : m ≡ range ∷ rs
           third = cc

@@ -15,8 +15,7 @@ use Rattle.tree.specs.code.PieceRows.{rowsOfPiece}
 use Rattle.folding.specs.declared.Outcome.{Outcome}
 use Rattle.operands.specs.Operands.{operatorOf, signOf}
 use Rattle.operands.specs.code.Operands.{literalBy}
-use Rattle.values.specs.Values.{languageValue}
-use Rattle.values.specs.Words.{leanOf}
+use Rattle.values.specs.Values.{languageValue, leanOf}
 use Rattle.values.specs.declared.Value.{Value}
 use Rattle.values.specs.declared.Value.the-variants.{Without}
 use Rattle.marks.proofs.Sound.{Keeps, small, SoundOutcome, Sound, wrong-leaf-sound, literal-sound, combined-sound, signed-sound, operand-sound, lean-sound, language-sound, choose-sound}
@@ -26,8 +25,9 @@ use Rattle.expressions.specs.code.Expressions.{rowOutcome, outcomeIn}
 use Rattle.pieces.specs.Kinds.{anyDown}
 use Rattle.states.specs.States as state
 use Rattle.meaning.proofs.Claimed.{claims-class}
-use Rattle.meaning.specs.Elements.{Element, Piece, at, kinds}
-use Rattle.meaning.specs.Names.{classOf, language, claims, doubled, ownDoubled, Done, claimedAbove, firstAbove, useOf}
+use Rattle.meaning.specs.Elements.{Element, Piece, at}
+use Rattle.meaning.specs.Pieces.{kindsInPiece, classOf}
+use Rattle.meaning.specs.Names.{language, claims, isDoubled, ownDoubled, Done, claimedAbove, firstAbove, useOf}
 use Rattle.meaning.specs.code.PieceValues.{valued, bounded, formed, unlessDoubled, valueOf, doneOf}
 use Rattle.meaning.proofs.Good.{GoodDone, Good}
 
@@ -68,7 +68,7 @@ module _ (K : Keeps) where
 
     pub bounded-fits : (mark : Value) → Sound K mark → (rs : List Row) → Subtype K (bounded p used mark rs)
     bounded-fits mark m [] = subtype-fits K mark m
-    bounded-fits mark m (range ∷ rs) = ranged-fits K mark (valued p used rs) (valued p used (behind rs)) (anyDown (kinds p)) m (valued-sound rs) (valued-sound (behind rs))
+    bounded-fits mark m (range ∷ rs) = ranged-fits K mark (valued p used rs) (valued p used (behind rs)) (anyDown (kindsInPiece p)) m (valued-sound rs) (valued-sound (behind rs))
 
 module _ (p : Piece) (used : Element → Value) (u : SoundUse small used) where
   formed-constant : classOf p ≡ 3 → (rs : List Row) → Constant small (formed p used rs)
@@ -103,7 +103,7 @@ first-sound all (d ∷ ds) g x = go (claims x (d .piece)) refl (first-sound all 
 pub use-sound : (all : List Piece) (ds : List Done) → Good all ds → SoundUse small (useOf all ds)
 unfolding useOf
 use-sound all ds g x =
-    choose-sound small (claimedAbove x ds) _ _ (choose-sound small (doubled all x) (Without state.leans) _ (omega arith) (first-sound all ds g x)) (omega arith)
+    choose-sound small (claimedAbove x ds) _ _ (choose-sound small (isDoubled all x) (Without state.leans) _ (omega arith) (first-sound all ds g x)) (omega arith)
 
 -- ---- pieces
 
@@ -125,11 +125,11 @@ unless-lean false (r ∷ rs) v e = let z : _≡_ {A = ℕ} 0 1 = cc in clash z
 module _ (all : List Piece) (ds : List Done) (g : Good all ds) (p : Piece) where
   pub constant-value : classOf p ≡ 3 → Constant small (valueOf all ds p)
   unfolding valueOf
-  constant-value c = unless-constant (ownDoubled all p) (rowsOfPiece (kinds p)) _ (formed-constant p (useOf all ds) (use-sound all ds g) c (rowsOfPiece (kinds p)))
+  constant-value c = unless-constant (ownDoubled all p) (rowsOfPiece (kindsInPiece p)) _ (formed-constant p (useOf all ds) (use-sound all ds g) c (rowsOfPiece (kindsInPiece p)))
 
   pub subtype-value : classOf p ≡ 4 → Subtype small (valueOf all ds p)
   unfolding valueOf
-  subtype-value c = unless-subtype (ownDoubled all p) (rowsOfPiece (kinds p)) _ (formed-subtype p (useOf all ds) (use-sound all ds g) c (rowsOfPiece (kinds p)))
+  subtype-value c = unless-subtype (ownDoubled all p) (rowsOfPiece (kindsInPiece p)) _ (formed-subtype p (useOf all ds) (use-sound all ds g) c (rowsOfPiece (kindsInPiece p)))
 
   pub value-fits : isClaim (classOf p) ≡ true → Fits (classOf p) (valueOf all ds p)
   value-fits e =
@@ -138,7 +138,7 @@ module _ (all : List Piece) (ds : List Done) (g : Good all ds) (p : Piece) where
   -- a doubled name's item gives nothing
   pub doubled-lean : ownDoubled all p ≡ true → leanOf (valueOf all ds p) ≡ Without state.leans
   unfolding valueOf
-  doubled-lean e = unless-lean (ownDoubled all p) (rowsOfPiece (kinds p)) _ e
+  doubled-lean e = unless-lean (ownDoubled all p) (rowsOfPiece (kindsInPiece p)) _ e
 
   pub good-done : GoodDone all (doneOf all ds p)
   good-done e = (value-fits e, doubled-lean)

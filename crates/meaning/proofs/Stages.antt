@@ -16,9 +16,10 @@ use Rattle.items.specs.code.Items.{doubledIn, valueAt, completedAt, completedFr
 use Rattle.values.specs.Words.{valueWords}
 use Rattle.pieces.specs.Columns as column
 use Rattle.pieces.specs.Columns.{recordWords}
-use Rattle.meaning.specs.Elements.{Piece, at, piecesOf}
+use Rattle.meaning.specs.Elements.{Piece, at}
+use Rattle.meaning.specs.Pieces.{piecesOf, classOf}
 use Rattle.meaning.proofs.Cutting.{total}
-use Rattle.meaning.specs.Names.{classOf, ownDoubled, Done, useOf}
+use Rattle.meaning.specs.Names.{ownDoubled, Done, useOf}
 use Rattle.meaning.specs.Records.{recordOf, recordsFrom}
 use Rattle.meaning.specs.code.PieceValues.{valueOf, doneOf, donesFrom, donesOf, recordsOf}
 use Rattle.meaning.proofs.Records.{pending, pendings, piecesDone, pieces-pending, pieces-append, pieces-length, records-length, word-at-record, skip-record, complete-record}

@@ -8,12 +8,13 @@ use Rattle.forms.specs.Tree.{Row}
 use Rattle.values.specs.declared.Value.{Value}
 use Rattle.values.specs.declared.Value.the-variants.{Number, Truth, Range, Truths, Without}
 use Rattle.marks.specs.code.Marks.{constantOf}
-use Rattle.values.specs.Words.{leanOf}
+use Rattle.values.specs.Values.{leanOf}
 use Rattle.marks.proofs.Sound.{Between, late, Sound, choose-sound}
 use Rattle.marks.proofs.Laws.{Constant, Subtype, constant-fits}
 use Rattle.states.specs.States as state
 use Rattle.meaning.specs.Elements.{Element, Piece}
-use Rattle.meaning.specs.Names.{classOf, doubled, Done, claimedAbove, firstAbove, useOf}
+use Rattle.meaning.specs.Names.{isDoubled, Done, claimedAbove, firstAbove, useOf}
+use Rattle.meaning.specs.Pieces.{classOf}
 use Rattle.meaning.specs.code.PieceValues.{valued, bounded, marked}
 use Rattle.meaning.proofs.Sound.{SoundUse, valued-sound, bounded-fits}
 
@@ -52,7 +53,7 @@ lean-late (Without s) = (omega arith, omega arith)
 pub use-late : (all : List Piece) (above : List Done) → SoundUse late (useOf all above)
 unfolding useOf
 use-late all above x =
-    choose-sound late (claimedAbove x above) _ _ (choose-sound late (doubled all x) (Without state.leans) _ (omega arith, omega arith) (lean-late (firstAbove x above))) (omega arith, omega arith)
+    choose-sound late (claimedAbove x above) _ _ (choose-sound late (isDoubled all x) (Without state.leans) _ (omega arith, omega arith) (lean-late (firstAbove x above))) (omega arith, omega arith)
 
 -- an item with rows, whatever stands above it
 pub marked-late : (all : List Piece) (above : List Done) (p : Piece) (mark : Element) (rs : List Row) → Late (marked p (useOf all above) (useOf all above mark) rs)

@@ -9,13 +9,14 @@ use lib.Dec.{ltb}
 use lib.ListN.{length, getD, take, drop, replicate, length-append, length-replicate}
 use Rattle.places.specs.Places.{cellAt}
 use Rattle.elements.specs.Kinds.{kindNumber}
-use Rattle.element_reading.specs.Rows.{Row}
+use Rattle.element_reading.specs.Rows.{ElementRow}
 use Rattle.element_reading.specs.Table.{cells}
 use Rattle.element_reading.specs.Promises.{InOrder}
 use Rattle.element_reading.proofs.TableLaws.{length-cells}
 use Rattle.places.specs.Places.{kindsOf}
 use Rattle.operands.specs.code.Operands.{bytesAt}
-use Rattle.meaning.specs.Elements.{Element, elementsOf, at, kinds}
+use Rattle.meaning.specs.Elements.{Element, at}
+use Rattle.meaning.specs.Pieces.{elementsOf, kindsInPiece}
 use Rattle.laws.proofs.Laws.{zeros-at}
 
 -- element e of a text and its element table
@@ -23,7 +24,7 @@ unfoldable pub elementAt : List ℕ → List ℕ → ℕ → Element
 elementAt text table e = record { kind = cellAt table e 0; bytes = bytesAt text table e }
 
 -- word j of row e, 0 past the last
-unfoldable pub rowWord : List Row → ℕ → ℕ → ℕ
+unfoldable pub rowWord : List ElementRow → ℕ → ℕ → ℕ
 rowWord [] e j = 0
 rowWord (r ∷ rs) zero j = getD (kindNumber (r .kind) ∷ r .first ∷ r .size ∷ []) j 0
 rowWord (r ∷ rs) (suc e) j = rowWord rs e j
@@ -34,7 +35,7 @@ in-row (suc zero) a b c l h = refl
 in-row (suc (suc zero)) a b c l h = refl
 in-row (suc (suc (suc j))) a b c l h = absurd (omega arith)
 
-word-at : (rs : List Row) (z e j : ℕ) → j < 3 → getD (cells rs ++ replicate z 0) (3 * e + j) 0 ≡ rowWord rs e j
+word-at : (rs : List ElementRow) (z e j : ℕ) → j < 3 → getD (cells rs ++ replicate z 0) (3 * e + j) 0 ≡ rowWord rs e j
 unfolding cells rowWord
 word-at [] z e j h = zeros-at z (3 * e + j)
 word-at (r ∷ rs) z zero j h =
@@ -45,14 +46,14 @@ word-at (r ∷ rs) z (suc e) j h =
     let k : 3 * suc e + j ≡ suc (suc (suc (3 * e + j))) = omega arith in
     ap (λ (i : ℕ). getD (kindNumber (r .kind) ∷ r .first ∷ r .size ∷ (cells rs ++ replicate z 0)) i 0) k ∙ word-at rs z e j h
 
-past-row : (rs : List Row) (e j : ℕ) → length rs ≤ e → rowWord rs e j ≡ 0
+past-row : (rs : List ElementRow) (e j : ℕ) → length rs ≤ e → rowWord rs e j ≡ 0
 unfolding rowWord
 past-row [] e j h = refl
 past-row (r ∷ rs) zero j h = absurd (omega arith)
 past-row (r ∷ rs) (suc e) j h = past-row rs e j (omega arith)
 
 -- the words of the table
-pub cell-word : (rs : List Row) (z e j : ℕ) → j < 3 → cellAt (cells rs ++ replicate z 0) e j ≡ rowWord rs e j
+pub cell-word : (rs : List ElementRow) (z e j : ℕ) → j < 3 → cellAt (cells rs ++ replicate z 0) e j ≡ rowWord rs e j
 unfolding cellAt
 cell-word rs z e j h = go (ltb e (length (cells rs ++ replicate z 0) / 3)) refl
   where
@@ -63,20 +64,20 @@ cell-word rs z e j h = go (ltb e (length (cells rs ++ replicate z 0) / 3)) refl
     go true t = rw t (word-at rs z e j h)
     go false t = rw t (sym (past-row rs e j (omega (arith, ltb-false e (length (cells rs ++ replicate z 0) / 3) t, long))))
 
-element-row : (text : List ℕ) (rs : List Row) (e : ℕ) → at (elementsOf text rs) e ≡ record { kind = rowWord rs e 0; bytes = take (rowWord rs e 2) (drop (rowWord rs e 1) text) }
+element-row : (text : List ℕ) (rs : List ElementRow) (e : ℕ) → at (elementsOf text rs) e ≡ record { kind = rowWord rs e 0; bytes = take (rowWord rs e 2) (drop (rowWord rs e 1) text) }
 unfolding at elementsOf rowWord
 element-row text [] e = refl
 element-row text (r ∷ rs) zero = refl
 element-row text (r ∷ rs) (suc e) = element-row text rs e
 
 -- the table's element is the text's
-pub element-at : (text : List ℕ) (rs : List Row) (z e : ℕ) → elementAt text (cells rs ++ replicate z 0) e ≡ at (elementsOf text rs) e
+pub element-at : (text : List ℕ) (rs : List ElementRow) (z e : ℕ) → elementAt text (cells rs ++ replicate z 0) e ≡ at (elementsOf text rs) e
 unfolding elementAt bytesAt
 element-at text rs z e =
     rw (cell-word rs z e 0 (omega arith), cell-word rs z e 1 (omega arith), cell-word rs z e 2 (omega arith)) (sym (element-row text rs e))
 
 -- every row stands in the text
-pub row-within : (rs : List Row) (from end e : ℕ) → InOrder from rs end → rowWord rs e 1 + rowWord rs e 2 ≤ end
+pub row-within : (rs : List ElementRow) (from end e : ℕ) → InOrder from rs end → rowWord rs e 1 + rowWord rs e 2 ≤ end
 unfolding rowWord
 row-within [] from end e h = omega arith
 row-within (r ∷ []) from end zero h = h .2
@@ -84,7 +85,7 @@ row-within (r ∷ q ∷ rs) from end zero h = omega (arith, h .2 .0, row-within 
 row-within (r ∷ rs) from end (suc e) h = row-within rs (r .first + r .size) end e (h .2)
 
 -- the kinds of a table are those of its elements
-pub kinds-of : (text : List ℕ) (rs : List Row) (l : List ℕ) → kindsOf (length rs) (cells rs ++ l) ≡ kinds (elementsOf text rs)
-unfolding kindsOf cells kinds elementsOf
+pub kinds-of : (text : List ℕ) (rs : List ElementRow) (l : List ℕ) → kindsOf (length rs) (cells rs ++ l) ≡ kindsInPiece (elementsOf text rs)
+unfolding kindsOf cells kindsInPiece elementsOf
 kinds-of text [] l = refl
 kinds-of text (r ∷ rs) l = ap (λ (ks : List ℕ). kindNumber (r .kind) ∷ ks) (kinds-of text rs l)

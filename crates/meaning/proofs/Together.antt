@@ -9,15 +9,17 @@ use lib.Dec.{eqb, ltb}
 use lib.ListN.{length, length-append}
 use Rattle.laws.proofs.Laws.{both-right}
 use Rattle.records.specs.Records.{wordAt, isItem, isClaim}
-use Rattle.records.specs.Tallies.{oneIf, inState}
+use Rattle.records.specs.Tallies.{inState}
+use Rattle.records.specs.Counting.{oneIf}
 use Rattle.pairs.specs.code.Pairs.{laterOf, pairFrom}
 use Rattle.pairs.specs.declared.Pair.{Pair}
 use Rattle.pairs.specs.declared.Pair.the-variants.{Both, Neither}
 use Rattle.names.specs.code.Names.{share, sharedPair}
 use Rattle.values.specs.Words.{stateOf}
 use Rattle.pieces.specs.Columns as column
-use Rattle.meaning.specs.Elements.{Piece, piecesOf}
-use Rattle.meaning.specs.Names.{classOf, ownName, claims, Done}
+use Rattle.meaning.specs.Elements.{Piece}
+use Rattle.meaning.specs.Pieces.{piecesOf, classOf}
+use Rattle.meaning.specs.Names.{ownName, claims, Done}
 use Rattle.meaning.specs.Records.{recordsFrom}
 use Rattle.meaning.specs.Together.{shares, FirstPair, both, neither, countIn, AllFold}
 use Rattle.meaning.proofs.Records.{piecesDone}

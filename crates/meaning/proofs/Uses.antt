@@ -11,11 +11,12 @@ use lib.ListN.{length, getD, length-append, List·getD-append}
 use Rattle.same_names.specs.Spelling.{spelt}
 use Rattle.element_reading.specs.Rows.{rowsOf}
 use Rattle.records.specs.Records.{wordAt, isItem, isClaim}
-use Rattle.records.specs.Tallies.{oneIf}
-use Rattle.names.specs.Language.{languageNames, languageNumber, languageOf}
+use Rattle.records.specs.Counting.{oneIf}
+use Rattle.names.specs.Language.{languageNames, languageNumber}
+use Rattle.names.specs.code.Language.{languageOf}
 use Rattle.names.specs.code.Links.{linksTable}
-use Rattle.values.specs.Values.{languageValue}
-use Rattle.values.specs.Words.{stateOf, valueKind, lowOf, highOf, leanOf}
+use Rattle.values.specs.Values.{languageValue, leanOf}
+use Rattle.values.specs.Words.{stateOf, valueKind, lowOf, highOf}
 use Rattle.values.specs.declared.Value.{Value}
 use Rattle.values.specs.declared.Value.the-variants.{Without}
 use Rattle.marks.proofs.Laws.{Fits, used-lean}
@@ -23,8 +24,9 @@ use Rattle.uses.specs.code.Uses.{recordValue, useIn}
 use Rattle.uses.proofs.Laws.{claimed-too, of-language, no-claim, above, below}
 use Rattle.pieces.specs.Columns as column
 use Rattle.states.specs.States as state
-use Rattle.meaning.specs.Elements.{Element, Piece, at, piecesOf}
-use Rattle.meaning.specs.Names.{classOf, ownName, claims, language, claimsIn, doubled, Done, claimedAbove, firstAbove, useOf}
+use Rattle.meaning.specs.Elements.{Element, Piece, at}
+use Rattle.meaning.specs.Pieces.{piecesOf, classOf}
+use Rattle.meaning.specs.Names.{ownName, claims, language, claimsIn, isDoubled, Done, claimedAbove, firstAbove, useOf}
 use Rattle.meaning.specs.Records.{itemValueWords}
 use Rattle.meaning.proofs.Claimed.{doubled-one}
 use Rattle.meaning.proofs.Good.{GoodDone, Good}
@@ -175,18 +177,18 @@ record-is ds y f h d is c fits =
 -- ---- the use
 
 -- what a use comes to, by its parts
-use-of : (all : List Piece) (ds : List Done) (x : Element) (a d : Bool) (v : Value) → claimedAbove x ds ≡ a → doubled all x ≡ d → firstAbove x ds ≡ v
+use-of : (all : List Piece) (ds : List Done) (x : Element) (a d : Bool) (v : Value) → claimedAbove x ds ≡ a → isDoubled all x ≡ d → firstAbove x ds ≡ v
     → useOf all ds x ≡ cond a (cond d (Without state.leans) (leanOf v)) (Without state.unknown)
 unfolding useOf
 use-of all ds x a d v p q r = cc (p, q, r)
 
 module _ (all : List Piece) (x : Element) where
-  spoken-twice : (k : ℕ) → claims x (pieceAt all k) ≡ true → eqb (language x) 0 ≡ false → doubled all x ≡ true
+  spoken-twice : (k : ℕ) → claims x (pieceAt all k) ≡ true → eqb (language x) 0 ≡ false → isDoubled all x ≡ true
   spoken-twice k h e =
       let m : oneIf (not (eqb (language x) 0)) ≡ 1 = ap (λ (b : Bool). oneIf (not b)) e in
       le-leb 2 (claimsIn x all) (omega (arith, claim-counts x all k h))
 
-  spoken-once : ((k : ℕ) → claims x (pieceAt all k) ≡ false) → doubled all x ≡ false
+  spoken-once : ((k : ℕ) → claims x (pieceAt all k) ≡ false) → isDoubled all x ≡ false
   spoken-once h = lt-leb 2 (claimsIn x all) (omega (arith, no-claims x all h, small (not (eqb (language x) 0))))
     where
       small : (b : Bool) → oneIf b ≤ 1
@@ -212,13 +214,13 @@ module _ (s : List ℕ) (z y : ℕ) (ds more : List Done) (cuts : piecesDone (ds
       record-is (ds ++ more) y (r .number) (omega (arith, length-append ds more)) (doneAt ds (r .number)) (List·getD-append ds more (pending []) (r .number) i) c
       (good-at (piecesOf s) ds (r .number) i good c .0)
 
-  found-use : (r : Found (at (elements s) e) ds (piecesDone more) 0) (d : Bool) → doubled (piecesOf s) (at (elements s) e) ≡ d
+  found-use : (r : Found (at (elements s) e) ds (piecesDone more) 0) (d : Bool) → isDoubled (piecesOf s) (at (elements s) e) ≡ d
       → leanOf (doneAt ds (r .number) .value) ≡ cond d (Without state.leans) (leanOf (doneAt ds (r .number) .value))
   found-use r false q = refl
   found-use r true q =
       let p = doneAt ds (r .number) .piece in
       let c = claimed-class (at (elements s) e) p (r .claimed) in
-      good-at (piecesOf s) ds (r .number) (r .inside) good c .1 (doubled-one (piecesOf s) p ∙ both-so (isClaim (classOf p)) (doubled (piecesOf s) (ownName p)) c (sym (claimed-doubled (at (elements s) e) p (r .claimed) (piecesOf s)) ∙ q))
+      good-at (piecesOf s) ds (r .number) (r .inside) good c .1 (doubled-one (piecesOf s) p ∙ both-so (isClaim (classOf p)) (isDoubled (piecesOf s) (ownName p)) c (sym (claimed-doubled (at (elements s) e) p (r .claimed) (piecesOf s)) ∙ q))
     where
       both-so : (a b : Bool) → a ≡ true → b ≡ true → (a && b) ≡ true
       both-so true b h g = g
@@ -240,8 +242,8 @@ module _ (s : List ℕ) (z y : ℕ) (ds more : List Done) (cuts : piecesDone (ds
       sym (above s (tableOf s z) items links (length ds) e (language x) (suc f) spoken-at (linked-at (suc f) (found-first r)) (recordValue items (suc f - 1)) (eqb-true (language x) 0 k) (λ w. omega arith) (omega arith) refl)
       ∙ ap (recordValue items) o
       ∙ found-gives r
-      ∙ found-use r (doubled (piecesOf s) x) refl
-      ∙ sym (use-of (piecesOf s) ds x true (doubled (piecesOf s) x) (doneAt ds f .value) (r .is-above) refl (r .comes-to))
+      ∙ found-use r (isDoubled (piecesOf s) x) refl
+      ∙ sym (use-of (piecesOf s) ds x true (isDoubled (piecesOf s) x) (doneAt ds f .value) (r .is-above) refl (r .comes-to))
   use-found r false k =
       let x = at (elements s) e in
       let f = r .number in
@@ -254,12 +256,12 @@ module _ (s : List ℕ) (z y : ℕ) (ds more : List Done) (cuts : piecesDone (ds
   use-none r zero h true k =
       let x = at (elements s) e in
       sym (no-claim s (tableOf s z) (itemTable (ds ++ more) y) links (length ds) e (language x) 0 spoken-at (linked-at 0 h) (eqb-true (language x) 0 k) refl)
-      ∙ sym (use-of (piecesOf s) ds x false (doubled (piecesOf s) x) (firstAbove x ds) (r .spoken ∙ ap not k) refl refl)
+      ∙ sym (use-of (piecesOf s) ds x false (isDoubled (piecesOf s) x) (firstAbove x ds) (r .spoken ∙ ap not k) refl refl)
   use-none r (suc f) h true k =
       let x = at (elements s) e in
       let g = first-from x (piecesDone more) (0 + length ds) f (sym (r .later) ∙ ap (λ (ps : List Piece). firstIn x ps 0) (sym whole) ∙ h) in
       sym (below s (tableOf s z) (itemTable (ds ++ more) y) links (length ds) e (language x) (suc f) spoken-at (linked-at (suc f) h) (eqb-true (language x) 0 k) (λ v. omega arith) (omega arith))
-      ∙ sym (use-of (piecesOf s) ds x false (doubled (piecesOf s) x) (firstAbove x ds) (r .spoken ∙ ap not k) refl refl)
+      ∙ sym (use-of (piecesOf s) ds x false (isDoubled (piecesOf s) x) (firstAbove x ds) (r .spoken ∙ ap not k) refl refl)
   use-none r zero h false k =
       let x = at (elements s) e in
       sym (of-language s (tableOf s z) (itemTable (ds ++ more) y) links (length ds) e (language x) 0 spoken-at (linked-at 0 h) (languageValue (language x)) (eqb-false (language x) 0 k) refl refl)

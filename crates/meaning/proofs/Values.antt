@@ -20,25 +20,26 @@ use Rattle.values.specs.declared.Value.{Value}
 use Rattle.values.specs.declared.Value.the-variants.{Without}
 use Rattle.uses.specs.code.Uses.{useIn}
 use Rattle.forms.specs.Tree.{behind}
-use Rattle.forms.specs.Words.{rowsIn}
+use Rattle.forms.specs.Words.{treeRowsIn}
 use Rattle.expressions.specs.Folds.{nameValue, nameIn, literalAt, kindInPiece, foldOf, expressionIn, elementIn}
 use Rattle.expressions.proofs.Expressions.{outcome-same}
 use Rattle.items.specs.code.Items.{doubledIn, expressionAt, rangeAt, boundedAt, markIn, formedAt, valueAt}
 use Rattle.pieces.specs.Columns as column
 use Rattle.states.specs.States as state
-use Rattle.meaning.specs.Elements.{Piece, at, kinds, piecesOf}
+use Rattle.meaning.specs.Elements.{Piece, at}
+use Rattle.meaning.specs.Pieces.{kindsInPiece, piecesOf, classOf}
 use Rattle.meaning.proofs.Cutting.{total, kinds-length}
-use Rattle.meaning.specs.Names.{classOf, ownDoubled, Done, useOf}
+use Rattle.meaning.specs.Names.{ownDoubled, Done, useOf}
 use Rattle.meaning.specs.code.PieceValues.{valued, bounded, formed, unlessDoubled, valueOf}
 use Rattle.meaning.proofs.Rows.{rows-back, words-part}
 use Rattle.meaning.proofs.Places.{tableOf, elements, piece-within, behindRows, rows-here, rows-held, goes-down, piece-element, kind-in, literal-at}
 use Rattle.forms.proofs.Words.{words-size}
 
 -- the rows that words are, all of them
-rows-all : (rs : List Row) → length rs ≤ 8192 → rowsIn (min (length (wordsOf rs) / 5) 8192) (wordsOf rs) ≡ rs
+rows-all : (rs : List Row) → length rs ≤ 8192 → treeRowsIn (min (length (wordsOf rs) / 5) 8192) (wordsOf rs) ≡ rs
 rows-all rs few =
     let e : min (length (wordsOf rs) / 5) 8192 ≡ length rs = omega (arith, words-size rs) in
-    rw e (ap (rowsIn (length rs)) (sym (append-nil (wordsOf rs))) ∙ rows-back rs [])
+    rw e (ap (treeRowsIn (length rs)) (sym (append-nil (wordsOf rs))) ∙ rows-back rs [])
 
 -- the rows after those of a first bound
 behind-rows : (item mark range : Row) (rs : List Row) (l : List ℕ)
@@ -137,11 +138,11 @@ module _ (s : List ℕ) (z : ℕ) (before after : List Piece) (p : Piece) (split
       → valueAt s (tableOf s z) links twins (itemRows (tableOf s z) count 40960) items i ≡ valueOf (piecesOf s) ds p
   unfolding valueAt valueOf
   value-at count whole few w0 ds links twins u d =
-      let rs : List Row = rowsOfPiece (kinds p) in
+      let rs : List Row = rowsOfPiece (kindsInPiece p) in
       rw (
         rows-held s z before after p split count whole few items i w1 w2,
         d,
         formed-at ds links u (itemRows (tableOf s z) count 40960) (behindRows s z before after p split count whole few) w0 rs (rows-here s z before after p split count whole few)
-            (omega (arith, rows-few (kinds p), kinds-length p, piece-within s z before after p split)),
+            (omega (arith, rows-few (kindsInPiece p), kinds-length p, piece-within s z before after p split)),
       )
       (unless-at (ownDoubled (piecesOf s) p) rs (formed p (useOf (piecesOf s) ds) rs))

@@ -10,9 +10,10 @@ use Rattle.pieces.specs.Records.{nameOf}
 use Rattle.records.specs.Records.{wordAt, isItem}
 use Rattle.pieces.specs.Columns as column
 use Rattle.pieces.specs.Columns.{recordWords}
-use Rattle.meaning.specs.Elements.{Piece, kinds}
+use Rattle.meaning.specs.Elements.{Piece}
+use Rattle.meaning.specs.Pieces.{kindsInPiece, classOf}
 use Rattle.meaning.proofs.Cutting.{total}
-use Rattle.meaning.specs.Names.{classOf, Done}
+use Rattle.meaning.specs.Names.{Done}
 use Rattle.meaning.specs.Records.{itemValueWords, recordOf, recordsFrom}
 use Rattle.meaning.proofs.Records.{pending, pendings, piecesDone, pieces-pending, pieces-append, records-length, word-at-record}
 
@@ -58,7 +59,7 @@ module _ (ds : List Done) (y j : ℕ) (h : j < length ds) where
   unfolding recordOf
   class-at = word-of 0 (omega arith)
 
-  pub name-at : wordAt (itemTable ds y) j column.name ≡ nameOf (total (take j (piecesDone ds))) (pieceClass (kinds (doneAt ds j .piece)) .place)
+  pub name-at : wordAt (itemTable ds y) j column.name ≡ nameOf (total (take j (piecesDone ds))) (pieceClass (kindsInPiece (doneAt ds j .piece)) .place)
   unfolding recordOf
   name-at = word-of column.name (omega arith)
 
@@ -69,4 +70,4 @@ module _ (ds : List Done) (y j : ℕ) (h : j < length ds) where
       let p = doneAt ds j .piece in
       let from = total (take j (piecesDone ds)) in
       word-of (column.state + k) (omega arith)
-      ∙ getD-append-add (classOf p ∷ from ∷ length p ∷ nameOf from (pieceClass (kinds p) .place) ∷ []) (itemValueWords (isItem (classOf p)) (doneAt ds j .value)) k 0
+      ∙ getD-append-add (classOf p ∷ from ∷ length p ∷ nameOf from (pieceClass (kindsInPiece p) .place) ∷ []) (itemValueWords (isItem (classOf p)) (doneAt ds j .value)) k 0

@@ -2,21 +2,18 @@
 -- rules or machine. Assumes nothing: these are definitions.
 use Prim.Native.Nat.{ℕ}
 use mathlib.Core.Path.{_≡_}
-use mathlib.Core.Logic.{_⊎_}
 use mathlib.Core.Bool.{Bool, true, false}
 use mathlib.Core.List.{List, [], _∷_}
 use lib.ListN.{getD}
 use Rattle.form_numbers.specs.Forms as form
 use Rattle.forms.specs.Spellings.{spelled}
 use Rattle.forms.specs.Lines as line
-use Rattle.forms.specs.Lines.{IsAmong, ownItems}
-use Rattle.forms.specs.Tree.{Row}
+use Rattle.forms.specs.Tree.{Row, behind}
 use Rattle.one_tree.specs.Elements.{formKind}
 use Rattle.one_tree.specs.Trees.{IsConstant, IsSubtype, Shallow}
 use Rattle.folding.specs.declared.Operator.{Operator}
 use Rattle.folding.specs.declared.Sign.{Sign}
 use Rattle.operands.specs.Operands.{operatorOf, signOf}
-use Rattle.forms.specs.Tree.{behind}
 use Rattle.meaning.specs.Elements.{Element, Piece, at}
 
 -- ---- expressions and items
@@ -31,10 +28,10 @@ pub data Expression : Type 0 where
 
 -- 4, "constant N : mark := expression;", and 5, "subtype N is mark [range 10];", each with its mark; 10, "simple expression, to or downto,
 -- simple expression", whether it is downto between the two
-pub data Item : Type 0 where
-  constant : Element → Expression → Item
-  subtype : Element → Item
-  ranged : Element → Expression → Bool → Expression → Item
+pub data ItemForm : Type 0 where
+  constant : Element → Expression → ItemForm
+  subtype : Element → ItemForm
+  ranged : Element → Expression → Bool → Expression → ItemForm
 
 -- ---- by their rows: "Rows stand parent first, children in text order."
 
@@ -57,22 +54,14 @@ toForms (x ∷ p) = formKind (x .kind) ∷ toForms p
 abbrev pub Tree : (List ℕ → List Row → Type 0) → Piece → List Row → Type 0
 Tree Of p rs = Of (toForms p) rs × Shallow 0 (toForms p)
 
--- of the one or of the other
-abbrev pub ItemTree : Piece → List Row → Type 0
-ItemTree p rs = Tree IsConstant p rs ⊎ Tree IsSubtype p rs
-
 -- which way a range goes: to or downto is one of its own elements, which are those outside its bounds
-pub data Goes (w : List ℕ) (own : List line.Item) : Bool → Type 0 where
-  to : (i : ℕ) → IsAmong (line.at i) own → getD w i 0 ≡ spelled "to" → Goes w own false
-  downto : (i : ℕ) → IsAmong (line.at i) own → getD w i 0 ≡ spelled "downto" → Goes w own true
+pub data Goes (w : List ℕ) (own : List line.OwnItem) : Bool → Type 0 where
+  to : (i : ℕ) → line.IsAmong (line.at i) own → getD w i 0 ≡ spelled "to" → Goes w own false
+  downto : (i : ℕ) → line.IsAmong (line.at i) own → getD w i 0 ≡ spelled "downto" → Goes w own true
 
 -- "a constant or a subtype by the forms above": after its own row stands its mark's, then its expression's, or its range's and the bounds'
-pub data HasForm (p : Piece) : Item → Type 0 where
+pub data HasForm (p : Piece) : ItemForm → Type 0 where
   is-constant : {item mark : Row} {rs : List Row} {x : Expression} → Tree IsConstant p (item ∷ mark ∷ rs) → Is p rs x → HasForm p (constant (at p (mark .first)) x)
   is-subtype : {item mark : Row} → Tree IsSubtype p (item ∷ mark ∷ []) → HasForm p (subtype (at p (mark .first)))
   is-ranged : {item mark range : Row} {rs : List Row} {x y : Expression} {down : Bool} → Tree IsSubtype p (item ∷ mark ∷ range ∷ rs)
-      → Goes (toForms p) (ownItems (toForms p) range rs) down → Is p rs x → Is p (behind rs) y → HasForm p (ranged (at p (mark .first)) x down y)
-
--- "a constant or a subtype by the forms above"
-abbrev pub Fits : Piece → Type 0
-Fits p = (i : Item) × HasForm p i
+      → Goes (toForms p) (line.ownItems (toForms p) range rs) down → Is p rs x → Is p (behind rs) y → HasForm p (ranged (at p (mark .first)) x down y)

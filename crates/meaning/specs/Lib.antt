@@ -1,7 +1,8 @@
 pub mod Elements
-pub mod Sameness
+pub mod Pieces
 pub mod Names
 pub mod Forms
+pub mod Items
 pub mod States
 pub mod Values
 pub mod Meaning

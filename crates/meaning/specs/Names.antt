@@ -1,32 +1,31 @@
 -- Which pieces claim a name, and what a name comes to where it is used (01, "Pieces, items, states"). Assumes nothing.
 use Prim.Native.Nat.{ℕ, _+_}
-use mathlib.Core.Bool.{Bool, true, false, cond, not, _||_}
+use mathlib.Core.Bool.{Bool, true, false, cond, not, _&&_, _||_}
 use mathlib.Core.List.{List, [], _∷_}
 use lib.Dec.{eqb, leb}
-use Rattle.same_names.specs.Spelling.{spelt}
-use Rattle.pieces.specs.Kinds.{pieceClass}
-use Rattle.records.specs.Records.{isClaim}
-use Rattle.records.specs.Tallies.{oneIf}
+use Rattle.same_names.specs.Spelling.{spelt, byKind}
+use Rattle.spelled.specs.Spelled.{kindOf}
+use Rattle.records.specs.Counting.{oneIf}
 use Rattle.names.specs.Language.{languageNames, languageNumber}
-use Rattle.values.specs.Values.{languageValue}
-use Rattle.values.specs.Words.{leanOf}
+use Rattle.values.specs.Values.{languageValue, leanOf}
 use Rattle.values.specs.declared.Value.{Value}
-use Rattle.values.specs.declared.Value.the-variants.{Without}
 use Rattle.states.specs.States as state
-use Rattle.places.specs.Kinds.{identifier}
-use Rattle.meaning.specs.Elements.{Element, Piece, at, kinds}
-use Rattle.meaning.specs.Sameness.{sameAs}
+use Rattle.places.specs.Kinds.{identifierKind, isName}
+use Rattle.meaning.specs.Elements.{Element, Piece, at}
 
--- the class of a piece
-abbrev pub classOf : Piece → ℕ
-classOf p = pieceClass (kinds p) .class
+-- case is ignored, but in extended identifiers, which "keep case and equal no basic identifier"
+unfoldable pub sameAs : Element → Element → Bool
+sameAs x y = cond (eqb (x .kind) (y .kind)) (byKind (x .kind) (spelt true (x .bytes) (y .bytes)) (spelt false (x .bytes) (y .bytes))) false
 
 -- "A piece claims a name if it begins with constant or subtype and then a name, broken or not": the names that it claims, none or one
 abbrev pub ownName : Piece → Element
 ownName p = at p 1
 
+unfoldable pub beginsClaim : Piece → Bool
+beginsClaim p = (eqb (at p 0 .kind) (kindOf "constant") || eqb (at p 0 .kind) (kindOf "subtype")) && isName (ownName p .kind)
+
 unfoldable pub namesClaimed : Piece → List Element
-namesClaimed p = cond (isClaim (classOf p)) (ownName p ∷ []) []
+namesClaimed p = cond (beginsClaim p) (ownName p ∷ []) []
 
 -- x is one of these names
 abbrev pub isOneOf : Element → List Element → Bool
@@ -38,7 +37,7 @@ claims x p = isOneOf x (namesClaimed p)
 
 -- "The names integer, natural, positive, boolean, true, false are claimed by the language already": its number, else 0
 abbrev pub language : Element → ℕ
-language x = cond (eqb (x .kind) identifier) (languageNumber (spelt true (x .bytes)) 1 languageNames) 0
+language x = cond (eqb (x .kind) identifierKind) (languageNumber (spelt true (x .bytes)) 1 languageNames) 0
 
 -- how many claims a name has in a text, the language's included
 unfoldable pub claimsIn : Element → List Piece → ℕ
@@ -49,13 +48,13 @@ claimsIn x (p ∷ ps) = oneIf (claims x p) + claimsIn x ps
 abbrev pub twice : ℕ
 twice = 2
 
-abbrev pub doubled : List Piece → Element → Bool
-doubled all x = leb twice (claimsIn x all)
+abbrev pub isDoubled : List Piece → Element → Bool
+isDoubled all x = leb twice (claimsIn x all)
 
 -- one of these names is
 abbrev pub anyDoubled : List Piece → List Element → Bool
 anyDoubled all [] = false
-anyDoubled all (x ∷ xs) = doubled all x || anyDoubled all xs
+anyDoubled all (x ∷ xs) = isDoubled all x || anyDoubled all xs
 
 -- "its name": one of those that the piece claims
 abbrev pub ownDoubled : List Piece → Piece → Bool
@@ -79,4 +78,4 @@ firstAbove x (d ∷ ds) = elim (claims x (d .piece)) [ true ↦ d .value | false
 -- a name used below `above` in the text `all`; 4, "a name used with no claim above"; 5, "a name used that is doubled, or whose item isn't in
 -- state 0"
 unfoldable pub useOf : List Piece → List Done → Element → Value
-useOf all above x = cond (claimedAbove x above) (cond (doubled all x) (Without state.leans) (leanOf (firstAbove x above))) (Without state.unknown)
+useOf all above x = cond (claimedAbove x above) (cond (isDoubled all x) (Value.Without state.leans) (leanOf (firstAbove x above))) (Value.Without state.unknown)

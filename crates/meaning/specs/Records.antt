@@ -8,7 +8,8 @@ use Rattle.pieces.specs.Records.{nameOf}
 use Rattle.records.specs.Records.{isItem}
 use Rattle.values.specs.Words.{valueWords}
 use Rattle.values.specs.declared.Value.{Value}
-use Rattle.meaning.specs.Elements.{Piece, kinds}
+use Rattle.meaning.specs.Elements.{Piece}
+use Rattle.meaning.specs.Pieces.{kindsInPiece}
 use Rattle.meaning.specs.Names.{Done}
 use Rattle.meaning.specs.Together.{pieceAt}
 
@@ -29,8 +30,8 @@ itemValueWords false v = 0 ∷ 0 ∷ 0 ∷ 0 ∷ []
 
 unfoldable pub recordOf : ℕ → Done → List ℕ
 recordOf from d =
-    pieceClass (kinds (d .piece)) .class ∷ from ∷ length (d .piece) ∷ nameOf from (pieceClass (kinds (d .piece)) .place)
-    ∷ itemValueWords (isItem (pieceClass (kinds (d .piece)) .class)) (d .value)
+    pieceClass (kindsInPiece (d .piece)) .class ∷ from ∷ length (d .piece) ∷ nameOf from (pieceClass (kindsInPiece (d .piece)) .place)
+    ∷ itemValueWords (isItem (pieceClass (kindsInPiece (d .piece)) .class)) (d .value)
 
 -- the records, the first piece's first element being number `from`
 unfoldable pub recordsFrom : ℕ → List Done → List ℕ

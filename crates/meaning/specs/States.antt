@@ -10,16 +10,14 @@ use Rattle.integers.specs.declared.Arithmetic.{Arithmetic}
 use Rattle.folding.specs.declared.Relation.{Relation}
 use Rattle.folding.specs.declared.Logic.{Logic}
 use Rattle.folding.specs.declared.Operator.{Operator}
-use Rattle.folding.specs.declared.Operator.the-variants as O
 use Rattle.folding.specs.declared.Sign.{Sign}
-use Rattle.folding.specs.declared.Sign.the-variants.{Plus, Minus, Absolute, Not}
-use Rattle.places.specs.Kinds.{integerLiteral}
+use Rattle.places.specs.Kinds.{integerLiteralKind}
 use Rattle.states.specs.States as state
 use Rattle.values.specs.declared.Value.{Value}
 use Rattle.values.specs.declared.Value.the-variants.{Number, Truth, Range, Truths, Without}
 use Rattle.meaning.specs.Elements.{Element, Piece}
 use Rattle.meaning.specs.Names.{ownDoubled, Done, useOf}
-use Rattle.meaning.specs.Forms.{Expression, name, literal, unfolded, unary, binary, Item, constant, subtype, ranged, HasForm}
+use Rattle.meaning.specs.Forms.{Expression, name, literal, unfolded, unary, binary, ItemForm, constant, subtype, ranged, HasForm}
 
 -- ---- integer or truth: what the last operator, the name or the literal says alone
 
@@ -36,22 +34,22 @@ nameKind Truths = neither
 nameKind (Without s) = neither
 
 abbrev pub signKind : Sign → Kind
-signKind Plus = integer
-signKind Minus = integer
-signKind Absolute = integer
-signKind Not = truth
+signKind Sign.Plus = integer
+signKind Sign.Minus = integer
+signKind Sign.Absolute = integer
+signKind Sign.Not = truth
 
 abbrev pub operatorKind : Operator → Kind
-operatorKind (O.Arithmetic o) = integer
-operatorKind (O.Relation o) = truth
-operatorKind (O.Logic o) = truth
-operatorKind O.Join = neither
+operatorKind (Operator.Arithmetic o) = integer
+operatorKind (Operator.Relation o) = truth
+operatorKind (Operator.Logic o) = truth
+operatorKind Operator.Join = neither
 
 -- what a name used comes to is given as `used`
 module _ (used : Element → Value) where
   abbrev pub expressionKind : Expression → Kind
   expressionKind (name x) = nameKind (used x)
-  expressionKind (literal x) = cond (eqb (x .kind) integerLiteral) integer neither
+  expressionKind (literal x) = cond (eqb (x .kind) integerLiteralKind) integer neither
   expressionKind unfolded = neither
   expressionKind (unary o x) = signKind o
   expressionKind (binary o x y) = operatorKind o
@@ -60,24 +58,24 @@ module _ (used : Element → Value) where
 
 pub data Meets (used : Element → Value) : Expression → ℕ → Type 0 where
   -- 3 unfolded: "a real, character or string literal, `&`, form 25 or 26"
-  other-literal : {x : Element} → (x .kind ≡ integerLiteral → ⊥) → Meets used (literal x) state.unfolded
-  join : {x y : Expression} → Meets used (binary O.Join x y) state.unfolded
+  other-literal : {x : Element} → (x .kind ≡ integerLiteralKind → ⊥) → Meets used (literal x) state.unfolded
+  join : {x y : Expression} → Meets used (binary Operator.Join x y) state.unfolded
   other-form : Meets used unfolded state.unfolded
   -- 4 unknown, "a name used with no claim above"; 5 leans, "a name used that is doubled, or whose item isn't in state 0"
   without : {x : Element} {s : ℕ} → used x ≡ Without s → Meets used (name x) s
   -- 6 kind: "integer and truth mixed"
-  mixed-left : {o : Relation} {x y : Expression} → expressionKind used x ≡ integer → expressionKind used y ≡ truth → Meets used (binary (O.Relation o) x y) state.kind
-  mixed-right : {o : Relation} {x y : Expression} → expressionKind used x ≡ truth → expressionKind used y ≡ integer → Meets used (binary (O.Relation o) x y) state.kind
+  mixed-left : {o : Relation} {x y : Expression} → expressionKind used x ≡ integer → expressionKind used y ≡ truth → Meets used (binary (Operator.Relation o) x y) state.kind
+  mixed-right : {o : Relation} {x y : Expression} → expressionKind used x ≡ truth → expressionKind used y ≡ integer → Meets used (binary (Operator.Relation o) x y) state.kind
   -- 6: "arithmetic on truths"
-  plus-truth : {x : Expression} → expressionKind used x ≡ truth → Meets used (unary Plus x) state.kind
-  minus-truth : {x : Expression} → expressionKind used x ≡ truth → Meets used (unary Minus x) state.kind
-  absolute-truth : {x : Expression} → expressionKind used x ≡ truth → Meets used (unary Absolute x) state.kind
-  truth-left : {o : Arithmetic} {x y : Expression} → expressionKind used x ≡ truth → Meets used (binary (O.Arithmetic o) x y) state.kind
-  truth-right : {o : Arithmetic} {x y : Expression} → expressionKind used y ≡ truth → Meets used (binary (O.Arithmetic o) x y) state.kind
+  plus-truth : {x : Expression} → expressionKind used x ≡ truth → Meets used (unary Sign.Plus x) state.kind
+  minus-truth : {x : Expression} → expressionKind used x ≡ truth → Meets used (unary Sign.Minus x) state.kind
+  absolute-truth : {x : Expression} → expressionKind used x ≡ truth → Meets used (unary Sign.Absolute x) state.kind
+  truth-left : {o : Arithmetic} {x y : Expression} → expressionKind used x ≡ truth → Meets used (binary (Operator.Arithmetic o) x y) state.kind
+  truth-right : {o : Arithmetic} {x y : Expression} → expressionKind used y ≡ truth → Meets used (binary (Operator.Arithmetic o) x y) state.kind
   -- 6: "logic on integers"
-  not-integer : {x : Expression} → expressionKind used x ≡ integer → Meets used (unary Not x) state.kind
-  integer-left : {o : Logic} {x y : Expression} → expressionKind used x ≡ integer → Meets used (binary (O.Logic o) x y) state.kind
-  integer-right : {o : Logic} {x y : Expression} → expressionKind used y ≡ integer → Meets used (binary (O.Logic o) x y) state.kind
+  not-integer : {x : Expression} → expressionKind used x ≡ integer → Meets used (unary Sign.Not x) state.kind
+  integer-left : {o : Logic} {x y : Expression} → expressionKind used x ≡ integer → Meets used (binary (Operator.Logic o) x y) state.kind
+  integer-right : {o : Logic} {x y : Expression} → expressionKind used y ≡ integer → Meets used (binary (Operator.Logic o) x y) state.kind
   -- 6: "a type as a number"
   range-as-number : {x : Element} {low high : ℤ} → used x ≡ Range low high → Meets used (name x) state.kind
   boolean-as-number : {x : Element} → used x ≡ Truths → Meets used (name x) state.kind
@@ -88,17 +86,17 @@ pub data Meets (used : Element → Value) : Expression → ℕ → Type 0 where
 
 -- ---- the states that an item meets by its mark and its expressions
 
-abbrev pub markOf : Item → Element
+abbrev pub markOf : ItemForm → Element
 markOf (constant m x) = m
 markOf (subtype m) = m
 markOf (ranged m x down y) = m
 
-pub data ItemMeets (used : Element → Value) : Item → ℕ → Type 0 where
+pub data ItemMeets (used : Element → Value) : ItemForm → ℕ → Type 0 where
   -- 4 and 5, the mark being a name used
-  mark-without : {i : Item} {s : ℕ} → used (markOf i) ≡ Without s → ItemMeets used i s
+  mark-without : {i : ItemForm} {s : ℕ} → used (markOf i) ≡ Without s → ItemMeets used i s
   -- 6: "a type as a number, or the reverse"
-  number-as-type : {i : Item} {z : ℤ} → used (markOf i) ≡ Number z → ItemMeets used i state.kind
-  truth-as-type : {i : Item} {t : Bool} → used (markOf i) ≡ Truth t → ItemMeets used i state.kind
+  number-as-type : {i : ItemForm} {z : ℤ} → used (markOf i) ≡ Number z → ItemMeets used i state.kind
+  truth-as-type : {i : ItemForm} {t : Bool} → used (markOf i) ≡ Truth t → ItemMeets used i state.kind
   -- those of the initial value; 6: "integer and truth mixed"
   value : {m : Element} {x : Expression} {s : ℕ} → Meets used x s → ItemMeets used (constant m x) s
   truth-in-range : {m : Element} {x : Expression} {low high : ℤ} → used m ≡ Range low high → expressionKind used x ≡ truth → ItemMeets used (constant m x) state.kind
@@ -114,11 +112,11 @@ pub data ItemMeets (used : Element → Value) : Item → ℕ → Type 0 where
 
 pub data Met (all : List Piece) (above : List Done) (p : Piece) : ℕ → Type 0 where
   -- 1 broken: "no form fits"
-  broken : ((i : Item) → HasForm p i → ⊥) → Met all above p state.broken
+  broken : ((i : ItemForm) → HasForm p i → ⊥) → Met all above p state.broken
   -- 2 doubled: "its name has another claim anywhere, the language's included"
   doubled : ownDoubled all p ≡ true → Met all above p state.doubled
   -- 3 to 6
-  by-form : {i : Item} {s : ℕ} → HasForm p i → ItemMeets (useOf all above) i s → Met all above p s
+  by-form : {i : ItemForm} {s : ℕ} → HasForm p i → ItemMeets (useOf all above) i s → Met all above p s
 
 -- "The smallest of 1 to 6 wins"
 abbrev pub Least : (ℕ → Type 0) → ℕ → Type 0

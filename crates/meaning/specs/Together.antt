@@ -11,13 +11,13 @@ use Rattle.pieces.specs.Kinds as pieces
 use Rattle.pieces.specs.Classes as class
 use Rattle.pieces.specs.Classes.{isEither}
 use Rattle.records.specs.Records.{isItem}
-use Rattle.records.specs.Tallies.{oneIf}
+use Rattle.records.specs.Counting.{oneIf}
 use Rattle.pairs.specs.declared.Pair.{Pair}
 use Rattle.pairs.specs.declared.Pair.the-variants.{Both, Neither}
 use Rattle.values.specs.Words.{stateOf}
-use Rattle.meaning.specs.Elements.{Element, Piece, at, kinds}
-use Rattle.meaning.specs.Sameness.{sameAs}
-use Rattle.meaning.specs.Names.{classOf, namesClaimed, claims, Done}
+use Rattle.meaning.specs.Elements.{Element, Piece, at}
+use Rattle.meaning.specs.Pieces.{kindsInPiece, classOf}
+use Rattle.meaning.specs.Names.{namesClaimed, claims, Done, sameAs}
 
 -- a piece by its number, from 0
 abbrev pub pieceAt : List Piece → ℕ → Piece
@@ -25,7 +25,7 @@ pieceAt ps i = getD ps i []
 
 -- where the name of a piece stands in it, 0 where it has none
 abbrev pub namePlace : Piece → ℕ
-namePlace p = pieces.pieceClass (kinds p) .place
+namePlace p = pieces.pieceClass (kindsInPiece p) .place
 
 -- "a closing name agrees"
 abbrev pub Agrees : Piece → Piece → Type 0

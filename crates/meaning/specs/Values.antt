@@ -14,71 +14,68 @@ use Rattle.folding.specs.Operators.{relationOf, truthPlace, logicOf, decides}
 use Rattle.folding.specs.declared.Relation.{Relation}
 use Rattle.folding.specs.declared.Logic.{Logic}
 use Rattle.folding.specs.declared.Operator.{Operator}
-use Rattle.folding.specs.declared.Operator.the-variants as O
 use Rattle.folding.specs.declared.Sign.{Sign}
-use Rattle.folding.specs.declared.Sign.the-variants.{Plus, Minus, Absolute, Not}
 use Rattle.states.specs.States as state
 use Rattle.values.specs.declared.Value.{Value}
-use Rattle.values.specs.declared.Value.the-variants as value
 use Rattle.meaning.specs.Elements.{Element}
-use Rattle.meaning.specs.Forms.{Expression, name, literal, unary, binary, Item, constant, subtype, ranged}
-use Rattle.places.specs.Kinds.{integerLiteral}
+use Rattle.meaning.specs.Forms.{Expression, name, literal, unary, binary, ItemForm, constant, subtype, ranged}
+use Rattle.places.specs.Kinds.{integerLiteralKind}
 
 -- ---- expressions: "an integer, a truth, or the state that stopped it"
 
 -- the left side decides, and the right one is skipped
 abbrev pub skips : Operator → Bool → Bool
-skips (O.Arithmetic o) t = false
-skips (O.Relation o) t = false
-skips (O.Logic o) t = decides o t
-skips O.Join t = false
+skips (Operator.Arithmetic o) t = false
+skips (Operator.Relation o) t = false
+skips (Operator.Logic o) t = decides o t
+skips Operator.Join t = false
 
 pub data Folds (used : Element → Value) : Expression → Folded → Type 0 where
   -- a name used, and an integer literal; 9, "a literal .. beyond 2147483647 in size"
-  number-used : {x : Element} {z : ℤ} → used x ≡ value.Number z → Folds used (name x) (Whole z)
-  truth-used : {x : Element} {t : Bool} → used x ≡ value.Truth t → Folds used (name x) (Truth t)
-  spelled : {x : Element} → x .kind ≡ integerLiteral → Folds used (literal x) (literalOf (x .bytes))
+  number-used : {x : Element} {z : ℤ} → used x ≡ Value.Number z → Folds used (name x) (Whole z)
+  truth-used : {x : Element} {t : Bool} → used x ≡ Value.Truth t → Folds used (name x) (Truth t)
+  spelled : {x : Element} → x .kind ≡ integerLiteralKind → Folds used (literal x) (literalOf (x .bytes))
   -- one operand; 9, "or result"
   stops : {o : Sign} {x : Expression} {s : ℕ} → Folds used x (Stopped s) → Folds used (unary o x) (Stopped s)
-  plus : {x : Expression} {a : ℤ} → Folds used x (Whole a) → Folds used (unary Plus x) (sizedOf a)
-  minus : {x : Expression} {a : ℤ} → Folds used x (Whole a) → Folds used (unary Minus x) (sizedOf (negℤ a))
-  absolute : {x : Expression} {a : ℤ} → Folds used x (Whole a) → Folds used (unary Absolute x) (sizedOf (pos (natAbs a)))
-  opposite : {x : Expression} {t : Bool} → Folds used x (Truth t) → Folds used (unary Not x) (Truth (not t))
+  plus : {x : Expression} {a : ℤ} → Folds used x (Whole a) → Folds used (unary Sign.Plus x) (sizedOf a)
+  minus : {x : Expression} {a : ℤ} → Folds used x (Whole a) → Folds used (unary Sign.Minus x) (sizedOf (negℤ a))
+  absolute : {x : Expression} {a : ℤ} → Folds used x (Whole a) → Folds used (unary Sign.Absolute x) (sizedOf (pos (natAbs a)))
+  opposite : {x : Expression} {t : Bool} → Folds used x (Truth t) → Folds used (unary Sign.Not x) (Truth (not t))
   -- two: "the first of 7 to 9 met, left operand, right operand, operator", but "`and`, `nand`, `or`, `nor` skip the right side where the left decides"
   left-stops : {o : Operator} {x y : Expression} {s : ℕ} → Folds used x (Stopped s) → Folds used (binary o x y) (Stopped s)
-  skipped : {o : Logic} {x y : Expression} {t : Bool} → Folds used x (Truth t) → decides o t ≡ true → Folds used (binary (O.Logic o) x y) (Truth (logicOf o t t))
+  skipped : {o : Logic} {x y : Expression} {t : Bool} → Folds used x (Truth t) → decides o t ≡ true → Folds used (binary (Operator.Logic o) x y) (Truth (logicOf o t t))
   right-stops : {o : Operator} {x y : Expression} {a : ℤ} {s : ℕ} → Folds used x (Whole a) → Folds used y (Stopped s) → Folds used (binary o x y) (Stopped s)
   right-stops-too : {o : Operator} {x y : Expression} {t : Bool} {s : ℕ} → Folds used x (Truth t) → skips o t ≡ false → Folds used y (Stopped s)
       → Folds used (binary o x y) (Stopped s)
-  computed : {o : Arithmetic} {x y : Expression} {a b : ℤ} → Folds used x (Whole a) → Folds used y (Whole b) → Folds used (binary (O.Arithmetic o) x y) (arithmeticOf o a b)
-  related : {o : Relation} {x y : Expression} {a b : ℤ} → Folds used x (Whole a) → Folds used y (Whole b) → Folds used (binary (O.Relation o) x y) (Truth (relationOf o a b))
+  computed : {o : Arithmetic} {x y : Expression} {a b : ℤ} → Folds used x (Whole a) → Folds used y (Whole b) → Folds used (binary (Operator.Arithmetic o) x y) (arithmeticOf o a b)
+  related : {o : Relation} {x y : Expression} {a b : ℤ} → Folds used x (Whole a) → Folds used y (Whole b) → Folds used (binary (Operator.Relation o) x y) (Truth (relationOf o a b))
   -- all six relations hold on two truths, false below true (000, 9.2.3)
   truths-related : {o : Relation} {x y : Expression} {t u : Bool} → Folds used x (Truth t) → Folds used y (Truth u)
-      → Folds used (binary (O.Relation o) x y) (Truth (relationOf o (truthPlace t) (truthPlace u)))
+      → Folds used (binary (Operator.Relation o) x y) (Truth (relationOf o (truthPlace t) (truthPlace u)))
   connected : {o : Logic} {x y : Expression} {t u : Bool} → Folds used x (Truth t) → decides o t ≡ false → Folds used y (Truth u)
-      → Folds used (binary (O.Logic o) x y) (Truth (logicOf o t u))
+      → Folds used (binary (Operator.Logic o) x y) (Truth (logicOf o t u))
 
 -- ---- items
 
 -- 10, "outside its mark's range"
 abbrev pub heldIn : ℤ → ℤ → ℤ → Value
-heldIn low high z = cond (leZ low z && leZ z high) (value.Number z) (value.Without state.range)
+heldIn low high z = cond (leZ low z && leZ z high) (Value.Number z) (Value.Without state.range)
 
 -- "A low end above the high one is a null range, state 0"; 10, "a non-null subtype range outside its parent's"
 abbrev pub rangeIn : ℤ → ℤ → ℤ → ℤ → Value
-rangeIn least most low high = cond (ltZ high low) (value.Range low high) (cond (leZ least low && leZ high most) (value.Range low high) (value.Without state.range))
+rangeIn least most low high = cond (ltZ high low) (Value.Range low high) (cond (leZ least low && leZ high most) (Value.Range low high) (Value.Without state.range))
 
-pub data Gives (used : Element → Value) : Item → Value → Type 0 where
+pub data Gives (used : Element → Value) : ItemForm → Value → Type 0 where
   -- "When a bound or an initial value comes back without a number, the item .. ends there in that state."
-  value-stops : {m : Element} {x : Expression} {s : ℕ} → Folds used x (Stopped s) → Gives used (constant m x) (value.Without s)
-  first-stops : {m : Element} {x y : Expression} {down : Bool} {s : ℕ} → Folds used x (Stopped s) → Gives used (ranged m x down y) (value.Without s)
-  second-stops : {m : Element} {x y : Expression} {down : Bool} {a : ℤ} {s : ℕ} → Folds used x (Whole a) → Folds used y (Stopped s) → Gives used (ranged m x down y) (value.Without s)
+  value-stops : {m : Element} {x : Expression} {s : ℕ} → Folds used x (Stopped s) → Gives used (constant m x) (Value.Without s)
+  first-stops : {m : Element} {x y : Expression} {down : Bool} {s : ℕ} → Folds used x (Stopped s) → Gives used (ranged m x down y) (Value.Without s)
+  second-stops : {m : Element} {x y : Expression} {down : Bool} {a : ℤ} {s : ℕ} → Folds used x (Whole a) → Folds used y (Stopped s) → Gives used (ranged m x down y) (Value.Without s)
   -- 0, "a number, a truth, or for a subtype its low and high end"
-  number-held : {m : Element} {x : Expression} {low high z : ℤ} → used m ≡ value.Range low high → Folds used x (Whole z) → Gives used (constant m x) (heldIn low high z)
-  truth-held : {m : Element} {x : Expression} {t : Bool} → used m ≡ value.Truths → Folds used x (Truth t) → Gives used (constant m x) (value.Truth t)
-  same-range : {m : Element} {low high : ℤ} → used m ≡ value.Range low high → Gives used (subtype m) (value.Range low high)
-  boolean : {m : Element} → used m ≡ value.Truths → Gives used (subtype m) value.Truths
-  upward : {m : Element} {x y : Expression} {least most a b : ℤ} → used m ≡ value.Range least most → Folds used x (Whole a) → Folds used y (Whole b)
+  number-held : {m : Element} {x : Expression} {low high z : ℤ} → used m ≡ Value.Range low high → Folds used x (Whole z) → Gives used (constant m x) (heldIn low high z)
+  truth-held : {m : Element} {x : Expression} {t : Bool} → used m ≡ Value.Truths → Folds used x (Truth t) → Gives used (constant m x) (Value.Truth t)
+  same-range : {m : Element} {low high : ℤ} → used m ≡ Value.Range low high → Gives used (subtype m) (Value.Range low high)
+  boolean : {m : Element} → used m ≡ Value.Truths → Gives used (subtype m) Value.Truths
+  upward : {m : Element} {x y : Expression} {least most a b : ℤ} → used m ≡ Value.Range least most → Folds used x (Whole a) → Folds used y (Whole b)
       → Gives used (ranged m x false y) (rangeIn least most a b)
-  downward : {m : Element} {x y : Expression} {least most a b : ℤ} → used m ≡ value.Range least most → Folds used x (Whole a) → Folds used y (Whole b)
+  downward : {m : Element} {x y : Expression} {least most a b : ℤ} → used m ≡ Value.Range least most → Folds used x (Whole a) → Folds used y (Whole b)
       → Gives used (ranged m x true y) (rangeIn least most b a)

@@ -16,7 +16,7 @@ use Rattle.same_names.proofs.Sameness.{same-kindless}
 use Rattle.records.specs.Records.{wordAt, isClaim}
 use Rattle.pieces.specs.Columns as column
 use Rattle.places.specs.Sizes.{mostPieces}
-use Rattle.places.specs.Kinds.{identifier, extended}
+use Rattle.places.specs.Kinds.{identifierKind, extendedKind}
 use Rattle.names.specs.code.Links.{recordsIn, firstFrom, claimsElement, linkOf, upTo}
 use Rattle.names.specs.code.Chains.{bucketOf, inBucket, Chained, buckets}
 use Rattle.names.proofs.Firsts.{first-found, first-hit, first-miss, first-end, search-over, search-inside, search-in, search-hit, search-turn}
@@ -113,7 +113,7 @@ module _ (text table items : List ℕ) (e : ℕ) where
       rw x (eq-eqb (bucketOf text table (wordAt items k column.name)) (bucketOf text table e) (same-bucket text table (wordAt items k column.name) e y))
 
   -- no claims of what is no name
-  search-not : (kind : ℕ) → kind ≡ cellAt table e 0 → (eqb kind identifier || eqb kind extended) ≡ false → 0 ≡ linkOf text table items e
+  search-not : (kind : ℕ) → kind ≡ cellAt table e 0 → (eqb kind identifierKind || eqb kind extendedKind) ≡ false → 0 ≡ linkOf text table items e
   unfolding linkOf claimsElement
   search-not kind k h = sym (go (linkOf text table items e) refl)
     where
@@ -122,11 +122,11 @@ module _ (text table items : List ℕ) (e : ℕ) where
       go (suc f) g =
           let w = first-found (claimsElement text table items e) 0 (recordsIn items) f g in
           absurd (same-kindless text table (wordAt items f column.name) e
-          (λ z. eqb-false kind identifier (or-left (eqb kind identifier) (eqb kind extended) h) (k ∙ z))
-          (λ z. eqb-false kind extended (or-right (eqb kind identifier) (eqb kind extended) h) (k ∙ z))
+          (λ z. eqb-false kind identifierKind (or-left (eqb kind identifierKind) (eqb kind extendedKind) h) (k ∙ z))
+          (λ z. eqb-false kind extendedKind (or-right (eqb kind identifierKind) (eqb kind extendedKind) h) (k ∙ z))
           (both-right (isClaim (wordAt items f column.class)) (sameName text table (wordAt items f column.name) e) (w .2)))
 
-  pub link-not : (rows kind : ℕ) → e < rows → kind ≡ cellAt table e 0 → (eqb kind identifier || eqb kind extended) ≡ false → 0 ≡ upTo (linkOf text table items) rows e
+  pub link-not : (rows kind : ℕ) → e < rows → kind ≡ cellAt table e 0 → (eqb kind identifierKind || eqb kind extendedKind) ≡ false → 0 ≡ upTo (linkOf text table items) rows e
   link-not rows kind l k h = word-below (linkOf text table items) rows e 0 l (search-not kind k h)
 
   -- what is left of the search at h

@@ -7,10 +7,11 @@ use native.Mathlib.Omega.{arith}
 use lib.Dec.{eqb}
 use lib.ListN.{length, getD}
 use borrow.Author.Tests.{le-leb, leb-true}
-use Rattle.same_names.specs.Alike.{counts, agree, byKind, sameName}
+use Rattle.same_names.specs.Alike.{agree, sameName}
+use Rattle.same_names.specs.Spelling.{counts, byKind}
 use Rattle.places.specs.Places.{cellAt, within}
 use Rattle.same_names.proofs.Sameness.{agree-opens, same-opens}
-use Rattle.places.specs.Kinds.{identifier}
+use Rattle.places.specs.Kinds.{identifierKind}
 use Rattle.names.specs.code.Chains.{mixedWith, hashFrom, chainOf, bucketOf, hashes, perChain, buckets}
 
 -- what is left to hash
@@ -47,7 +48,7 @@ module _ (s l : List ℕ) (e first n : ℕ) (x : Bool) (p : first ≡ cellAt l e
   unfolding bucketOf
   bucket-out t = rw (← p, ← q, ← w, t)
 
-  pub bucket-in : (kind h : ℕ) → x ≡ true → kind ≡ cellAt l e 0 → h ≡ hashFrom (eqb kind identifier) s first n 0 → chainOf h ≡ bucketOf s l e
+  pub bucket-in : (kind h : ℕ) → x ≡ true → kind ≡ cellAt l e 0 → h ≡ hashFrom (eqb kind identifierKind) s first n 0 → chainOf h ≡ bucketOf s l e
   unfolding bucketOf
   bucket-in kind h t k g = rw (← p, ← q, ← w, t, ← k, g)
 

@@ -7,11 +7,11 @@ use native.Mathlib.Omega.{arith}
 use lib.ListN.{length}
 use borrow.Author.Tests.{eq-eqb, ne-eqb}
 use Rattle.places.specs.Places.{cellAt}
-use Rattle.same_names.specs.Spelling.{spelledAs}
+use Rattle.same_names.specs.Alike.{spelledAs}
 use Rattle.same_names.proofs.Spelling.{spelled-sized}
-use Rattle.places.specs.Kinds.{identifier}
+use Rattle.places.specs.Kinds.{identifierKind}
 use Rattle.words.specs.Words.{bytesOf}
-use Rattle.names.specs.Language.{integerName, naturalName, positiveName, booleanName, trueName, falseName, languageOf, name-integer, name-natural, name-positive, name-boolean, name-true, name-false}
+use Rattle.names.specs.code.Language.{integerName, naturalName, positiveName, booleanName, trueName, falseName, languageOf, name-integer, name-natural, name-positive, name-boolean, name-true, name-false}
 use Rattle.names.specs.code.Chains.{sevenOf}
 
 -- a name told or not
@@ -34,35 +34,35 @@ module _ (p : List ℕ → Bool) (x : Bool) (a : x ≡ p integerName) where
     seven-third r g e = rw (sym a ∙ h, sym b ∙ g) e
 
 module _ (text table : List ℕ) (e kind : ℕ) (k : kind ≡ cellAt table e 0) where
-  pub language-other : (kind ≡ identifier → ⊥) → 0 ≡ languageOf text table e
+  pub language-other : (kind ≡ identifierKind → ⊥) → 0 ≡ languageOf text table e
   unfolding languageOf
-  language-other h = rw (← k, ne-eqb kind identifier h)
+  language-other h = rw (← k, ne-eqb kind identifierKind h)
 
-  module _ (size : ℕ) (one : kind ≡ identifier) (s : size ≡ cellAt table e 2) where
+  module _ (size : ℕ) (one : kind ≡ identifierKind) (s : size ≡ cellAt table e 2) where
     out : (name : List ℕ) → (size ≡ length name → ⊥) → spelledAs true text table e name ≡ false
     out name h = spelled-sized true text table e name (λ z. h (s ∙ z))
 
     pub language-four : (r : ℕ) → size ≡ 4 → r ≡ cond (spelledAs true text table e trueName) name-true 0 → r ≡ languageOf text table e
     unfolding languageOf bytesOf
     language-four r h g =
-        rw (← k, eq-eqb kind identifier one, out integerName (λ z. omega arith), out naturalName (λ z. omega arith), out positiveName (λ z. omega arith), out booleanName (λ z. omega arith), out falseName (λ z. omega arith)) g
+        rw (← k, eq-eqb kind identifierKind one, out integerName (λ z. omega arith), out naturalName (λ z. omega arith), out positiveName (λ z. omega arith), out booleanName (λ z. omega arith), out falseName (λ z. omega arith)) g
 
     pub language-five : (r : ℕ) → size ≡ 5 → r ≡ cond (spelledAs true text table e falseName) name-false 0 → r ≡ languageOf text table e
     unfolding languageOf bytesOf
     language-five r h g =
-        rw (← k, eq-eqb kind identifier one, out integerName (λ z. omega arith), out naturalName (λ z. omega arith), out positiveName (λ z. omega arith), out booleanName (λ z. omega arith), out trueName (λ z. omega arith)) g
+        rw (← k, eq-eqb kind identifierKind one, out integerName (λ z. omega arith), out naturalName (λ z. omega arith), out positiveName (λ z. omega arith), out booleanName (λ z. omega arith), out trueName (λ z. omega arith)) g
 
     pub language-seven : (r : ℕ) → size ≡ 7 → r ≡ sevenOf (spelledAs true text table e) → r ≡ languageOf text table e
     unfolding languageOf bytesOf
     language-seven r h g =
-        rw (← k, eq-eqb kind identifier one, out positiveName (λ z. omega arith), out trueName (λ z. omega arith), out falseName (λ z. omega arith)) g
+        rw (← k, eq-eqb kind identifierKind one, out positiveName (λ z. omega arith), out trueName (λ z. omega arith), out falseName (λ z. omega arith)) g
 
     pub language-eight : (r : ℕ) → size ≡ 8 → r ≡ cond (spelledAs true text table e positiveName) name-positive 0 → r ≡ languageOf text table e
     unfolding languageOf bytesOf
     language-eight r h g =
-        rw (← k, eq-eqb kind identifier one, out integerName (λ z. omega arith), out naturalName (λ z. omega arith), out booleanName (λ z. omega arith), out trueName (λ z. omega arith), out falseName (λ z. omega arith)) g
+        rw (← k, eq-eqb kind identifierKind one, out integerName (λ z. omega arith), out naturalName (λ z. omega arith), out booleanName (λ z. omega arith), out trueName (λ z. omega arith), out falseName (λ z. omega arith)) g
 
     pub language-none : (size ≡ 4 → ⊥) → (size ≡ 5 → ⊥) → (size ≡ 7 → ⊥) → (size ≡ 8 → ⊥) → 0 ≡ languageOf text table e
     unfolding languageOf bytesOf
     language-none f g h i =
-        rw (← k, eq-eqb kind identifier one, out integerName h, out naturalName h, out positiveName i, out booleanName h, out trueName f, out falseName g)
+        rw (← k, eq-eqb kind identifierKind one, out integerName h, out naturalName h, out positiveName i, out booleanName h, out trueName f, out falseName g)

@@ -11,7 +11,7 @@ use lib.ListN.{length, getD, set, length-set}
 use lib.Seq.{getD-set-same, getD-set-other}
 use borrow.Author.Tests.{eqb-false, ne-eqb, not-true}
 use Rattle.laws.proofs.Laws.{both-left, both-right}
-use Rattle.records.specs.Tallies.{oneIf}
+use Rattle.records.specs.Counting.{oneIf}
 use Rattle.places.specs.Sizes.{mostPieces}
 use Rattle.names.specs.code.Names.{share}
 use Rattle.names.specs.code.Links.{recordsIn, anyFrom, ownOf, another, twinOf, anyTwin}

@@ -6,7 +6,7 @@ use Prim.Native.Nat.{ℕ, _/_, _≤_, _<_, min}
 use native.Mathlib.Omega.{arith}
 use lib.ListN.{length, getD}
 use Rattle.places.specs.Places.{rowsIn}
-use Rattle.records.specs.Tallies.{oneIf}
+use Rattle.records.specs.Counting.{oneIf}
 use Rattle.pieces.specs.Columns.{recordWords}
 use Rattle.places.specs.Sizes.{mostPieces}
 use Rattle.names.specs.code.Links.{recordsIn, linkOf, ownOf, twinOf, anyTwin, filled, linksTable, ownsTable, twinsTable}

@@ -1,3 +1,4 @@
+pub mod Language
 pub mod Chains
 pub mod Links
 pub mod Names

@@ -9,9 +9,9 @@ ghost use mathlib.Core.Bool.{true, cond};
 ghost use Prim.Native.Nat.{ℕ, _+_, _≤_, _<_};
 ghost use lib.ListN.{length, getD, replicate};
 ghost use Rattle.places.specs.Sizes.{mostPieces};
-ghost use Rattle.same_names.specs.Spelling.{spelledAs};
+ghost use Rattle.same_names.specs.Alike.{spelledAs};
 ghost use Rattle.names.specs.code.Links.{recordsIn, linkOf, ownOf, upTo, filled, linksTable, ownsTable, twinsTable, anyTwin};
-ghost use Rattle.names.specs.Language.{languageOf};
+ghost use Rattle.names.specs.code.Language.{languageOf};
 ghost use Rattle.names.specs.code.Chains.{hashes, buckets, mixedWith, hashFrom, bucketOf, inBucket, Chained, First, Flagging, sevenOf};
 
 // How many chains the names are hashed into.

@@ -14,7 +14,8 @@ use Rattle.classes.specs.Bytes.{between, lower, isDigit}
 use Rattle.classes.specs.Runs.{run, inRun}
 use Rattle.classes.specs.declared.Run.the-variants.{Below}
 use Rattle.classes.proofs.Laws.{part-rest, run-le, byte-inside, digit-inside, by-test, run-some, digit-in-ten}
-use Rattle.numbers.specs.Numbers.{digits, digitIn, spelled, leading, exponentHead, exponent, belowBase, integerPast, based, pointed, number}
+use Rattle.numbers.specs.Numbers.{digits, exponent, belowBase, integerPast, based, pointed, number}
+use Rattle.numbers.specs.Digits.{digitIn, valueSpelled, leading, exponentHead}
 use Rattle.numbers.specs.declared.Number.{Number}
 use Rattle.numbers.specs.declared.Number.the-variants.{Integer, Real, Neither}
 use Rattle.numbers.specs.declared.Size.{Size}
@@ -129,7 +130,7 @@ below-in base s =
 below-le : (base : ℕ) (s : List ℕ) (k : ℕ) → belowBase base s ≡ Of k → k ≤ length s
 below-le base s k e = rw e at (below-in base s)
 
-module _ (s : List ℕ) (n v : ℕ) (h : n ≡ digits s) (w : v ≡ min 17 (spelled 10 0 (take n s))) where
+module _ (s : List ℕ) (n v : ℕ) (h : n ≡ digits s) (w : v ≡ min 17 (valueSpelled 10 0 (take n s))) where
   base-is : v ≤ 16 → v ≡ leading 10 s
   unfolding leading digits
   base-is l = rw (← h) (omega (arith, w))
@@ -140,7 +141,7 @@ module _ (s : List ℕ) (n v : ℕ) (h : n ≡ digits s) (w : v ≡ min 17 (spel
 
   pub base-large : 16 < v → Neither ≡ based s
   unfolding based leading digits
-  base-large l = rw (← h, lt-leb (spelled 10 0 (take n s)) 16 (omega (arith, w)), and-false (leb 2 (spelled 10 0 (take n s))))
+  base-large l = rw (← h, lt-leb (valueSpelled 10 0 (take n s)) 16 (omega (arith, w)), and-false (leb 2 (valueSpelled 10 0 (take n s))))
 
   module _ (st : Size) (g : 2 ≤ v) (l : v ≤ 16) (e : st ≡ belowBase v (take (length s - (n + 1)) (drop (n + 1) s))) where
     based-as : based s ≡ integerPast (n + 1) st

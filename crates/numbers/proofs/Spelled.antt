@@ -13,7 +13,7 @@ use lib.Dec.{eqb, leb}
 use lib.ListN.{length, drop, getD, drop-of-length-le}
 use lib.Seq.{drop-cons}
 use Rattle.classes.specs.Bytes.{digitValue}
-use Rattle.numbers.specs.Numbers.{digitIn, spelled}
+use Rattle.numbers.specs.Digits.{digitIn, valueSpelled}
 
 -- a number is up to another or above it
 pub sides : (a b : ℕ) → (a ≤ b) ⊎ (b ≤ a)
@@ -59,20 +59,20 @@ module _ (most base : ℕ) (g : 2 ≤ base) where
           let k : min most v ≡ most = omega arith in
           rw (k, e) (omega (arith, le-mul-of-pos-right {m = base} v (omega arith), le-mul-of-pos-right {m = base} most (omega arith)))
 
-  capped-value : (v : ℕ) (s : List ℕ) → min most (spelled base (min most v) s) ≡ min most (spelled base v s)
-  unfolding spelled
+  capped-value : (v : ℕ) (s : List ℕ) → min most (valueSpelled base (min most v) s) ≡ min most (valueSpelled base v s)
+  unfolding valueSpelled
   capped-value v [] = omega arith
   capped-value v (b ∷ s) =
       sym (capped-value (digitIn base (min most v) b) s)
-      ∙ ap (λ (n : ℕ). min most (spelled base n s)) (capped-step v b)
+      ∙ ap (λ (n : ℕ). min most (valueSpelled base n s)) (capped-step v b)
       ∙ capped-value (digitIn base v b) s
 
 -- the turns of a loop over the digits
-module _ (most base : ℕ) (s : List ℕ) (i v whole : ℕ) (h : min most (spelled base v (drop i s)) ≡ whole) where
-  pub value-turn : (w : ℕ) → 2 ≤ base → i < length s → w ≡ min most (digitIn base v (getD s i 0)) → min most (spelled base w (drop (i + 1) s)) ≡ whole
-  unfolding spelled
+module _ (most base : ℕ) (s : List ℕ) (i v whole : ℕ) (h : min most (valueSpelled base v (drop i s)) ≡ whole) where
+  pub value-turn : (w : ℕ) → 2 ≤ base → i < length s → w ≡ min most (digitIn base v (getD s i 0)) → min most (valueSpelled base w (drop (i + 1) s)) ≡ whole
+  unfolding valueSpelled
   value-turn w g l e = rw (e, add-one) (capped-value most base g (digitIn base v (getD s i 0)) (drop (suc i) s) ∙ (rw (drop-cons s i 0 l) at h))
 
   pub value-end : v ≤ most → length s ≤ i → v ≡ whole
-  unfolding spelled
+  unfolding valueSpelled
   value-end k l = omega (arith, rw (drop-of-length-le s l) at h)

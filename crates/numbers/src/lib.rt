@@ -7,7 +7,8 @@ ghost use mathlib.Core.Bool.{true, false};
 ghost use Prim.Native.Nat.{_+_, _<_, min};
 ghost use lib.ListN.{length, drop};
 ghost use Rattle.classes.specs.Bytes.{ten};
-ghost use Rattle.numbers.specs.Numbers.{aboveBases, digits, digitIn, spelled, exponentHead, exponent, belowBase, based, pointed, number};
+ghost use Rattle.numbers.specs.Numbers.{aboveBases, digits, exponent, belowBase, based, pointed, number};
+ghost use Rattle.numbers.specs.Digits.{digitIn, valueSpelled, exponentHead};
 
 // "base 2 to 16"; and a number that is no base.
 pub const LEAST_BASE: u8 = 2;
@@ -51,7 +52,7 @@ fn with_digit(v: u8, b: u8) -> u8
 
 // The number that digits and underscores spell, or ABOVE_BASES where it is above the greatest base.
 fn small_value(s: &[u8]) -> u8
-    ensures { λ r. ⌜ r ≡ min aboveBases (spelled ten 0 (now (s .entry))) ⌝ }
+    ensures { λ r. ⌜ r ≡ min aboveBases (valueSpelled ten 0 (now (s .entry))) ⌝ }
 {
     let mut v: u8 = 0;
     let mut i = 0;

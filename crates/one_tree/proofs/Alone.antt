@@ -21,7 +21,7 @@ use Rattle.forms.specs.code.Names.{constant, subtype, subtype-range, range, dir
 use Rattle.forms.specs.code.Rules.{forms, body}
 use Rattle.forms.specs.code.Picks.{predict}
 use Rattle.forms.specs.Tree.{Row}
-use Rattle.forms.specs.code.Frames.{State, Refusal, fresh, top, onTop, joined, marked, named, rowed, does, start, rowsOf}
+use Rattle.forms.specs.code.Frames.{State, Refusal, fresh, top, onTop, joined, marked, named, rowed, does, start, stateRows}
 use Rattle.forms.specs.Open.{Role, opening, closing, neither, after}
 use Rattle.forms.specs.code.ItemReading.{ItemReading}
 use Rattle.forms.proofs.Opening.{sameRole, same-role, headRole, plain, head-append, plain-append, grown-role, counted, low-kept}
@@ -224,7 +224,7 @@ one-direction w l t i j a b =
 
 alone : (n : ℕ) (Is : List ℕ → List Row → Type 0) → TreeOf (nt n) Is → T (fine (nt n ∷ [])) → ReadAlone (nt n) Is
 alone n Is t f alike w l = (
-  (λ h. let r = reads alike (t .read-exactly w .1 (l, h .0)) f 0 start 0 refl (h .1) in (r .0, (r .1, t .only-such w (rowsOf (r .0)) l (t .reads-trees alike w (r .0) (r .1)) (h .0)))),
+  (λ h. let r = reads alike (t .read-exactly w .1 (l, h .0)) f 0 start 0 refl (h .1) in (r .0, (r .1, t .only-such w (stateRows (r .0)) l (t .reads-trees alike w (r .0) (r .1)) (h .0)))),
   λ r. (subst (Is w) (r .1 .1) (t .reads-trees alike w (r .0) (r .1 .0)), shallow alike (r .1 .0) f 0 refl (omega arith)),
 )
 

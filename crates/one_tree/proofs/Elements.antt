@@ -41,7 +41,7 @@ by-counted k = by-told k ∙ ap (λ (l : List ℕ). kindBy l k) told-is
 
 -- up to the last kind
 abbrev kindCount : ℕ
-kindCount = length code.kinds
+kindCount = length code.symbolsByKind
 
 within : (k : ℕ) → k < kindCount → kindBy counted k ≡ terminalOf k
 unfolding terminalOf
@@ -68,7 +68,7 @@ unfolding terminalOf
 beyond k h =
     let a = ne-eqb k 1 (λ z. omega arith) in
     let b = ne-eqb k 2 (λ z. omega arith) in
-    rw (a, b) (none-of counted 2 k tt h ∙ sym (ap numberOf (past code.kinds k h)))
+    rw (a, b) (none-of counted 2 k tt h ∙ sym (ap numberOf (past code.symbolsByKind k h)))
 
 pub form-kind : (k : ℕ) → formKind k ≡ terminalOf k
 form-kind k = by-counted k ∙ go (ltb k kindCount) refl

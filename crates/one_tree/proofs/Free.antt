@@ -12,7 +12,7 @@ use Rattle.grammars.specs.code.Grammar.{Sym, tok}
 use Rattle.grammars.specs.code.Actions.{Step, go, stop, Reads, done, eat, acts, grow}
 use Rattle.forms.specs.code.Rules.{forms}
 use Rattle.forms.specs.Tree.{Row}
-use Rattle.forms.specs.code.Frames.{State, Refusal, name-differs, too-deep, fresh, top, onTop, joined, marked, named, rowed, does, isNamed}
+use Rattle.forms.specs.code.Frames.{State, Refusal, name-differs, too-deep, fresh, top, onTop, joined, marked, named, rowed, does, frameIsNamed}
 use Rattle.forms.specs.code.Frames as strict
 use Rattle.forms.proofs.Steps.{named-frames, deeper-frames}
 
@@ -95,7 +95,7 @@ module _ (alike : ℕ → ℕ → Bool) (k : ℕ) (s u : State) where
   free-act (suc (suc zero)) e =
       to (mark k (bared (s .frames))) (onTop (marked (k - 1)) (s .frames)) (bared-mark k (s .frames)) (of (record { frames = onTop (marked (k - 1)) (s .frames); depth = s .depth }) (cc))
   free-act (suc (suc (suc zero))) e = to (bared (s .frames)) (onTop (named k) (s .frames)) (bared-name k (s .frames)) (of (record { frames = onTop (named k) (s .frames); depth = s .depth }) (cc))
-  free-act (suc (suc (suc (suc zero)))) e = to (bared (s .frames)) (s .frames) refl (named-frames s u (isNamed alike (top (s .frames) .name) (k - 1)) e)
+  free-act (suc (suc (suc (suc zero)))) e = to (bared (s .frames)) (s .frames) refl (named-frames s u (frameIsNamed alike (top (s .frames) .name) (k - 1)) e)
   free-act (suc (suc (suc (suc (suc zero))))) e = to (bared (s .frames)) (s .frames) refl (deeper-frames s u (ltb (s .depth) 32) e)
   free-act (suc (suc (suc (suc (suc (suc zero)))))) e = to (bared (s .frames)) (s .frames) refl (of (record { frames = s .frames; depth = s .depth - 1 }) (cc))
   free-act (suc (suc (suc (suc (suc (suc (suc n))))))) e =

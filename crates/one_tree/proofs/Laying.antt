@@ -7,12 +7,10 @@ use lib.Dec.{T}
 use lib.ListN.{getD, length, take, length-append}
 use Rattle.laws.proofs.Laws.{clash}
 use Rattle.forms.specs.code.Kinds.{numberOf, left-paren, right-paren}
-use Rattle.forms.specs.Tree.{Row}
-use Rattle.forms.specs.Forest.{Forest}
-use Rattle.forms.specs.Forest as forest
-use Rattle.forms.specs.Operators.{EachRow}
+use Rattle.forms.specs.Tree.{Row, EachRow, Forest}
+use Rattle.forms.specs.Tree as forest
 use Rattle.forms.specs.Spellings.{isIn}
-use Rattle.forms.specs.Lines.{Item, at, row, Pattern, operand, expressions, anExpression, line, IsOf, Fits, elements, sortOf, itemsIn, operatorAt, RowsFit}
+use Rattle.forms.specs.Lines.{OwnItem, at, row, Pattern, operand, expressions, anExpression, formLine, IsOf, Fits, elements, sortOf, itemsIn, operatorAt, RowsFit}
 use Rattle.forms.specs.Lines as lines
 use Rattle.forms.proofs.Growing.{forest-le}
 use Rattle.forms.proofs.Fitting.{take-all, take-less, behind-tree}
@@ -48,7 +46,7 @@ module _ (W : List ℕ) where
   fit-front (r ∷ l) m s h =
       let n = s .0 in (
         s .0,
-        subst (λ (x : List Row). Fits W (operatorAt r) (line (r .form)) (itemsIn W 0 (r .first) (r .first + r .count) x)) (take-less (r .rows - 1) l m (omega arith)) (h .1),
+        subst (λ (x : List Row). Fits W (operatorAt r) (formLine (r .form)) (itemsIn W 0 (r .first) (r .first + r .count) x)) (take-less (r .rows - 1) l m (omega arith)) (h .1),
         fit-front l m (s .1) (h .2),
       )
 
@@ -65,17 +63,17 @@ module _ (W : List ℕ) where
     pub columns : EachRow ElseFirst inside
     pub within : Forest lo hi inside
     pub fits : RowsFit W inside
-    pub own : Fits W (operatorAt r) (line (r .form)) (itemsIn W 0 lo hi inside)
+    pub own : Fits W (operatorAt r) (formLine (r .form)) (itemsIn W 0 lo hi inside)
     pub bound : hi ≤ length W
 
   -- elements and trees one after the other, from lo to hi, with their items
-  pub data Nodes : ℕ → ℕ → List Row → List Item → Type 0 where
+  pub data Nodes : ℕ → ℕ → List Row → List OwnItem → Type 0 where
     end : {lo hi : ℕ} → lo ≡ hi → Nodes lo hi [] []
-    leaf : {lo hi : ℕ} {l : List Row} {x : List Item} → lo < length W → Nodes (suc lo) hi l x → Nodes lo hi l (at lo ∷ x)
-    tree : {lo mid hi : ℕ} {r : Row} {inside after rest : List Row} {x : List Item} → Child lo mid r inside → Nodes mid hi after x → inside ++ after ≡ rest
+    leaf : {lo hi : ℕ} {l : List Row} {x : List OwnItem} → lo < length W → Nodes (suc lo) hi l x → Nodes lo hi l (at lo ∷ x)
+    tree : {lo mid hi : ℕ} {r : Row} {inside after rest : List Row} {x : List OwnItem} → Child lo mid r inside → Nodes mid hi after x → inside ++ after ≡ rest
         → Nodes lo hi (r ∷ rest) (row (sortOf W r) ∷ x)
 
-  leaves : (c lo hi : ℕ) (l : List Row) (x : List Item) → lo + c ≤ length W → Nodes (lo + c) hi l x → Nodes lo hi l (elements lo c ++ x)
+  leaves : (c lo hi : ℕ) (l : List Row) (x : List OwnItem) → lo + c ≤ length W → Nodes (lo + c) hi l x → Nodes lo hi l (elements lo c ++ x)
   leaves zero lo hi l x h n = let y : lo + 0 ≡ lo = omega arith in subst (λ (i : ℕ). Nodes i hi l x) y n
   leaves (suc c) lo hi l x h n =
       let y : lo + suc c ≡ suc lo + c = omega arith in
@@ -83,7 +81,7 @@ module _ (W : List ℕ) where
 
   pub nodes : {lo hi : ℕ} {l : List Row} → Forest lo hi l → hi ≤ length W → RowsFit W l → EachRow ElseFirst l → Nodes lo hi l (itemsIn W 0 lo hi l)
   nodes {lo = lo} {hi = hi} (forest.Forest.bare h) b f c =
-      subst (λ (x : List Item). Nodes lo hi [] x) (append-nil (elements lo (hi - lo))) (leaves (hi - lo) lo hi [] [] (omega arith) (end {lo = lo + (hi - lo)} {hi = hi} (omega arith)))
+      subst (λ (x : List OwnItem). Nodes lo hi [] x) (append-nil (elements lo (hi - lo))) (leaves (hi - lo) lo hi [] [] (omega arith) (end {lo = lo + (hi - lo)} {hi = hi} (omega arith)))
   nodes {lo = lo} {hi = hi} (forest.Forest.tree {r = r} {inside = i} {after = a} {rest = l} u f d g j) b h c =
       let stop : ℕ = r .first + r .count in
       let y : lo + (r .first - lo) ≡ r .first = omega arith in
@@ -104,12 +102,12 @@ module _ (W : List ℕ) where
         columns = each-front ElseFirst i a cols;
         within = f;
         fits = fit-front i a (sized f) both;
-        own = subst (λ (x : List Row). Fits W (operatorAt r) (line (r .form)) (itemsIn W 0 (r .first) stop x)) taken (h .1);
+        own = subst (λ (x : List Row). Fits W (operatorAt r) (formLine (r .form)) (itemsIn W 0 (r .first) stop x)) taken (h .1);
         bound = omega arith;
       })
-      (subst (λ (x : List Item). Nodes stop hi a x) (sym (behind-tree W r i a l stop hi d j)) (nodes g b (fit-back i a both) (each-back ElseFirst i a cols))) j))
+      (subst (λ (x : List OwnItem). Nodes stop hi a x) (sym (behind-tree W r i a l stop hi d j)) (nodes g b (fit-back i a both) (each-back ElseFirst i a cols))) j))
 
-  record Halves (lo hi : ℕ) (l : List Row) (x y : List Item) : Type 0 where
+  record Halves (lo hi : ℕ) (l : List Row) (x y : List OwnItem) : Type 0 where
     mid : ℕ
     front : List Row
     back : List Row
@@ -117,14 +115,14 @@ module _ (W : List ℕ) where
     last : Nodes mid hi back y
     is : l ≡ front ++ back
 
-  split : (x y z : List Item) {lo hi : ℕ} {l : List Row} → Nodes lo hi l z → z ≡ x ++ y → Halves lo hi l x y
+  split : (x y z : List OwnItem) {lo hi : ℕ} {l : List Row} → Nodes lo hi l z → z ≡ x ++ y → Halves lo hi l x y
   split [] y z {lo = lo} {hi = hi} {l = l} n d = record { mid = lo; front = []; back = l; first = end refl; last = subst (Nodes lo hi l) d n; is = refl }
   split (a ∷ x) y z (end u) d = let v : _≡_ {A = ℕ} 0 1 = cc in clash v
   split (a ∷ x) y z (leaf {lo = lo} {x = z′} u n) d =
       let v : z′ ≡ x ++ y = cc in
       let v₁ : at lo ≡ a = cc in
       let h = split x y z′ n v in
-      record { mid = h .mid; front = h .front; back = h .back; first = subst (λ (i : Item). Nodes lo (h .mid) (h .front) (i ∷ x)) v₁ (leaf u (h .first)); last = h .last; is = h .is }
+      record { mid = h .mid; front = h .front; back = h .back; first = subst (λ (i : OwnItem). Nodes lo (h .mid) (h .front) (i ∷ x)) v₁ (leaf u (h .first)); last = h .last; is = h .is }
   split (a ∷ x) y z (tree {lo = lo} {r = r} {inside = i} {after = m} {rest = l} {x = z′} c n j) d =
       let v : z′ ≡ x ++ y = cc in
       let v₁ : row (sortOf W r) ≡ a = cc in
@@ -133,17 +131,17 @@ module _ (W : List ℕ) where
         mid = h .mid;
         front = r ∷ (i ++ h .front);
         back = h .back;
-        first = subst (λ (k : Item). Nodes lo (h .mid) (r ∷ (i ++ h .front)) (k ∷ x)) v₁ (tree c (h .first) refl);
+        first = subst (λ (k : OwnItem). Nodes lo (h .mid) (r ∷ (i ++ h .front)) (k ∷ x)) v₁ (tree c (h .first) refl);
         last = h .last;
         is = ap (λ (k : List Row). r ∷ k) (sym j ∙ ap (λ (k : List Row). i ++ k) (h .is) ∙ sym (append-assoc i (h .front) (h .back)));
       }
 
-  nodes-none : (z : List Item) {lo hi : ℕ} {l : List Row} → Nodes lo hi l z → z ≡ [] → (lo ≡ hi) × (l ≡ [])
+  nodes-none : (z : List OwnItem) {lo hi : ℕ} {l : List Row} → Nodes lo hi l z → z ≡ [] → (lo ≡ hi) × (l ≡ [])
   nodes-none z (end u) d = (u, refl)
   nodes-none z (leaf u n) d = let v : _≡_ {A = ℕ} 0 1 = cc in clash v
   nodes-none z (tree c n j) d = let v : _≡_ {A = ℕ} 0 1 = cc in clash v
 
-  nodes-leaf : (z : List Item) (i : ℕ) {lo hi : ℕ} {l : List Row} → Nodes lo hi l z → z ≡ at i ∷ [] → (i ≡ lo) × (hi ≡ suc lo) × (l ≡ []) × (lo < length W)
+  nodes-leaf : (z : List OwnItem) (i : ℕ) {lo hi : ℕ} {l : List Row} → Nodes lo hi l z → z ≡ at i ∷ [] → (i ≡ lo) × (hi ≡ suc lo) × (l ≡ []) × (lo < length W)
   nodes-leaf z i (end u) d = let v : _≡_ {A = ℕ} 0 1 = cc in clash v
   nodes-leaf z i (leaf {lo = lo} {x = z′} u n) d =
       let v : z′ ≡ [] = cc in
@@ -159,7 +157,7 @@ module _ (W : List ℕ) where
     sort : sortOf W on ≡ s
     is : on ∷ inner ≡ l
 
-  nodes-row : (z : List Item) (s : ℕ) {lo hi : ℕ} {l : List Row} → Nodes lo hi l z → z ≡ row s ∷ [] → Lone s lo hi l
+  nodes-row : (z : List OwnItem) (s : ℕ) {lo hi : ℕ} {l : List Row} → Nodes lo hi l z → z ≡ row s ∷ [] → Lone s lo hi l
   nodes-row z s (end u) d = let v : _≡_ {A = ℕ} 0 1 = cc in clash v
   nodes-row z s (leaf u n) d = let v : _≡_ {A = ℕ} 0 1 = cc in clash v
   nodes-row z s (tree {lo = lo} {r = r} {inside = i} {after = a} {x = z′} c n j) d =
@@ -185,7 +183,7 @@ module _ (W : List ℕ) where
     shorter : (l m z : List Row) → z ≡ l ++ m → length z ≤ N → (length l ≤ N) × (length m ≤ N)
     shorter l m z d n = let h : length z ≡ length l + length m = ap length d ∙ length-append l m in (omega arith, omega arith)
 
-    pub lay : (q : ℕ) (p : Pattern) (x : List Item) {lo hi : ℕ} {l : List Row} → Fits W q p x → Nodes lo hi l x → length l ≤ N → Laid W Q B q p lo hi l
+    pub lay : (q : ℕ) (p : Pattern) (x : List OwnItem) {lo hi : ℕ} {l : List Row} → Fits W q p x → Nodes lo hi l x → length l ≤ N → Laid W Q B q p lo hi l
     lay q p x lines.Fits.none n len = let h = nodes-none x n refl in none (h .0) (h .1)
     lay q p x {lo = lo} (lines.Fits.this {t = t} {K = K} {x = at i} c m) n len =
         let h = nodes-leaf x i n refl in

@@ -18,15 +18,16 @@ use Rattle.forms.specs.code.Names.{nameCount, nameNumber, file, constant, subty
 use Rattle.forms.specs.code.Rules.{forms}
 use Rattle.forms.specs.code.Picks.{predict}
 use Rattle.forms.specs.Tree.{Row}
-use Rattle.forms.specs.code.Frames.{State, Refusal, top, does, rowsOf, Reading}
+use Rattle.forms.specs.code.Frames.{State, Refusal, top, does, stateRows, Reading}
 use Rattle.forms.specs.code.Frames as strict
-use Rattle.forms.specs.code.Reading.{readingOf}
+use Rattle.forms.specs.code.Reading.{fileReading}
 use Rattle.forms.specs.Spellings.{isIn}
-use Rattle.forms.specs.Lines.{Pattern, rows, anExpression, line, Fits, sortOf, operatorAt}
+use Rattle.forms.specs.Lines.{Pattern, rows, anExpression, formLine, Fits, sortOf, operatorAt}
 use Rattle.forms.proofs.Tests.{tables, forms-ll}
 use Rattle.forms.proofs.Meaning.{reads-files, no-file, always-answers}
 use Rattle.forms.proofs.Summaries.{Fit}
-use Rattle.one_tree.specs.Trees.{Stands, IsTree}
+use Rattle.one_tree.specs.Trees.{Stands}
+use Rattle.one_tree.specs.Files.{IsTree}
 use Rattle.one_tree.specs.code.Only.{TreeOf, FileTree, ConstantTree, SubtypeTree, OnlySuch, FilesHaveTrees, BeginAlike, ReadsTheTree, TreesAreRead}
 use Rattle.one_tree.proofs.Free.{Frame, frame, free, Frees, bared, freed}
 use Rattle.one_tree.proofs.Parts.{parts, within, covers, enough}
@@ -64,13 +65,13 @@ module _ (W : List ℕ) (t : List Frame) where
   trees-hold zero lo hi r inside c h = absurd (omega arith)
   trees-hold (suc N) lo hi r inside c h =
       row-holds W t r lo hi inside (c .first) (c .end) (c .size) (c .column)
-      (lay W (Holds W t parts) (Parens W t parts) N (trees-hold N) in-parens (operatorAt r) (line (r .form)) _ (c .own) (nodes W (c .within) (c .bound) (c .fits) (c .columns)) (omega arith))
+      (lay W (Holds W t parts) (Parens W t parts) N (trees-hold N) in-parens (operatorAt r) (formLine (r .form)) _ (c .own) (nodes W (c .within) (c .bound) (c .fits) (c .columns)) (omega arith))
 
 abbrev rowsIn : List Frame → List Row
 rowsIn [] = []
 rowsIn (f ∷ fs) = f .rows
 
-top-rows : (s : State) → rowsIn (bared (s .frames)) ≡ rowsOf s
+top-rows : (s : State) → rowsIn (bared (s .frames)) ≡ stateRows s
 top-rows s = by (s .frames)
   where
     by : (fs : List strict.Frame) → rowsIn (bared fs) ≡ top fs .rows
@@ -112,7 +113,7 @@ module _ (m : ℕ) (p : Pattern) (known : m < nameCount) (last : T (mem 0 (table
   }
 
 pub file-tree : FileTree
-file-tree = tree-of (nameNumber file) (line 0) (lit< tt) tt (λ w z f. f) tt
+file-tree = tree-of (nameNumber file) (formLine 0) (lit< tt) tt (λ w z f. f) tt
 
 pub constant-tree : ConstantTree
 constant-tree = tree-of (nameNumber constant) (rows (4 ∷ [])) (lit< tt) tt (λ w z f. f) tt
@@ -130,7 +131,7 @@ files-have-trees = file-tree .read-exactly
 pub reads-the-tree : ReadsTheTree
 reads-the-tree alike w s l r =
     let h = file-tree .reads-trees alike w s r in
-    ((λ t. only-such w l (rowsOf s) t h), λ e. subst (IsTree w) (sym e) h)
+    ((λ t. only-such w l (stateRows s) t h), λ e. subst (IsTree w) (sym e) h)
 
 pub begin-alike : BeginAlike
 begin-alike w j = (
@@ -139,9 +140,9 @@ begin-alike w j = (
 )
 
 pub trees-are-read : TreesAreRead
-trees-are-read alike w l h = by (readingOf alike w) refl
+trees-are-read alike w l h = by (fileReading alike w) refl
   where
-    by : (o : End State Refusal) → readingOf alike w ≡ o → ((s : State) × (Reading alike w s × (rowsOf s ≡ l))) ⊎ ((k : ℕ) × ((r : Refusal) × (readingOf alike w ≡ stopped k r)))
+    by : (o : End State Refusal) → fileReading alike w ≡ o → ((s : State) × (Reading alike w s × (stateRows s ≡ l))) ⊎ ((k : ℕ) × ((r : Refusal) × (fileReading alike w ≡ stopped k r)))
     by (read s) e = let r = reads-files alike w s .0 e in inl (s, (r, sym (reads-the-tree alike w s l r .0 h)))
     by (bad k) e = absurd (no-file alike w k e (files-have-trees w .1 (l, h)))
     by (stopped k r) e = inr (k, (r, e))

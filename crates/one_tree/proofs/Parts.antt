@@ -13,8 +13,8 @@ use Rattle.forms.specs.code.Names as name
 use Rattle.forms.specs.code.Names.{opens, closes, marks, deeper, row}
 use Rattle.forms.specs.code.Rules.{rules}
 use Rattle.forms.specs.Spellings.{isIn}
-use Rattle.forms.specs.Lines.{operates, branches, sort, Pattern, nothing, one, operand, both, either, many, sorts, primaries, factors, terms, simples, relations, expressions, anExpression, line}
-use Rattle.forms.specs.code.Shapes.{with, e}
+use Rattle.forms.specs.Lines.{operates, isBranch, sort, Pattern, nothing, one, operand, both, either, many, sorts, primaries, factors, terms, simples, relations, expressions, anExpression, formLine}
+use Rattle.forms.specs.code.Shapes.{withSymbols, symbol}
 
 -- A part: what the symbols `reads` read in an open frame is a row of one of the sorts `what`, and `leaves` is then still to be read. A part that
 -- `begins` stands first in its frame; an `exact` one leaves the frame's operator as it was; `parens`: it reads any expression in
@@ -55,9 +55,9 @@ parts =
     adds (name.unit ∷ []) (sorts (1 ∷ 2 ∷ 3 ∷ []))
     ∷ adds (name.concurrent ∷ []) (sorts (11 ∷ 12 ∷ 13 ∷ []))
     ∷ adds (name.sequential ∷ []) (sorts (14 ∷ 15 ∷ 16 ∷ 18 ∷ 19 ∷ 20 ∷ 21 ∷ 22 ∷ 23 ∷ []))
-    ∷ adds (branch (word-if ∷ deeper ∷ name.expression ∷ word-then ∷ [])) (with 17 (word-if ∷ []))
-    ∷ adds (branch (word-elsif ∷ name.expression ∷ word-then ∷ [])) (with 17 (word-elsif ∷ []))
-    ∷ adds (branch (word-else ∷ [])) (with 17 (word-else ∷ []))
+    ∷ adds (branch (word-if ∷ deeper ∷ name.expression ∷ word-then ∷ [])) (withSymbols 17 (word-if ∷ []))
+    ∷ adds (branch (word-elsif ∷ name.expression ∷ word-then ∷ [])) (withSymbols 17 (word-elsif ∷ []))
+    ∷ adds (branch (word-else ∷ [])) (withSymbols 17 (word-else ∷ []))
     ∷ adds (name.constant ∷ []) (sorts (4 ∷ []))
     ∷ adds (name.subtype ∷ []) (sorts (5 ∷ []))
     ∷ adds (name.signal ∷ []) (sorts (6 ∷ []))
@@ -78,10 +78,10 @@ parts =
     ∷ starts (identifier ∷ name.after-first ∷ []) (name.target-tick ∷ name.assignment ∷ []) (sorts (26 ∷ []))
     -- operators by how they bind; chains leave their rest
     ∷ takes name.expression expressions
-    ∷ grows (name.relation ∷ name.logic ∷ []) (name.and-chain ∷ []) false (with 29 (word-and ∷ []))
-    ∷ grows (name.relation ∷ name.logic ∷ []) (name.or-chain ∷ []) false (with 29 (word-or ∷ []))
-    ∷ grows (name.relation ∷ name.logic ∷ []) (name.xor-chain ∷ []) false (with 29 (word-xor ∷ []))
-    ∷ grows (name.relation ∷ name.logic ∷ []) (name.xnor-chain ∷ []) false (with 29 (word-xnor ∷ []))
+    ∷ grows (name.relation ∷ name.logic ∷ []) (name.and-chain ∷ []) false (withSymbols 29 (word-and ∷ []))
+    ∷ grows (name.relation ∷ name.logic ∷ []) (name.or-chain ∷ []) false (withSymbols 29 (word-or ∷ []))
+    ∷ grows (name.relation ∷ name.logic ∷ []) (name.xor-chain ∷ []) false (withSymbols 29 (word-xor ∷ []))
+    ∷ grows (name.relation ∷ name.logic ∷ []) (name.xnor-chain ∷ []) false (withSymbols 29 (word-xnor ∷ []))
     ∷ grows (name.relation ∷ name.logic ∷ []) (name.logic ∷ []) true relations
     ∷ takes name.relation relations
     ∷ takes name.simple simples
@@ -290,8 +290,8 @@ puts f = act (suc (suc (suc (suc (suc (suc (suc f)))))))
 -- A row of form f, told by k, is read by its line; or, as one item, by the parts after.
 abbrev pub byLine : ℕ → ℕ → Part → Bool
 byLine f k p =
-    let r = covers parts (branches f) k enough fresh (not (operates f)) (line f ∷ []) (p .reads) (puts f ∷ p .leaves) true in
-    let t = covers parts (branches f) k enough before (not (operates f)) (line f ∷ []) (p .reads) (puts f ∷ closes ∷ p .leaves) true in
+    let r = covers parts (isBranch f) k enough fresh (not (operates f)) (formLine f ∷ []) (p .reads) (puts f ∷ p .leaves) true in
+    let t = covers parts (isBranch f) k enough before (not (operates f)) (formLine f ∷ []) (p .reads) (puts f ∷ closes ∷ p .leaves) true in
     cond (p .begins) (imp (p .exact) (not (operates f)) && r) t
 
 abbrev pub bySame : List Part → Part → Pattern → Bool
@@ -312,7 +312,7 @@ rowOk f k (p ∷ ps) =
 abbrev pub parensOk : List Part → Bool
 parensOk [] = true
 parensOk (p ∷ ps) =
-    let a = covers parts false 0 enough within true (e left-paren ∷ anExpression ∷ e right-paren ∷ []) (p .reads) (p .leaves) (p .exact) in
+    let a = covers parts false 0 enough within true (symbol left-paren ∷ anExpression ∷ symbol right-paren ∷ []) (p .reads) (p .leaves) (p .exact) in
     let b = bySame ps p (operand []) in
     let t = parensOk ps in
     imp (p .parens) (b || (not (p .begins) && a)) && t
@@ -359,7 +359,7 @@ leading (many a) = false
 
 -- the kinds that may tell a row of form f
 abbrev pub tellings : ℕ → List ℕ
-tellings f = cond (operates f) (operators (line f)) (cond (branches f) (leaders (line f)) (0 ∷ []))
+tellings f = cond (operates f) (operators (formLine f)) (cond (isBranch f) (leaders (formLine f)) (0 ∷ []))
 
 abbrev pub formOk : ℕ → Bool
-formOk f = imp (operates f) (operating (line f)) && (imp (branches f) (leading (line f)) && every (λ k. rowOk f k parts) (tellings f))
+formOk f = imp (operates f) (operating (formLine f)) && (imp (isBranch f) (leading (formLine f)) && every (λ k. rowOk f k parts) (tellings f))

@@ -15,8 +15,8 @@ use Rattle.forms.specs.code.Kinds.{left-paren, right-paren}
 use Rattle.forms.specs.code.Names.{closes}
 use Rattle.forms.specs.Tree.{Row}
 use Rattle.forms.specs.Spellings.{isIn}
-use Rattle.forms.specs.Lines.{operates, branches, sort, Pattern, nothing, one, operand, both, either, many, anExpression, lines, line, telling, sortOf, operatorAt}
-use Rattle.forms.specs.code.Shapes.{e}
+use Rattle.forms.specs.Lines.{operates, isBranch, sort, Pattern, nothing, one, operand, both, either, many, anExpression, lines, formLine, telling, sortOf, operatorAt}
+use Rattle.forms.specs.code.Shapes.{symbol}
 use Rattle.one_tree.specs.Trees.{ElseFirst}
 use Rattle.one_tree.proofs.Free.{Frame, frame, rowOver, Frees}
 use Rattle.one_tree.proofs.Parts.{Part, parts, before, fresh, within, covers, enough, puts, byLine, bySame, rowOk, parensOk, operators, operating, leaders, leading, tellings, formOk}
@@ -71,37 +71,37 @@ module _ (W : List ℕ) (t : List Frame) where
           (or-cases B C h)
 
   -- an expression in parentheses
-  pub parens-hold : (lo hi : ℕ) (l : List Row) → All W t parts 0 (e left-paren ∷ anExpression ∷ e right-paren ∷ []) lo hi l → Parens W t parts lo hi l
+  pub parens-hold : (lo hi : ℕ) (l : List Row) → All W t parts 0 (symbol left-paren ∷ anExpression ∷ symbol right-paren ∷ []) lo hi l → Parens W t parts lo hi l
   parens-hold lo hi l f = go parts parens-ok
     where
       go : (ps : List Part) → T (parensOk ps) → Parens W t ps lo hi l
       go [] h = tt
       go (p ∷ ps) h =
-          let A = covers parts false 0 enough within true (e left-paren ∷ anExpression ∷ e right-paren ∷ []) (p .reads) (p .leaves) (p .exact) in
+          let A = covers parts false 0 enough within true (symbol left-paren ∷ anExpression ∷ symbol right-paren ∷ []) (p .reads) (p .leaves) (p .exact) in
           let B = bySame ps p (operand []) in
           let rest = go ps (and-right (imp (p .parens) (B || (not (p .begins) && A))) (parensOk ps) h) in (
             (λ y. ⊎-elim (λ z. same-does ps p (operand []) z lo hi l (Laid.inside rest))
-                (λ z. plain-does parts (e left-paren ∷ anExpression ∷ e right-paren ∷ []) p (and-left (not (p .begins)) A z) (and-right (not (p .begins)) A z) lo hi l f)
+                (λ z. plain-does parts (symbol left-paren ∷ anExpression ∷ symbol right-paren ∷ []) p (and-left (not (p .begins)) A z) (and-right (not (p .begins)) A z) lo hi l f)
                 (or-cases B (not (p .begins) && A) (imp-at (p .parens) (B || (not (p .begins) && A)) (and-left (imp (p .parens) (B || (not (p .begins) && A))) (parensOk ps) h) y))),
             rest,
           )
 
   -- A row, the rows inside it laid as its line says.
   module _ (r : Row) (lo hi : ℕ) (inside : List Row) (first : r .first ≡ lo) (end : r .first + r .count ≡ hi) (size : r .rows ≡ length inside + 1) (column : ElseFirst r)
-      (laid : Lies W t parts (operatorAt r) (line (r .form)) lo hi inside) where
+      (laid : Lies W t parts (operatorAt r) (formLine (r .form)) lo hi inside) where
     abbrev k : ℕ
     k = telling W r
 
     told : (i : ℕ) → suc i ≡ operatorAt r → (getD W i 0 ≡ k) × (i ≡ r .operator)
     told i d = by (operates (r .form)) d
       where
-        by : (o : Bool) → suc i ≡ cond o (suc (r .operator)) 0 → (getD W i 0 ≡ cond o (getD W (r .operator) 0) (cond (branches (r .form)) (getD W (r .first) 0) 0)) × (i ≡ r .operator)
+        by : (o : Bool) → suc i ≡ cond o (suc (r .operator)) 0 → (getD W i 0 ≡ cond o (getD W (r .operator) 0) (cond (isBranch (r .form)) (getD W (r .first) 0) 0)) × (i ≡ r .operator)
         by true d = let y : i ≡ r .operator = omega arith in (ap (λ (x : ℕ). getD W x 0) y, y)
         by false d = absurd (omega arith)
 
-    opened : T (branches (r .form)) → getD W lo 0 ≡ k
+    opened : T (isBranch (r .form)) → getD W lo 0 ≡ k
     opened h =
-        subst (λ (x : ℕ). getD W lo 0 ≡ cond (operates x) (getD W (r .operator) 0) (cond (branches x) (getD W (r .first) 0) 0)) (sym (eqb→eq (r .form) 17 h)) (ap (λ (x : ℕ). getD W x 0) (sym first))
+        subst (λ (x : ℕ). getD W lo 0 ≡ cond (operates x) (getD W (r .operator) 0) (cond (isBranch x) (getD W (r .first) 0) 0)) (sym (eqb→eq (r .form) 17 h)) (ap (λ (x : ℕ). getD W x 0) (sym first))
 
     unmarked : T (not (operates (r .form))) → r .operator ≡ lo
     unmarked h = by (operates (r .form)) h column ∙ first
@@ -114,18 +114,18 @@ module _ (W : List ℕ) (t : List Frame) where
     line-does p h = by (p .begins) refl h
       where
         A : Bool
-        A = covers parts (branches (r .form)) k enough fresh (not (operates (r .form))) (line (r .form) ∷ []) (p .reads) (puts (r .form) ∷ p .leaves) true
+        A = covers parts (isBranch (r .form)) k enough fresh (not (operates (r .form))) (formLine (r .form) ∷ []) (p .reads) (puts (r .form) ∷ p .leaves) true
 
         B : Bool
-        B = covers parts (branches (r .form)) k enough before (not (operates (r .form))) (line (r .form) ∷ []) (p .reads) (puts (r .form) ∷ closes ∷ p .leaves) true
+        B = covers parts (isBranch (r .form)) k enough before (not (operates (r .form))) (formLine (r .form) ∷ []) (p .reads) (puts (r .form) ∷ closes ∷ p .leaves) true
 
         by : (b : Bool) → p .begins ≡ b → T (cond b (imp (p .exact) (not (operates (r .form))) && A) B) → Does W t p lo hi (r ∷ inside)
         by true d h =
             λ a o z β fs st g.
             let st′ = st (subst T (sym d) tt) in
             let E = imp (p .exact) (not (operates (r .form))) in
-            covers-sound W t parts (operatorAt r) (branches (r .form)) k (r .operator) lo told opened enough fresh (not (operates (r .form))) (line (r .form) ∷ []) (p .reads) (puts (r .form) ∷ p .leaves) true
-            (and-right E A h) lo hi inside (alone W t parts (operatorAt r) (line (r .form)) lo hi inside laid) a o z β fs (refl, st′ .0, st′ .1, st′ .2) (λ n. st′ .1 ∙ sym (unmarked n))
+            covers-sound W t parts (operatorAt r) (isBranch (r .form)) k (r .operator) lo told opened enough fresh (not (operates (r .form))) (formLine (r .form) ∷ []) (p .reads) (puts (r .form) ∷ p .leaves) true
+            (and-right E A h) lo hi inside (alone W t parts (operatorAt r) (formLine (r .form)) lo hi inside laid) a o z β fs (refl, st′ .0, st′ .1, st′ .2) (λ n. st′ .1 ∙ sym (unmarked n))
             (λ o′ n. acts refl (subst (λ (y : List Frame). Frees W t (p .leaves ++ β) hi y) (rowed a o′ z fs (st′ .0) (st′ .2) (n tt)) (g (r .operator) (λ x. unmarked (imp-at (p .exact) (not (operates (r .form))) (and-left E A h) x) ∙ sym (st′ .1)))))
           where
             rowed : (a o : ℕ) (z : List Row) (fs : List Frame) → a ≡ lo → z ≡ [] → o ≡ r .operator
@@ -133,8 +133,8 @@ module _ (W : List ℕ) (t : List Frame) where
             rowed a o z fs e₁ e₂ e₃ = rw (e₁, e₂, e₃, row-over r lo hi (r .operator) inside first end size refl)
         by false d h =
             λ a o z β fs st g.
-            covers-sound W t parts (operatorAt r) (branches (r .form)) k (r .operator) lo told opened enough before (not (operates (r .form))) (line (r .form) ∷ []) (p .reads) (puts (r .form) ∷ closes ∷ p .leaves) true
-            h lo hi inside (alone W t parts (operatorAt r) (line (r .form)) lo hi inside laid) lo lo [] β (frame a o z ∷ fs) (refl, refl, refl, refl) (λ n. sym (unmarked n))
+            covers-sound W t parts (operatorAt r) (isBranch (r .form)) k (r .operator) lo told opened enough before (not (operates (r .form))) (formLine (r .form) ∷ []) (p .reads) (puts (r .form) ∷ closes ∷ p .leaves) true
+            h lo hi inside (alone W t parts (operatorAt r) (formLine (r .form)) lo hi inside laid) lo lo [] β (frame a o z ∷ fs) (refl, refl, refl, refl) (λ n. sym (unmarked n))
             (λ o′ n. acts refl (acts refl (subst (λ (y : Row). Frees W t (p .leaves ++ β) hi (frame a o (z ++ (y ∷ inside)) ∷ fs)) (sym (row-over r lo hi o′ inside first end size (n tt))) (g o (λ _. refl)))))
 
     rows-hold : (ps : List Part) → T (rowOk (r .form) k ps) → Holds W t ps (sort (r .form) k) lo hi (r ∷ inside)
@@ -185,7 +185,7 @@ module _ (W : List ℕ) (t : List Frame) where
   no-line q (element a b c d m) = m
   no-line q (child s c m y) = m
 
-  known-form : (g q : ℕ) {lo hi : ℕ} {l : List Row} → Lies W t parts q (line g) lo hi l → g < length lines
+  known-form : (g q : ℕ) {lo hi : ℕ} {l : List Row} → Lies W t parts q (formLine g) lo hi l → g < length lines
   known-form g q {lo = lo} {hi = hi} {l = l} h = by (ltb g (length lines)) refl
     where
       by : (b : Bool) → ltb g (length lines) ≡ b → g < length lines
@@ -195,27 +195,27 @@ module _ (W : List ℕ) (t : List Frame) where
 
   -- a row is read by every part that claims its sort
   pub row-holds : (r : Row) (lo hi : ℕ) (inside : List Row) → r .first ≡ lo → r .first + r .count ≡ hi → r .rows ≡ length inside + 1 → ElseFirst r
-      → Lies W t parts (operatorAt r) (line (r .form)) lo hi inside → Holds W t parts (sortOf W r) lo hi (r ∷ inside)
+      → Lies W t parts (operatorAt r) (formLine (r .form)) lo hi inside → Holds W t parts (sortOf W r) lo hi (r ∷ inside)
   row-holds r lo hi inside a b c d h =
       let f = r .form in
-      let A = imp (operates f) (operating (line f)) in
-      let B = imp (branches f) (leading (line f)) in
+      let A = imp (operates f) (operating (formLine f)) in
+      let B = imp (isBranch f) (leading (formLine f)) in
       let C = every (λ k. rowOk f k parts) (tellings f) in
       let ok = forms-ok f (known-form f (operatorAt r) h) in
       let ok₁ = and-right A (B && C) ok in
       rows-hold r lo hi inside a b c d h parts
-      (every-at (λ k. rowOk f k parts) (tellings f) (and-right B C ok₁) (telling W r) (by (operates f) (branches f) (and-left A (B && C) ok) (and-left B C ok₁)
-      (λ o. operator-in (operatorAt r) (line f) o h) (λ o. subst (λ (x : ℕ). T (mem (getD W x 0) (leaders (line f)))) (sym a) (leader-in (operatorAt r) (line f) o h)) refl))
+      (every-at (λ k. rowOk f k parts) (tellings f) (and-right B C ok₁) (telling W r) (by (operates f) (isBranch f) (and-left A (B && C) ok) (and-left B C ok₁)
+      (λ o. operator-in (operatorAt r) (formLine f) o h) (λ o. subst (λ (x : ℕ). T (mem (getD W x 0) (leaders (formLine f)))) (sym a) (leader-in (operatorAt r) (formLine f) o h)) refl))
     where
-      by : (o j : Bool) → T (imp o (operating (line (r .form)))) → T (imp j (leading (line (r .form))))
-          → (T (operating (line (r .form))) → (i : ℕ) × ((suc i ≡ operatorAt r) × T (mem (getD W i 0) (operators (line (r .form))))))
-          → (T (leading (line (r .form))) → T (mem (getD W (r .first) 0) (leaders (line (r .form)))))
+      by : (o j : Bool) → T (imp o (operating (formLine (r .form)))) → T (imp j (leading (formLine (r .form))))
+          → (T (operating (formLine (r .form))) → (i : ℕ) × ((suc i ≡ operatorAt r) × T (mem (getD W i 0) (operators (formLine (r .form))))))
+          → (T (leading (formLine (r .form))) → T (mem (getD W (r .first) 0) (leaders (formLine (r .form)))))
           → operates (r .form) ≡ o
-          → T (mem (cond o (getD W (r .operator) 0) (cond j (getD W (r .first) 0) 0)) (cond o (operators (line (r .form))) (cond j (leaders (line (r .form))) (0 ∷ []))))
-      by true j u v x y e =
+          → T (mem (cond o (getD W (r .operator) 0) (cond j (getD W (r .first) 0) 0)) (cond o (operators (formLine (r .form))) (cond j (leaders (formLine (r .form))) (0 ∷ []))))
+      by true j u v x y symbol =
           let i = x u in
-          let z : suc (i .0) ≡ suc (r .operator) = i .1 .0 ∙ ap (λ (o : Bool). cond o (suc (r .operator)) 0) e in
+          let z : suc (i .0) ≡ suc (r .operator) = i .1 .0 ∙ ap (λ (o : Bool). cond o (suc (r .operator)) 0) symbol in
           let z₁ : i .0 ≡ r .operator = omega arith in
-          subst (λ (n : ℕ). T (mem (getD W n 0) (operators (line (r .form))))) z₁ (i .1 .1)
-      by false true u v x y e = y v
-      by false false u v x y e = tt
+          subst (λ (n : ℕ). T (mem (getD W n 0) (operators (formLine (r .form))))) z₁ (i .1 .1)
+      by false true u v x y symbol = y v
+      by false false u v x y symbol = tt

@@ -11,15 +11,15 @@ use Rattle.elements.specs.Kinds.{kindNumber}
 use Rattle.spelled.specs.Spelled.{kindOf}
 use Rattle.forms.specs.Spellings.{identifier, spellings}
 
-abbrev pub kindsOf : List String → List ℕ
-kindsOf [] = []
-kindsOf (s ∷ l) = kindOf s ∷ kindsOf l
+abbrev pub kindsSpelled : List String → List ℕ
+kindsSpelled [] = []
+kindsSpelled (s ∷ l) = kindOf s ∷ kindsSpelled l
 
 -- the kinds of elements that the forms tell apart beside identifiers: the four literals, and what is spelled as one of their words and delimiters
 unfoldable pub told : List ℕ
 told =
     kindNumber (Kind.Literal Literal.Integer) ∷ kindNumber (Kind.Literal Literal.Real) ∷ kindNumber (Kind.Literal Literal.Character)
-    ∷ kindNumber (Kind.Literal Literal.String) ∷ kindsOf spellings
+    ∷ kindNumber (Kind.Literal Literal.String) ∷ kindsSpelled spellings
 
 -- the place of a kind among these, the first being number n; any other comes after them
 abbrev pub placeAmong : ℕ → ℕ → List ℕ → ℕ

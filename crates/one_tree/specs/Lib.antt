@@ -1,3 +1,4 @@
 pub mod Elements
 pub mod Trees
+pub mod Files
 pub mod code

@@ -1,17 +1,14 @@
--- What a file and its tree are by 01's table alone (01, "Forms of the strict reading"): no rules, frames or actions. Assumes nothing: these are
--- definitions, and proofs/Only.antt proves that there is one such tree and no other, the one that is answered.
+-- What a tree is by 01's table alone (01, "Forms of the strict reading"): no rules, frames or actions. Assumes nothing: these are definitions.
 use Prim.Native.Nat.{ℕ, _+_, _-_, _≤_}
 use mathlib.Core.Path.{_≡_}
 use mathlib.Core.Bool.{cond}
-use mathlib.Core.List.{List, [], _∷_, _++_}
+use mathlib.Core.List.{List, [], _∷_}
 use lib.Dec.{eqb}
-use lib.ListN.{length, take}
+use lib.ListN.{length}
 use Rattle.form_numbers.specs.Forms as form
 use Rattle.forms.specs.Spellings.{spelled}
-use Rattle.forms.specs.Tree.{Row, mostOpen}
-use Rattle.forms.specs.Forest.{Forest}
-use Rattle.forms.specs.Operators.{EachRow}
-use Rattle.forms.specs.Lines.{operates, Pattern, rows, line, Fits, itemsIn, RowsFit}
+use Rattle.forms.specs.Tree.{Row, mostOpen, EachRow, Forest}
+use Rattle.forms.specs.Lines.{operates, Pattern, rows, Fits, itemsIn, RowsFit}
 
 -- "operator element (forms 28 and 29; else the first element)": which element it is in 28 and 29, their lines say
 abbrev pub ElseFirst : Row → Type 0
@@ -22,10 +19,6 @@ ElseFirst r = cond (operates (r .form)) (Unit {0}) (r .operator ≡ r .first)
 -- (`RowsFit`), and outermost stands what the pattern says.
 abbrev pub Stands : Pattern → List ℕ → List Row → Type 0
 Stands p w l = Forest 0 (length w) l × EachRow ElseFirst l × (Fits w 0 p (itemsIn w 0 0 (length w) l) × RowsFit w l)
-
--- a tree of a file: "A file is one or more units."
-abbrev pub IsTree : List ℕ → List Row → Type 0
-IsTree = Stands (line 0)
 
 -- a constant alone, of form 4, and a subtype, of form 5
 abbrev pub IsConstant : List ℕ → List Row → Type 0
@@ -43,11 +36,3 @@ parensAfter t d = cond (eqb t (spelled "(")) (d + 1) (cond (eqb t (spelled ")"))
 abbrev pub Shallow : ℕ → List ℕ → Type 0
 Shallow d [] = d ≤ mostOpen
 Shallow d (t ∷ w) = (d ≤ mostOpen) × Shallow (parensAfter t d) w
-
--- the elements are a file
-abbrev pub HasTree : List ℕ → Type 0
-HasTree w = (l : List Row) × IsTree w l
-
--- the first j elements begin some file
-abbrev pub Begins : List ℕ → ℕ → Type 0
-Begins w j = (v : List ℕ) × HasTree (take j w ++ v)

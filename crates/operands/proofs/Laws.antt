@@ -11,7 +11,7 @@ use lib.ListN.{length, take, drop, length-drop, drop-of-length-le}
 use lib.Seq.{take-nil}
 use Rattle.spelled.specs.Spelled.{kindOf}
 use Rattle.laws.proofs.Laws.{cut}
-use Rattle.places.specs.Kinds.{integerLiteral}
+use Rattle.places.specs.Kinds.{integerLiteralKind}
 use Rattle.places.specs.Places.{cellAt}
 use Rattle.folding.specs.declared.Operator.the-variants.{Join}
 use Rattle.folding.specs.declared.Sign.the-variants.{Plus}
@@ -80,12 +80,12 @@ part-bytes text table e first size p q =
     go true h = inside (cellAt table e 1) (cellAt table e 2) first size text (leb-true (cellAt table e 1) (length text) h) p q
     go false h = outside (cellAt table e 1) (cellAt table e 2) first size text (leb-false (cellAt table e 1) (length text) h) p q
 
-pub not-folded : (text table : List ℕ) (e k : ℕ) (r : Outcome) → k ≡ cellAt table e 0 → (k ≡ integerLiteral → ⊥) → r ≡ wrongLeaf state.unfolded → r ≡ literalIn text table e
+pub not-folded : (text table : List ℕ) (e k : ℕ) (r : Outcome) → k ≡ cellAt table e 0 → (k ≡ integerLiteralKind → ⊥) → r ≡ wrongLeaf state.unfolded → r ≡ literalIn text table e
 unfolding literalIn literalBy
-not-folded text table e k r p h z = rw (← p, ne-eqb k integerLiteral h) z
+not-folded text table e k r p h z = rw (← p, ne-eqb k integerLiteralKind h) z
 
-pub folded : (text table : List ℕ) (e k a b first size : ℕ) (r : Outcome) → k ≡ cellAt table e 0 → k ≡ integerLiteral → a ≡ cellAt table e 1 → b ≡ cellAt table e 2
+pub folded : (text table : List ℕ) (e k a b first size : ℕ) (r : Outcome) → k ≡ cellAt table e 0 → k ≡ integerLiteralKind → a ≡ cellAt table e 1 → b ≡ cellAt table e 2
     → first ≡ min a (length text) → size ≡ min b (length text - first) → r ≡ literalLeaf (take (first + size - first) (drop first text)) → r ≡ literalIn text table e
 unfolding literalIn literalBy
 folded text table e k a b first size r p h x y f g z =
-    rw (← p, eq-eqb k integerLiteral h, ← part-bytes text table e first size (rw x at f) (rw y at g)) z
+    rw (← p, eq-eqb k integerLiteralKind h, ← part-bytes text table e first size (rw x at f) (rw y at g)) z

@@ -12,7 +12,8 @@ use lib.ListN.{length, getD, drop, length-drop, List·getD-eq-default}
 use lib.Seq.{getD-drop, getD-take, length-take-le}
 use Rattle.classes.proofs.Laws.{by-test}
 use Rattle.pieces.specs.Classes as class
-use Rattle.pieces.specs.Kinds.{classAt, kindsAt, isName, isHeading, behindWord, hasName, endsAt, isClosing, claimClass, pieceClass, semicolon, word-constant, word-end, word-is, word-package, word-subtype}
+use Rattle.pieces.specs.Kinds.{classAt, kindsAt, isHeading, behindWord, hasName, endsAt, isClosing, claimClass, pieceClass, semicolon, word-constant, word-end, word-is, word-package, word-subtype}
+use Rattle.places.specs.Kinds.{isName}
 use Rattle.places.specs.Places.{rowWords, cellAt, kindsOf}
 use Rattle.pieces.specs.declared.PieceClass.{PieceClass}
 use Rattle.places.proofs.Laws.{kinds-length, kind-at}

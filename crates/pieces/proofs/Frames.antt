@@ -8,6 +8,7 @@ use native.Mathlib.Omega.{arith}
 use borrow.Author.Tests.{eq-eqb, ne-eqb}
 use lib.ListN.{length, take, drop}
 use Rattle.places.specs.Places.{rowsIn, kindsOf}
+use Rattle.places.specs.declared.ElementNumber.{ElementNumber}
 use Rattle.places.proofs.Laws.{kinds-end}
 use Rattle.pieces.specs.Classes as class
 use Rattle.pieces.specs.Cutting.{pieceSize, cut}
@@ -26,9 +27,10 @@ module _ (heading from : ℕ) (m : PieceClass) where
   unfolding lastFramed
   last-other r h e = rw (ne-eqb (m .class) class.closing h) e
 
-  pub last-closing : (c : ℕ) → m .class ≡ class.closing → c ≡ nameOf from (m .place) → framed heading c ≡ lastFramed heading from m
-  unfolding lastFramed
-  last-closing c h e = rw (eq-eqb (m .class) class.closing h, e)
+pub last-closing : (heading closing : ElementNumber) (from : ℕ) (m : PieceClass) → m .class ≡ class.closing → closing .0 ≡ nameOf from (m .place)
+    → _≡_ {A = Frame} (record { good = true; heading = heading; closing = closing }) (lastFramed (heading .0) from m)
+unfolding lastFramed
+last-closing heading closing from m h e = rw (eq-eqb (m .class) class.closing h, ← e)
 
 -- a piece that another follows
 framed-more : (name from : ℕ) (p q : List ℕ) (ps qs : List (List ℕ)) → qs ≡ q ∷ ps

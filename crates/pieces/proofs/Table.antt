@@ -14,7 +14,8 @@ use Rattle.places.specs.Sizes.{mostPieces}
 use Rattle.pieces.specs.Columns as column
 use Rattle.pieces.specs.Columns.{recordWords}
 use Rattle.pieces.specs.Cutting.{pieceSize, cut}
-use Rattle.pieces.specs.Kinds.{kindsAt, closesPiece, opensPiece, kindPieces, isHeading, isClosing, hasName, isName, claimClass, pieceClass, word-constant, word-subtype}
+use Rattle.pieces.specs.Kinds.{kindsAt, closesPiece, opensPiece, kindPieces, isHeading, isClosing, hasName, claimClass, pieceClass, word-constant, word-subtype}
+use Rattle.places.specs.Kinds.{isName}
 use Rattle.places.specs.Places.{rowWords, rowsIn, kindsOf}
 use Rattle.pieces.specs.Records.{nameOf, pendingRecord, pendingRecords, piecesIn, recording, recordTable}
 use Rattle.pieces.specs.declared.PieceClass.{PieceClass}

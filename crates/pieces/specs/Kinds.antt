@@ -4,7 +4,7 @@ use mathlib.Core.Bool.{Bool, false, cond, _&&_, _||_}
 use mathlib.Core.List.{List, [], _∷_}
 use lib.Dec.{eqb}
 use lib.ListN.{length, getD, take, drop}
-use Rattle.places.specs.Kinds.{identifier, extended}
+use Rattle.places.specs.Kinds.{isName}
 use Rattle.places.specs.Places.{kindsOf}
 use Rattle.pieces.specs.Classes as class
 use Rattle.pieces.specs.Cutting.{cut}
@@ -39,10 +39,6 @@ classAt c p = record { class = c; place = p }
 -- the kinds of the elements of a piece
 unfoldable pub kindsAt : ℕ → List ℕ → ℕ → ℕ → List ℕ
 kindsAt n table from count = take count (drop from (kindsOf n table))
-
--- an identifier or an extended one
-abbrev pub isName : ℕ → Bool
-isName k = eqb k identifier || eqb k extended
 
 -- "after each `;`"
 abbrev pub closesPiece : ℕ → Bool

@@ -5,7 +5,8 @@ ghost use Prim.Native.Nat.{_+_, _*_, _/_, _≤_, _<_, min};
 ghost use lib.ListN.{length, getD, drop};
 ghost use lib.Seq.{sets};
 ghost use Rattle.pieces.specs.Cutting.{pieceSize};
-ghost use Rattle.pieces.specs.Kinds.{kindsAt, isName, closesPiece, opensPiece, kindPieces, isHeading, behindBoth, behindWord, endsAt, claimClass, pieceClass};
+ghost use Rattle.pieces.specs.Kinds.{kindsAt, closesPiece, opensPiece, kindPieces, isHeading, behindBoth, behindWord, endsAt, claimClass, pieceClass};
+ghost use Rattle.places.specs.Kinds.{isName};
 ghost use Rattle.places.specs.Places.{allWords, rowWords, rowsIn, kindsOf};
 ghost use Rattle.pieces.specs.Records.{recordWords, nameOf, pendingRecord, pendingRecords, piecesIn, recording, recordTable};
 ghost use Rattle.pieces.specs.Classes.{isEither};
@@ -89,26 +90,28 @@ fn opens_piece(k: u64) -> bool
 }
 
 // The kind of an element, 0 past the last.
-fn kind_at(elements: &[u64], n: usize, i: usize) -> u64
+fn kind_at(elements: &[u64], n: usize, e: ElementNumber) -> u64
     requires { ⌜ rowWords * n ≤ length (now elements) ⌝ }
-    ensures { λ r. ⌜ r ≡ getD (kindsOf n (now (elements .entry))) i 0 ⌝ }
+    ensures { λ r. ⌜ r ≡ getD (kindsOf n (now (elements .entry))) (e .0) 0 ⌝ }
 {
-    if i < n {
-        places::kind_of(elements, ElementNumber(i))
+    if e.0 < n {
+        places::kind_of(elements, e)
     } else {
         0
     }
 }
 
 // How many elements the piece has that begins at an element that there is.
-fn size_at(elements: &[u64], n: usize, from: usize) -> usize
-    requires { ⌜ (rowWords * n ≤ length (now elements)) × (from < n) ⌝ }
-    ensures { λ r. ⌜ r ≡ pieceSize closesPiece opensPiece (drop from (kindsOf n (now (elements .entry)))) ⌝ }
+fn size_at(elements: &[u64], n: usize, first: ElementNumber) -> usize
+    requires { ⌜ (rowWords * n ≤ length (now elements)) × (first .0 < n) ⌝ }
+    ensures { λ r. ⌜ r ≡ pieceSize closesPiece opensPiece (drop (first .0) (kindsOf n (now (elements .entry)))) ⌝ }
 {
-    let mut closed = closes_piece(kind_at(elements, n, from));
+    let from = first.0;
+    let mut closed = closes_piece(kind_at(elements, n, first));
     let mut m: usize = 1;
     while from + m < n {
-        let k = kind_at(elements, n, from + m);
+        let next = from + m;
+        let k = kind_at(elements, n, ElementNumber(next));
         if closed | opens_piece(k) {
             return m;
         }
@@ -119,14 +122,14 @@ fn size_at(elements: &[u64], n: usize, from: usize) -> usize
 }
 
 // How many elements the piece has that begins at an element, 0 past the last.
-pub fn piece_size(elements: &[u64], count: usize, from: usize) -> usize
-    ensures { λ r. ⌜ r ≡ pieceSize closesPiece opensPiece (drop from (kindsOf (min count (rowsIn (now (elements .entry)))) (now (elements .entry)))) ⌝ }
+pub fn piece_size(elements: &[u64], count: usize, first: ElementNumber) -> usize
+    ensures { λ r. ⌜ r ≡ pieceSize closesPiece opensPiece (drop (first .0) (kindsOf (min count (rowsIn (now (elements .entry)))) (now (elements .entry)))) ⌝ }
 {
     let n = lent_tables::least(count, places::rows_in(elements));
-    if n <= from {
+    if n <= first.0 {
         return 0;
     }
-    size_at(elements, n, from)
+    size_at(elements, n, first)
 }
 
 fn count_pieces(elements: &[u64], n: usize) -> usize
@@ -136,44 +139,44 @@ fn count_pieces(elements: &[u64], n: usize) -> usize
     let mut at: usize = 0;
     let mut c: usize = 0;
     while at < n {
-        at += size_at(elements, n, at);
+        at += size_at(elements, n, ElementNumber(at));
         c += 1;
     }
     c
 }
 
 // The kind of the i-th element of a piece, 0 past its last.
-fn kind_in(elements: &[u64], n: usize, from: usize, count: usize, i: usize) -> u64
-    requires { ⌜ (rowWords * n ≤ length (now elements)) × (from + count ≤ n) ⌝ }
-    ensures { λ r. ⌜ r ≡ getD (kindsAt n (now (elements .entry)) from count) i 0 ⌝ }
+fn kind_in(elements: &[u64], n: usize, first: ElementNumber, count: usize, i: usize) -> u64
+    requires { ⌜ (rowWords * n ≤ length (now elements)) × (first .0 + count ≤ n) ⌝ }
+    ensures { λ r. ⌜ r ≡ getD (kindsAt n (now (elements .entry)) (first .0) count) i 0 ⌝ }
 {
     if i < count {
-        let e = from + i;
+        let e = first.0 + i;
         places::kind_of(elements, ElementNumber(e))
     } else {
         0
     }
 }
 
-fn is_heading(elements: &[u64], n: usize, from: usize, count: usize) -> bool
-    requires { ⌜ (rowWords * n ≤ length (now elements)) × (from + count ≤ n) ⌝ }
-    ensures { λ r. ⌜ r ≡ isHeading (kindsAt n (now (elements .entry)) from count) ⌝ }
+fn is_heading(elements: &[u64], n: usize, first: ElementNumber, count: usize) -> bool
+    requires { ⌜ (rowWords * n ≤ length (now elements)) × (first .0 + count ≤ n) ⌝ }
+    ensures { λ r. ⌜ r ≡ isHeading (kindsAt n (now (elements .entry)) (first .0) count) ⌝ }
 {
     if count != HEADING_SIZE {
         return false;
     }
-    let first = kind_in(elements, n, from, count, 0);
-    let second = kind_in(elements, n, from, count, 1);
-    let third = kind_in(elements, n, from, count, HEADING_END);
-    (first == WORD_PACKAGE) & is_name(second) & (third == WORD_IS)
+    let one = kind_in(elements, n, first, count, 0);
+    let two = kind_in(elements, n, first, count, 1);
+    let three = kind_in(elements, n, first, count, HEADING_END);
+    (one == WORD_PACKAGE) & is_name(two) & (three == WORD_IS)
 }
 
 // Where the name of a closing would stand: after `end` and perhaps `package`.
-fn behind_word(elements: &[u64], n: usize, from: usize, count: usize) -> usize
-    requires { ⌜ (rowWords * n ≤ length (now elements)) × (from + count ≤ n) ⌝ }
-    ensures { λ r. ⌜ r ≡ behindWord (kindsAt n (now (elements .entry)) from count) ⌝ }
+fn behind_word(elements: &[u64], n: usize, first: ElementNumber, count: usize) -> usize
+    requires { ⌜ (rowWords * n ≤ length (now elements)) × (first .0 + count ≤ n) ⌝ }
+    ensures { λ r. ⌜ r ≡ behindWord (kindsAt n (now (elements .entry)) (first .0) count) ⌝ }
 {
-    if kind_in(elements, n, from, count, 1) == WORD_PACKAGE {
+    if kind_in(elements, n, first, count, 1) == WORD_PACKAGE {
         BEHIND_BOTH
     } else {
         1
@@ -187,26 +190,26 @@ pub struct PieceClass {
 }
 
 // A piece that begins with `end`, its name's place aside.
-fn closes_with(elements: &[u64], n: usize, from: usize, count: usize, at: usize) -> bool
-    requires { ⌜ (rowWords * n ≤ length (now elements)) × (from + count ≤ n) × (at ≤ behindBoth + 1) ⌝ }
-    ensures { λ r. ⌜ r ≡ endsAt (kindsAt n (now (elements .entry)) from count) at ⌝ }
+fn closes_with(elements: &[u64], n: usize, first: ElementNumber, count: usize, at: usize) -> bool
+    requires { ⌜ (rowWords * n ≤ length (now elements)) × (first .0 + count ≤ n) × (at ≤ behindBoth + 1) ⌝ }
+    ensures { λ r. ⌜ r ≡ endsAt (kindsAt n (now (elements .entry)) (first .0) count) at ⌝ }
 {
-    let first = kind_in(elements, n, from, count, 0);
-    let last = kind_in(elements, n, from, count, at);
-    (first == WORD_END) & (last == SEMICOLON) & (count == at + 1)
+    let begun = kind_in(elements, n, first, count, 0);
+    let last = kind_in(elements, n, first, count, at);
+    (begun == WORD_END) & (last == SEMICOLON) & (count == at + 1)
 }
 
-fn claim_class(elements: &[u64], n: usize, from: usize, count: usize) -> PieceClass
-    requires { ⌜ (rowWords * n ≤ length (now elements)) × (from + count ≤ n) ⌝ }
-    ensures { λ r. ⌜ r ≡ claimClass (kindsAt n (now (elements .entry)) from count) ⌝ }
+fn claim_class(elements: &[u64], n: usize, first: ElementNumber, count: usize) -> PieceClass
+    requires { ⌜ (rowWords * n ≤ length (now elements)) × (first .0 + count ≤ n) ⌝ }
+    ensures { λ r. ⌜ r ≡ claimClass (kindsAt n (now (elements .entry)) (first .0) count) ⌝ }
 {
-    if !is_name(kind_in(elements, n, from, count, 1)) {
+    if !is_name(kind_in(elements, n, first, count, 1)) {
         return PieceClass {
             class: UNCLAIMED,
             place: 0,
         };
     }
-    let k = kind_in(elements, n, from, count, 0);
+    let k = kind_in(elements, n, first, count, 0);
     if k == WORD_CONSTANT {
         return PieceClass {
             class: CONSTANT,
@@ -225,52 +228,57 @@ fn claim_class(elements: &[u64], n: usize, from: usize, count: usize) -> PieceCl
     }
 }
 
-fn piece_class(elements: &[u64], n: usize, from: usize, count: usize) -> PieceClass
-    requires { ⌜ (rowWords * n ≤ length (now elements)) × (from + count ≤ n) ⌝ }
-    ensures { λ r. ⌜ r ≡ pieceClass (kindsAt n (now (elements .entry)) from count) ⌝ }
+fn piece_class(elements: &[u64], n: usize, first: ElementNumber, count: usize) -> PieceClass
+    requires { ⌜ (rowWords * n ≤ length (now elements)) × (first .0 + count ≤ n) ⌝ }
+    ensures { λ r. ⌜ r ≡ pieceClass (kindsAt n (now (elements .entry)) (first .0) count) ⌝ }
 {
-    if is_heading(elements, n, from, count) {
+    if is_heading(elements, n, first, count) {
         return PieceClass {
             class: HEADING,
             place: 1,
         };
     }
-    let w = behind_word(elements, n, from, count);
-    if is_name(kind_in(elements, n, from, count, w)) {
-        if closes_with(elements, n, from, count, w + 1) {
+    let w = behind_word(elements, n, first, count);
+    if is_name(kind_in(elements, n, first, count, w)) {
+        if closes_with(elements, n, first, count, w + 1) {
             return PieceClass {
                 class: CLOSING,
                 place: w,
             };
         }
-        return claim_class(elements, n, from, count);
+        return claim_class(elements, n, first, count);
     }
-    if closes_with(elements, n, from, count, w) {
+    if closes_with(elements, n, first, count, w) {
         return PieceClass {
             class: CLOSING,
             place: 0,
         };
     }
-    claim_class(elements, n, from, count)
+    claim_class(elements, n, first, count)
 }
 
 // The name's element, 0 where there is none.
-fn name_element(from: usize, place: usize) -> usize
-    requires { ⌜ from + place < allWords ⌝ }
-    ensures { λ r. ⌜ r ≡ nameOf from place ⌝ }
+fn name_element(first: ElementNumber, place: usize) -> ElementNumber
+    requires { ⌜ first .0 + place < allWords ⌝ }
+    ensures { λ r. ⌜ r .0 ≡ nameOf (first .0) place ⌝ }
 {
-    if place == 0 { 0 } else { from + place }
+    if place == 0 {
+        return ElementNumber(0);
+    }
+    let e = first.0 + place;
+    ElementNumber(e)
 }
 
 // The record of a piece: class, first element, count, name element; nothing is known of its state yet.
-fn write_record(items: &mut [u64], w: usize, from: usize, count: usize, m: PieceClass)
-    requires { ⌜ (w + recordWords ≤ length (now items)) × (from + m .place < allWords) ⌝ }
-    ensures { λ _. ⌜ now (items .exit) ≡ sets (now (items .entry)) w (pendingRecord from count m) ⌝ }
+fn write_record(items: &mut [u64], w: usize, first: ElementNumber, count: usize, m: PieceClass)
+    requires { ⌜ (w + recordWords ≤ length (now items)) × (first .0 + m .place < allWords) ⌝ }
+    ensures { λ _. ⌜ now (items .exit) ≡ sets (now (items .entry)) w (pendingRecord (first .0) count m) ⌝ }
 {
+    let name = name_element(first, m.place);
     items[w] = m.class;
-    items[w + FIRST] = from as u64;
+    items[w + FIRST] = first.0 as u64;
     items[w + COUNT] = count as u64;
-    items[w + NAME] = name_element(from, m.place) as u64;
+    items[w + NAME] = name.0 as u64;
     items[w + STATE] = 0;
     items[w + KIND] = 0;
     items[w + LOW] = 0;
@@ -285,9 +293,10 @@ fn write_records(elements: &[u64], n: usize, items: &mut [u64])
     let mut at: usize = 0;
     let mut w: usize = 0;
     while at < n {
-        let count = size_at(elements, n, at);
-        let m = piece_class(elements, n, at, count);
-        write_record(items, w, at, count, m);
+        let first = ElementNumber(at);
+        let count = size_at(elements, n, first);
+        let m = piece_class(elements, n, first, count);
+        write_record(items, w, first, count, m);
         at += count;
         w += RECORD_WORDS;
     }
@@ -339,15 +348,14 @@ fn no_frame() -> Frame
 }
 
 // The last piece, which begins at an element: a closing, or there is no good frame.
-fn last_piece(name: usize, from: usize, m: PieceClass) -> Frame
-    requires { ⌜ from + m .place < allWords ⌝ }
-    ensures { λ r. ⌜ r ≡ lastFramed name from m ⌝ }
+fn last_piece(heading: ElementNumber, first: ElementNumber, m: PieceClass) -> Frame
+    requires { ⌜ first .0 + m .place < allWords ⌝ }
+    ensures { λ r. ⌜ r ≡ lastFramed (heading .0) (first .0) m ⌝ }
 {
     if m.class != CLOSING {
         return no_frame();
     }
-    let heading = ElementNumber(name);
-    let closing = ElementNumber(name_element(from, m.place));
+    let closing = name_element(first, m.place);
     Frame {
         good: true,
         heading,
@@ -356,17 +364,18 @@ fn last_piece(name: usize, from: usize, m: PieceClass) -> Frame
 }
 
 // The pieces after a heading, from the one on that begins at an element.
-fn frame_from(elements: &[u64], n: usize, name: usize, from: usize) -> Frame
-    requires { ⌜ (rowWords * n ≤ length (now elements)) × (from ≤ n) ⌝ }
-    ensures { λ r. ⌜ r ≡ framedFrom name from (kindPieces (drop from (kindsOf n (now (elements .entry))))) ⌝ }
+fn frame_from(elements: &[u64], n: usize, heading: ElementNumber, from: ElementNumber) -> Frame
+    requires { ⌜ (rowWords * n ≤ length (now elements)) × (from .0 ≤ n) ⌝ }
+    ensures { λ r. ⌜ r ≡ framedFrom (heading .0) (from .0) (kindPieces (drop (from .0) (kindsOf n (now (elements .entry))))) ⌝ }
 {
-    let mut at = from;
+    let mut at = from.0;
     while at < n {
-        let count = size_at(elements, n, at);
-        let m = piece_class(elements, n, at, count);
+        let first = ElementNumber(at);
+        let count = size_at(elements, n, first);
+        let m = piece_class(elements, n, first, count);
         let next = at + count;
         if next == n {
-            return last_piece(name, at, m);
+            return last_piece(heading, first, m);
         }
         if is_either(m.class) {
             return no_frame();
@@ -384,10 +393,12 @@ pub fn frame_of(elements: &[u64], count: usize) -> Frame
     if n == 0 {
         return no_frame();
     }
-    let size = size_at(elements, n, 0);
-    let m = piece_class(elements, n, 0, size);
+    let first = ElementNumber(0);
+    let size = size_at(elements, n, first);
+    let m = piece_class(elements, n, first, size);
     if m.class != HEADING {
         return no_frame();
     }
-    frame_from(elements, n, name_element(0, m.place), size)
+    let heading = name_element(first, m.place);
+    frame_from(elements, n, heading, ElementNumber(size))
 }

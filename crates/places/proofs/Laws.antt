@@ -8,7 +8,7 @@ use lib.Dec.{leb}
 use lib.ListN.{length, getD, set, take, drop, length-drop, drop-of-length-le}
 use lib.Seq.{drop-cons, getD-drop, take-all}
 use borrow.Author.Tests.{lt-ltb, le-ltb, le-leb, lt-leb, leb-true, leb-false}
-use Rattle.places.specs.Places.{rowsFrom, cellAt, kindsOf, put, within}
+use Rattle.places.specs.Places.{rowsFrom, cellAt, kindsOf, putRow, within}
 
 pub cell-in : (l : List ℕ) (i j : ℕ) → i < length l / 3 → getD l (3 * i + j) 0 ≡ cellAt l i j
 unfolding cellAt
@@ -53,12 +53,12 @@ nothing-past l i h =
     ∙ sym (drop-of-length-le l {i = 3 * i} (omega arith))
 
 -- a row put where there is room, and where there is none
-pub put-there : (t : List ℕ) (n kind first size : ℕ) → n < length t / 3 → put t n kind first size ≡ set (set (set t (n * 3) kind) (n * 3 + 1) first) (n * 3 + 2) size
-unfolding put
+pub put-there : (t : List ℕ) (n kind first size : ℕ) → n < length t / 3 → putRow t n kind first size ≡ set (set (set t (n * 3) kind) (n * 3 + 1) first) (n * 3 + 2) size
+unfolding putRow
 put-there t n kind first size h = rw (lt-ltb n (length t / 3) h)
 
-pub put-nowhere : (t : List ℕ) (n kind first size : ℕ) → length t / 3 ≤ n → put t n kind first size ≡ t
-unfolding put
+pub put-nowhere : (t : List ℕ) (n kind first size : ℕ) → length t / 3 ≤ n → putRow t n kind first size ≡ t
+unfolding putRow
 put-nowhere t n kind first size h = rw (le-ltb n (length t / 3) h)
 
 pub stands-no : (s : List ℕ) (x n : ℕ) → length s < x → false ≡ within s x n

@@ -42,8 +42,8 @@ kindsOf zero table = []
 kindsOf (suc n) table = getD table 0 0 ∷ kindsOf n (drop rowWords table)
 
 -- a row put at its number, where the table has room for it
-unfoldable pub put : List ℕ → ℕ → ℕ → ℕ → ℕ → List ℕ
-put t n kind first size =
+unfoldable pub putRow : List ℕ → ℕ → ℕ → ℕ → ℕ → List ℕ
+putRow t n kind first size =
     cond (ltb n (rowsIn t)) (set (set (set t (n * rowWords) kind) (n * rowWords + firstColumn) first) (n * rowWords + sizeColumn) size) t
 
 -- the n bytes from x stand in the text

@@ -2,7 +2,7 @@
 // knows what the words of a row are. Any table and any number may be given.
 ghost use mathlib.Core.Path.{_≡_};
 ghost use Prim.Native.Nat.{_<_};
-ghost use Rattle.places.specs.Places.{rowWords, kindColumn, firstColumn, sizeColumn, rowsIn, rowsFrom, cellAt, put, within};
+ghost use Rattle.places.specs.Places.{rowWords, kindColumn, firstColumn, sizeColumn, rowsIn, rowsFrom, cellAt, putRow, within};
 
 // 01's sizes: how many bytes and elements a text has at most, and how many pieces a survey.
 pub const MOST_BYTES: usize = 65536;
@@ -78,7 +78,7 @@ fn cell(table: &[u64], i: usize, j: usize) -> u64
 
 // Puts a row at its number, where the table has room for it.
 pub fn put_row(t: &mut [u64], e: ElementNumber, kind: u64, first: BytePlace, size: usize)
-    ensures { λ _. ⌜ now (t .exit) ≡ put (now (t .entry)) (e .0) kind (first .0) size ⌝ }
+    ensures { λ _. ⌜ now (t .exit) ≡ putRow (now (t .entry)) (e .0) kind (first .0) size ⌝ }
 {
     let n = e.0;
     if n < t.len() / ROW_WORDS {

@@ -16,28 +16,27 @@ use Rattle.element_reading.proofs.Promises as reads
 use Rattle.forms.specs.Tree.{Row}
 use Rattle.forms.specs.Tree as forms
 use Rattle.forms.specs.code.Frames as frames
-use Rattle.forms.specs.Forest.{Tiled}
-use Rattle.forms.specs.Lines.{TreeFits}
+use Rattle.forms.specs.Files.{Tiled, TreeFits}
 use Rattle.forms.specs.Operators.{OperatorsRight}
 use Rattle.forms.specs.Owners.{AllOwned, OwnedOnce, LeavesAre}
-use Rattle.one_tree.specs.Trees.{IsTree}
+use Rattle.one_tree.specs.Files.{IsTree}
 use Rattle.one_tree.proofs.Only.{reads-the-tree}
 use Rattle.forms.proofs.Tiling.{rows-tiled}
 use Rattle.forms.proofs.Fitting.{rows-fit}
 use Rattle.forms.proofs.OwnOperators.{operators-right}
 use Rattle.forms.proofs.Owners.{all-owned, owned-once}
 use Rattle.forms.proofs.Leaves.{leaves-are}
-use Rattle.strict_reading.specs.Given.{formKinds, Elements, alike}
+use Rattle.strict_reading.specs.Given.{formKinds, Elements, sameNameIn}
 use Rattle.strict_reading.proofs.Promises.{accepted, of-rows, verdict-of-rows}
 use Rattle.strict_reading.proofs.Promises as strict
-use Rattle.records.specs.Records.{state}
+use Rattle.pieces.specs.Columns as column
 use Rattle.states.specs.States as states
 use Rattle.values.specs.declared.Value.the-variants.{Without}
 use Rattle.meaning.specs.Names.{useOf}
-use Rattle.meaning.specs.Forms.{Item, HasForm}
+use Rattle.meaning.specs.Forms.{ItemForm, HasForm}
 use Rattle.meaning.specs.States.{Met, Least, NoneMet}
 use Rattle.meaning.specs.Values.{Gives}
-use Rattle.survey_reading.specs.code.Survey.{surveyOf, elementsAfter, itemsAfter}
+use Rattle.survey_reading.specs.code.Survey.{surveyOf, elementsAfterSurvey, itemsAfter}
 use Rattle.survey_reading.specs.Permitted.{PermittedBy}
 use Rattle.survey_reading.specs.declared.Ended.{Ended}
 use Rattle.survey_reading.specs.declared.Ended.the-variants as outcome
@@ -78,7 +77,7 @@ pub strict-zeros : StrictZeros
 strict-zeros text ew tw x e t p = (p .1, p .2)
 
 pub survey-answered : SurveyAnswered
-survey-answered text e i = (surveyOf text e i, (elementsAfter text e i, (itemsAfter text e i, surveys.permits text e i)))
+survey-answered text e i = (surveyOf text e i, (elementsAfterSurvey text e i, (itemsAfter text e i, surveys.permits text e i)))
 
 pub survey-decided : SurveyDecided
 survey-decided = surveys.no-choice
@@ -106,7 +105,7 @@ elements-in-order text = (reads.stand-in-order text, reads.nothing-lost text)
 -- ---- the strict reading
 
 -- the text's elements are as many to the forms
-size : (rs : List elements.Row) → length (formKinds rs) ≡ length rs
+size : (rs : List elements.ElementRow) → length (formKinds rs) ≡ length rs
 size [] = refl
 size (r ∷ rs) = ap suc (size rs)
 
@@ -114,30 +113,30 @@ pub acceptance : Acceptance
 acceptance = accepted
 
 pub rows-fit-lines : RowsFitLines
-rows-fit-lines text ew tw n v e t p = of-rows (TreeFits (Elements text)) text ew tw n v e t p (rows-fit (alike text) (Elements text))
+rows-fit-lines text ew tw n v e t p = of-rows (TreeFits (Elements text)) text ew tw n v e t p (rows-fit (sameNameIn text) (Elements text))
 
 pub one-tree : OneTree
 one-tree text ew tw n v e t p =
     of-rows (λ rows. (l : List Row) → IsTree (Elements text) l → l ≡ rows) text ew tw n v e t p
-    (λ s r l h. reads-the-tree (alike text) (Elements text) s l r .0 h)
+    (λ s r l h. reads-the-tree (sameNameIn text) (Elements text) s l r .0 h)
 
 pub rows-nest : RowsNest
 rows-nest text ew tw n v e t p =
     of-rows (Tiled 0 (elementCount text)) text ew tw n v e t p
-    (λ s f. subst (λ (m : ℕ). Tiled 0 m (frames.rowsOf s)) (size (elements.rowsOf text)) (rows-tiled (alike text) (Elements text) s f))
+    (λ s f. subst (λ (m : ℕ). Tiled 0 m (frames.stateRows s)) (size (elements.rowsOf text)) (rows-tiled (sameNameIn text) (Elements text) s f))
 
 pub operator-column : OperatorColumn
-operator-column text ew tw n v e t p = of-rows (OperatorsRight (Elements text)) text ew tw n v e t p (operators-right (alike text) (Elements text))
+operator-column text ew tw n v e t p = of-rows (OperatorsRight (Elements text)) text ew tw n v e t p (operators-right (sameNameIn text) (Elements text))
 
 pub leaves-are-elements : LeavesAreElements
 leaves-are-elements text ew tw n v e t p =
     of-rows (LeavesAre (elementCount text)) text ew tw n v e t p
-    (λ s f. subst (λ (m : ℕ). LeavesAre m (frames.rowsOf s)) (size (elements.rowsOf text)) (leaves-are (alike text) (Elements text) s f))
+    (λ s f. subst (λ (m : ℕ). LeavesAre m (frames.stateRows s)) (size (elements.rowsOf text)) (leaves-are (sameNameIn text) (Elements text) s f))
 
 pub owners-innermost : OwnersInnermost
 owners-innermost text ew tw n v e t p =
     of-rows (λ rows. AllOwned (Elements text) rows × OwnedOnce (Elements text) rows) text ew tw n v e t p
-    (λ s f. (all-owned (alike text) (Elements text) s f, owned-once (alike text) (Elements text) s f))
+    (λ s f. (all-owned (sameNameIn text) (Elements text) s f, owned-once (sameNameIn text) (Elements text) s f))
 
 pub verdict-on-rows : VerdictOnRows
 verdict-on-rows = verdict-of-rows
@@ -152,17 +151,17 @@ doubled-state = of-items _ (λ all above p word h. state-held all above p word h
 
 pub least-state : LeastState
 least-state =
-    of-items (λ all above p word. (s : ℕ) → 1 ≤ s → s ≤ states.kind → (word state ≡ s) ↔ Least (Met all above p) s)
+    of-items (λ all above p word. (s : ℕ) → 1 ≤ s → s ≤ states.kind → (word column.state ≡ s) ↔ Least (Met all above p) s)
     (λ all above p word h s a b. state-held all above p word h s (by-least all above p s a b))
 
 pub later-state : LaterState
 later-state =
     of-items
-    (λ all above p word. (s : ℕ) → states.divisor ≤ s → (word state ≡ s) ↔ (NoneMet (Met all above p) × ((i : Item) × (HasForm p i × Gives (useOf all above) i (Without s)))))
+    (λ all above p word. (s : ℕ) → states.divisor ≤ s → (word column.state ≡ s) ↔ (NoneMet (Met all above p) × ((i : ItemForm) × (HasForm p i × Gives (useOf all above) i (Without s)))))
     (λ all above p word h s a. state-held all above p word h s (by-later all above p s a))
 
 pub state-known : StateKnown
-state-known = of-items (λ all above p word. word state ≤ states.range) (λ all above p word h. omega (arith, h .state-is, by-known all above p))
+state-known = of-items (λ all above p word. word column.state ≤ states.range) (λ all above p word h. omega (arith, h .state-is, by-known all above p))
 
 pub number-exactly : NumberExactly
 number-exactly = of-items _ number-held

@@ -20,10 +20,9 @@ use Rattle.element_reading.specs.Promises.{Laid, InOrder}
 use Rattle.element_reading.specs.declared.Reading.{Reading}
 use Rattle.element_reading.specs.declared.Reading.the-variants as reading
 use Rattle.forms.specs.Tree.{Row}
-use Rattle.forms.specs.Words.{rowsIn}
-use Rattle.forms.specs.Forest.{Tiled}
-use Rattle.forms.specs.Lines.{TreeFits}
-use Rattle.one_tree.specs.Trees.{IsTree}
+use Rattle.forms.specs.Words.{treeRowsIn}
+use Rattle.forms.specs.Files.{Tiled, TreeFits}
+use Rattle.one_tree.specs.Files.{IsTree}
 use Rattle.forms.specs.Operators.{OperatorsRight}
 use Rattle.forms.specs.Owners.{AllOwned, OwnedOnce, LeavesAre}
 use Rattle.verdict.specs.Verdict.{Judged}
@@ -33,25 +32,26 @@ use Rattle.strict_reading.specs.declared.Strict.the-variants as strict
 use Rattle.strict_reading.specs.declared.Strict.the-variants.{Read}
 use Rattle.strict_reading.specs.Given.{Elements, IsRead, Given as StrictGiven}
 use Rattle.strict_reading.specs.Permitted.{Permitted as StrictPermitted}
-use Rattle.records.specs.Records.{wordAt, isItem, state, kind, low, high}
+use Rattle.records.specs.Records.{wordAt, isItem}
+use Rattle.pieces.specs.Columns as column
 use Rattle.records.specs.Tallies.{inState}
 use Rattle.states.specs.States as states
 use Rattle.values.specs.declared.Value.the-variants.{Without}
-use Rattle.meaning.specs.Elements.{piecesOf}
-use Rattle.meaning.specs.Names.{classOf, ownDoubled, useOf}
-use Rattle.meaning.specs.Forms.{Item, HasForm}
+use Rattle.meaning.specs.Pieces.{piecesOf, classOf}
+use Rattle.meaning.specs.Names.{ownDoubled, useOf}
+use Rattle.meaning.specs.Forms.{ItemForm, HasForm}
 use Rattle.meaning.specs.States.{Met, Least, NoneMet}
 use Rattle.meaning.specs.Values.{Gives}
 use Rattle.meaning.specs.Together.{GoodFrame, FirstPair}
 use Rattle.meaning.specs.Records.{recordCount, pieceOf}
-use Rattle.meaning.specs.Forms.{Fits}
+use Rattle.meaning.specs.Items.{FitsAForm}
 use Rattle.survey_reading.specs.Given.{Given as SurveyGiven}
-use Rattle.survey_reading.specs.Permitted.{Permitted as SurveyPermitted, Leaves}
+use Rattle.survey_reading.specs.Permitted.{Permitted as SurveyPermitted, LeavesTables}
 use Rattle.survey_reading.specs.Records.{OfSurveys, OfItems, Numbered}
 use Rattle.survey_reading.specs.declared.Survey.{Survey}
 use Rattle.survey_reading.specs.declared.Ended.the-variants as outcome
-use Rattle.damage.specs.Places.{In, Part, SameEach, PieceOf, recordAfter}
-use Rattle.damage.specs.Damage.{OneLine, olds, news, NoneOf, Undisturbed, Common, ClosedAbove, OpenedBelow}
+use Rattle.damage.specs.Places.{In, PlacedPiece, SameEach, PieceOf, recordAfter}
+use Rattle.damage.specs.Damage.{OneLine, olds, news, NoneChanged, Undisturbed, Common, ClosedAbove, OpenedBelow}
 
 -- ==== Demand 1. "Any bytes and any lent tables may be given, and every call ends. A refusal carries its number from 01 and its place, is given
 -- exactly when 01 says, and leaves every lent table all zeros."
@@ -143,7 +143,7 @@ ElementsInOrder = (text : List ℕ) → InOrder 0 (rowsOf text) (length text) ×
 abbrev pub OfRows : (List ℕ → Verdict → List Row → Type 0) → Type 0
 OfRows P =
     (text : List ℕ) (elementWords treeWords n : ℕ) (v : Verdict) (elements tree : List ℕ)
-    → StrictPermitted text elementWords treeWords (Read n v) elements tree → P text v (rowsIn n tree)
+    → StrictPermitted text elementWords treeWords (Read n v) elements tree → P text v (treeRowsIn n tree)
 
 -- "acceptance": a text is read exactly where it is a file by the forms and no refusal of 01's table is due
 abbrev pub Acceptance : Type 0
@@ -187,35 +187,35 @@ VerdictOnRows = OfRows (λ text v rows. Judged text (cells (rowsOf text)) rows v
 
 -- 1 broken, exactly where "no form fits"
 abbrev pub BrokenState : Type 0
-BrokenState = OfItems (λ all above p word. (word state ≡ states.broken) ↔ (Fits p → ⊥))
+BrokenState = OfItems (λ all above p word. (word column.state ≡ states.broken) ↔ (FitsAForm p → ⊥))
 
 -- 2 doubled, exactly where one fits and "its name has another claim anywhere, the language's included"
 abbrev pub DoubledState : Type 0
-DoubledState = OfItems (λ all above p word. (word state ≡ states.doubled) ↔ (Fits p × (ownDoubled all p ≡ true)))
+DoubledState = OfItems (λ all above p word. (word column.state ≡ states.doubled) ↔ (FitsAForm p × (ownDoubled all p ≡ true)))
 
 -- "The smallest of 1 to 6 wins": the state is s, of these, exactly where s is the least that the item meets
 abbrev pub LeastState : Type 0
-LeastState = OfItems (λ all above p word. (s : ℕ) → 1 ≤ s → s ≤ states.kind → (word state ≡ s) ↔ Least (Met all above p) s)
+LeastState = OfItems (λ all above p word. (s : ℕ) → 1 ≤ s → s ≤ states.kind → (word column.state ≡ s) ↔ Least (Met all above p) s)
 
 -- 7 to 10, exactly where none of 1 to 6 is met and the item, by its form, ends there
 abbrev pub LaterState : Type 0
 LaterState =
     OfItems
-    (λ all above p word. (s : ℕ) → states.divisor ≤ s → (word state ≡ s) ↔ (NoneMet (Met all above p) × ((i : Item) × (HasForm p i × Gives (useOf all above) i (Without s)))))
+    (λ all above p word. (s : ℕ) → states.divisor ≤ s → (word column.state ≡ s) ↔ (NoneMet (Met all above p) × ((i : ItemForm) × (HasForm p i × Gives (useOf all above) i (Without s)))))
 
 -- and there is no other state
 abbrev pub StateKnown : Type 0
-StateKnown = OfItems (λ all above p word. word state ≤ states.range)
+StateKnown = OfItems (λ all above p word. word column.state ≤ states.range)
 
 -- ---- "folded numbers"
 
 -- 0, exactly with its number: "a number, a truth, or for a subtype its low and high end"
 abbrev pub NumberExactly : Type 0
-NumberExactly = OfItems (λ all above p word. (word state ≡ 0) ↔ Numbered all above p word)
+NumberExactly = OfItems (λ all above p word. (word column.state ≡ 0) ↔ Numbered all above p word)
 
 -- "An item without a number in that meaning is given none."
 abbrev pub NoNumberElse : Type 0
-NoNumberElse = OfItems (λ all above p word. (word state ≡ 0 → ⊥) → (word kind ≡ 0) × (word low ≡ 0) × (word high ≡ 0))
+NoNumberElse = OfItems (λ all above p word. (word column.state ≡ 0 → ⊥) → (word column.kind ≡ 0) × (word column.low ≡ 0) × (word column.high ≡ 0))
 
 -- ---- and what the pieces say together
 
@@ -241,7 +241,7 @@ WholeExactly =
     OfSurveys
     (λ text y tally items.
     (y .whole ≡ true)
-    ↔ (GoodFrame (piecesOf text) × ((j : ℕ) → j < recordCount (piecesOf text) → isItem (classOf (pieceOf (piecesOf text) j)) ≡ true → wordAt items j state ≡ 0)))
+    ↔ (GoodFrame (piecesOf text) × ((j : ℕ) → j < recordCount (piecesOf text) → isItem (classOf (pieceOf (piecesOf text) j)) ≡ true → wordAt items j column.state ≡ 0)))
 
 -- ==== Demand 3.
 
@@ -250,10 +250,10 @@ WholeExactly =
 -- text by a piece not common to both, it has the same state, kind and number in both."
 abbrev pub SameInBoth : Type 0
 SameInBoth =
-    (s t elements items elements′ items′ : List ℕ) → Leaves s elements items → Leaves t elements′ items′
-    → (d : OneLine s t) (p q : Part) (i : PieceOf (olds d) p) (j : PieceOf (news d) q) → SameEach p q → NoneOf p → Undisturbed (olds d) (news d) p
-    → (k : ℕ) → state ≤ k → k ≤ high → wordAt items (recordAfter (i .above)) k ≡ wordAt items′ (recordAfter (j .above)) k
+    (s t elements items elements′ items′ : List ℕ) → LeavesTables s elements items → LeavesTables t elements′ items′
+    → (d : OneLine s t) (p q : PlacedPiece) (i : PieceOf (olds d) p) (j : PieceOf (news d) q) → SameEach p q → NoneChanged p → Undisturbed (olds d) (news d) p
+    → (k : ℕ) → column.state ≤ k → k ≤ column.high → wordAt items (recordAfter (i .above)) k ≡ wordAt items′ (recordAfter (j .above)) k
 
 -- 'Pieces closed by a semicolon above the line, and pieces opened below it by "constant", "subtype" or "end", are always common.'
 abbrev pub CommonAlways : Type 0
-CommonAlways = (s t : List ℕ) (d : OneLine s t) (p : Part) → In p (olds d) ⊎ In p (news d) → ClosedAbove p ⊎ OpenedBelow p → Common (olds d) (news d) p
+CommonAlways = (s t : List ℕ) (d : OneLine s t) (p : PlacedPiece) → In p (olds d) ⊎ In p (news d) → ClosedAbove p ⊎ OpenedBelow p → Common (olds d) (news d) p

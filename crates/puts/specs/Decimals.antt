@@ -18,8 +18,8 @@ abbrev pub lineFeed : ℕ
 lineFeed = 10
 
 -- the base
-abbrev pub ten : ℕ
-ten = 10
+abbrev pub decimalBase : ℕ
+decimalBase = 10
 
 -- a word of 64 bits, in two's complement: the first that stands for a negative number, and what that number is below 0 by
 abbrev pub firstNegative : ℕ
@@ -31,7 +31,7 @@ wordEnd = 18446744073709551616
 -- the digits of n, if it has no more than f + 1: those of a tenth of it, and the last. `elim` and not `cond`, which would compute both
 unfoldable pub digitsOf : ℕ → ℕ → List ℕ
 digitsOf zero n = (digitZero + n) ∷ []
-digitsOf (suc f) n = elim (ltb n ten) [ true ↦ (digitZero + n) ∷ [] | false ↦ digitsOf f (n / ten) ++ ((digitZero + n % ten) ∷ []) ]
+digitsOf (suc f) n = elim (ltb n decimalBase) [ true ↦ (digitZero + n) ∷ [] | false ↦ digitsOf f (n / decimalBase) ++ ((digitZero + n % decimalBase) ∷ []) ]
 
 -- "Numbers are decimal"
 unfoldable pub decimalOf : ℕ → List ℕ

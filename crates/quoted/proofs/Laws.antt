@@ -9,7 +9,7 @@ use borrow.Author.Tests.{eq-eqb, ne-eqb, lt-ltb, le-ltb}
 use lib.Dec.{eqb}
 use lib.ListN.{length, take, drop, getD, drop-of-length-le}
 use lib.Seq.{drop-cons, drop-drop}
-use Rattle.classes.specs.Bytes.{isGraphic}
+use Rattle.classes.specs.Signs.{isGraphic}
 use Rattle.classes.proofs.Laws.{part-rest}
 use Rattle.quoted.specs.Quoted.{closedFrom}
 use Rattle.quoted.specs.code.Next.{nextAt}

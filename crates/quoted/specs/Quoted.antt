@@ -3,7 +3,7 @@ use Prim.Native.Nat.{ℕ, suc}
 use mathlib.Core.Bool.{cond}
 use mathlib.Core.List.{List, [], _∷_}
 use lib.Dec.{eqb}
-use Rattle.classes.specs.Bytes.{isGraphic}
+use Rattle.classes.specs.Signs.{isGraphic}
 use Rattle.quoted.specs.declared.Closed.{Closed}
 use Rattle.quoted.specs.declared.Closed.the-variants.{After, Never}
 

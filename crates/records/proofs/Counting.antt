@@ -13,7 +13,8 @@ use lib.Seq.{getD-set-same, getD-set-other, ext-getD}
 use borrow.Author.Tests.{eq-eqb, ne-eqb}
 use Rattle.states.specs.States.{states}
 use Rattle.records.specs.Records.{itemState}
-use Rattle.records.specs.Tallies.{oneIf, inState, countsFrom, tallyOf}
+use Rattle.records.specs.Tallies.{inState, countsFrom, tallyOf}
+use Rattle.records.specs.Counting.{oneIf}
 use Rattle.records.specs.declared.Tally.{Tally}
 use Rattle.laws.proofs.Laws.{zeros-at}
 

@@ -1,3 +1,4 @@
 pub mod Records
+pub mod Counting
 pub mod Tallies
 pub mod Frames

@@ -5,8 +5,8 @@ use mathlib.Core.List.{List}
 use lib.Dec.{eqb, ltb}
 use lib.ListN.{length, getD}
 use Rattle.states.specs.States.{states}
-use Rattle.pieces.specs.Classes.{constant, subtype, unclaimed}
-pub use Rattle.pieces.specs.Columns.{recordWords, state, kind, low, high}
+use Rattle.pieces.specs.Classes as classes
+pub use Rattle.pieces.specs.Columns.{recordWords}
 use Rattle.pieces.specs.Columns as column
 
 -- word j of record i, 0 where there is none
@@ -15,11 +15,11 @@ wordAt items i j = cond (ltb j recordWords && ltb i (length items / recordWords)
 
 -- "Items are all pieces but headings and closings": constants, subtypes, unclaimed
 abbrev pub isItem : ℕ → Bool
-isItem class = eqb class constant || eqb class subtype || eqb class unclaimed
+isItem class = eqb class classes.constant || eqb class classes.subtype || eqb class classes.unclaimed
 
 -- the items that claim a name
 abbrev pub isClaim : ℕ → Bool
-isClaim class = eqb class constant || eqb class subtype
+isClaim class = eqb class classes.constant || eqb class classes.subtype
 
 -- the state of a record that is an item, and a number that is no state for any other
 unfoldable pub itemState : List ℕ → ℕ → ℕ

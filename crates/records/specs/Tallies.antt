@@ -1,15 +1,11 @@
 -- "a tally of items by state, eleven counts". Assumes nothing.
 use Prim.Native.Nat.{ℕ, zero, suc, _+_}
-use mathlib.Core.Bool.{Bool, true, false}
 use mathlib.Core.List.{List, [], _∷_}
 use lib.Dec.{eqb}
 use Rattle.states.specs.States.{states}
 use Rattle.records.specs.Records.{itemState}
+use Rattle.records.specs.Counting.{oneIf}
 use Rattle.records.specs.declared.Tally.{Tally}
-
-abbrev pub oneIf : Bool → ℕ
-oneIf true = 1
-oneIf false = 0
 
 -- how many of m records from the i-th on are items in state k
 unfoldable pub inState : ℕ → List ℕ → ℕ → ℕ → ℕ

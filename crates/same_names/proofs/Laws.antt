@@ -8,7 +8,8 @@ use lib.Dec.{eqb}
 use lib.ListN.{getD}
 use borrow.Author.Tests.{eq-eqb, ne-eqb}
 use Rattle.classes.specs.Bytes.{lower}
-use Rattle.same_names.specs.Alike.{counts, agree, spelledSame, byKind, sameName}
+use Rattle.same_names.specs.Alike.{agree, spelledSame, sameName}
+use Rattle.same_names.specs.Spelling.{counts, byKind}
 use Rattle.places.specs.Places.{cellAt, within}
 
 pub counts-basic : (t : Bool) (b r : ℕ) → t ≡ true → r ≡ lower b → r ≡ counts t b

@@ -8,7 +8,8 @@ use lib.Dec.{eqb}
 use lib.ListN.{length, getD}
 use borrow.Author.Tests.{eq-eqb, eqb-true, le-leb, leb-true}
 use Rattle.laws.proofs.Laws.{both-left, both-right}
-use Rattle.same_names.specs.Alike.{counts, agree, spelledSame, byKind, sameName}
+use Rattle.same_names.specs.Alike.{agree, spelledSame, sameName}
+use Rattle.same_names.specs.Spelling.{counts, byKind}
 use Rattle.places.specs.Places.{cellAt, within}
 
 module _ (t : Bool) (s : List ℕ) where

@@ -1,17 +1,12 @@
--- When two elements are the same name (01, "Elements": identifiers ignore case; extended ones keep it and equal no basic identifier).
--- Elements are rows of the element table: kind, first byte, length in bytes. Assumes nothing: these are definitions.
+-- When two elements are the same name (01, "Elements": identifiers ignore case; extended ones keep it and equal no basic identifier), and when
+-- one is spelled as given bytes. Elements are rows of the element table: kind, first byte, length in bytes. Assumes nothing: these are definitions.
 use Prim.Native.Nat.{ℕ, zero, suc}
 use mathlib.Core.Bool.{Bool, true, false, cond, _&&_}
 use mathlib.Core.List.{List}
 use lib.Dec.{eqb}
-use lib.ListN.{getD}
-use Rattle.classes.specs.Bytes.{lower}
+use lib.ListN.{getD, take, drop}
 use Rattle.places.specs.Places.{kindColumn, firstColumn, sizeColumn, cellAt, within}
-
--- a byte as it counts in a name, basic or not
-abbrev pub counts : Bool → ℕ → ℕ
-counts true b = lower b
-counts false b = b
+use Rattle.same_names.specs.Spelling.{counts, spelt, byKind}
 
 -- the n bytes of s from x and from y count the same
 unfoldable pub agree : Bool → List ℕ → ℕ → ℕ → ℕ → Bool
@@ -25,14 +20,12 @@ spelledSame basic s table a b =
     (cond (within s (cellAt table a firstColumn) (cellAt table a sizeColumn) && within s (cellAt table b firstColumn) (cellAt table a sizeColumn)) (agree basic s (cellAt table a firstColumn) (cellAt table b firstColumn) (cellAt table a sizeColumn)) false)
     false
 
--- 1 is the kind of identifiers, 2 that of extended ones
-abbrev pub byKind : ℕ → Bool → Bool → Bool
-byKind zero x y = false
-byKind (suc zero) x y = x
-byKind (suc (suc zero)) x y = y
-byKind (suc (suc (suc k))) x y = false
-
 -- elements a and b are names, and the same
 unfoldable pub sameName : List ℕ → List ℕ → ℕ → ℕ → Bool
 sameName s table a b =
     cond (eqb (cellAt table a kindColumn) (cellAt table b kindColumn)) (byKind (cellAt table a kindColumn) (spelledSame true s table a b) (spelledSame false s table a b)) false
+
+-- element e stands in the text and is spelled as the name
+unfoldable pub spelledAs : Bool → List ℕ → List ℕ → ℕ → List ℕ → Bool
+spelledAs basic text elements e name =
+    cond (within text (cellAt elements e firstColumn) (cellAt elements e sizeColumn)) (spelt basic (take (cellAt elements e sizeColumn) (drop (cellAt elements e firstColumn) text)) name) false

@@ -4,8 +4,8 @@ use places::ElementNumber;
 ghost use mathlib.Core.Path.{_≡_};
 ghost use Prim.Native.Nat.{_+_, _-_, _≤_, _<_};
 ghost use lib.ListN.{length};
-ghost use Rattle.same_names.specs.Alike.{counts, agree, spelledSame, sameName};
-ghost use Rattle.same_names.specs.Spelling.{spelt, spelledAs};
+ghost use Rattle.same_names.specs.Alike.{agree, spelledSame, sameName, spelledAs};
+ghost use Rattle.same_names.specs.Spelling.{spelt, counts};
 
 // A byte as it counts in a name, basic or not.
 pub fn counted(basic: bool, b: u8) -> u8

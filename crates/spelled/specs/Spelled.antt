@@ -3,19 +3,18 @@ use Prim.Native.Nat.{ℕ}
 use Prim.Native.String.{String}
 use Rattle.words.specs.Words.{bytesOf, placeIn, reservedWords, delimiters}
 use Rattle.words.specs.declared.Place.{Place}
-use Rattle.words.specs.declared.Place.the-variants.{At, Nowhere}
 use Rattle.elements.specs.declared.Kind.{Kind}
 use Rattle.elements.specs.Kinds.{kindNumber}
 
 -- the number of a reserved word's kind, 0 where it is none
 abbrev pub wordKind : Place → ℕ
-wordKind (At n) = kindNumber (Kind.Reserved n)
-wordKind Nowhere = 0
+wordKind (Place.At n) = kindNumber (Kind.Reserved n)
+wordKind Place.Nowhere = 0
 
 -- the number of a delimiter's kind, or of what else is spelled so
 abbrev pub spelledKind : Place → ℕ → ℕ
-spelledKind (At n) k = kindNumber (Kind.Delimiter n)
-spelledKind Nowhere k = k
+spelledKind (Place.At n) k = kindNumber (Kind.Delimiter n)
+spelledKind Place.Nowhere k = k
 
 -- the number of the kind of what is spelled so
 unfoldable pub kindOf : String → ℕ

@@ -3,16 +3,16 @@
 use mathlib.Core.Path.{_≡_, refl}
 use Rattle.spelled.proofs.Spelling.{spelling}
 use Rattle.grammars.specs.code.Grammar.{tok, nt}
-use Rattle.forms.specs.code.Kinds.{kinds, numberOf, other}
+use Rattle.forms.specs.code.Kinds.{symbolsByKind, numberOf, other}
 use Rattle.forms.specs.code.Names.{allNames, nameCount}
 use Rattle.operands.specs.Operands.{operatorOf, signOf}
-use Rattle.spellings.specs.Spellings.{Spelled, same, elementKinds, pieceKinds, operators, signs, kindsBySpelling, classNumbers, classes, placeKinds, firstClasses, tokens, from, each}
+use Rattle.spellings.specs.Spellings.{Spelled, unchanged, elementKinds, pieceKinds, operators, signs, kindsBySpelling, classNumbers, classes, placeKinds, firstClasses, tokens, from, each}
 
-pub elements-spelled : Spelled same elementKinds
+pub elements-spelled : Spelled unchanged elementKinds
 unfolding spelling
 elements-spelled = refl
 
-pub pieces-spelled : Spelled same pieceKinds
+pub pieces-spelled : Spelled unchanged pieceKinds
 unfolding spelling
 pieces-spelled = refl
 
@@ -32,7 +32,7 @@ pub places-numbered : classNumbers firstClasses ≡ placeKinds
 places-numbered = refl
 
 -- the forms' list, entry by entry
-pub forms-spelled : kinds ≡ kindsBySpelling
+pub forms-spelled : symbolsByKind ≡ kindsBySpelling
 unfolding spelling
 forms-spelled = refl
 

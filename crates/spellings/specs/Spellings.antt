@@ -7,7 +7,8 @@ use mathlib.Core.List.{List, [], _∷_, _++_}
 use Rattle.words.specs.Words.{bytesOf, spells, reservedWords, delimiters}
 use Rattle.elements.specs.declared.Kind.{Kind}
 use Rattle.elements.specs.declared.Literal.{Literal}
-use Rattle.elements.specs.Kinds as element
+use Rattle.elements.specs.Kinds.{kindNumber}
+use Rattle.elements.specs.Element.{tickNumber, closeParenthesisNumber}
 use Rattle.places.specs.Kinds as place
 use Rattle.spelled.specs.Spelled.{kindOf}
 use Rattle.grammars.specs.code.Grammar.{Sym}
@@ -33,12 +34,12 @@ meant f (e ∷ es) = f (kindOf (e .0)) ∷ meant f es
 abbrev pub Spelled : {A : Type 0} → (ℕ → A) → List (String × A) → Type 0
 Spelled f table = meant f table ≡ given table
 
-abbrev pub same : ℕ → ℕ
-same k = k
+abbrev pub unchanged : ℕ → ℕ
+unchanged k = k
 
 -- what elements takes spellings for
 abbrev pub elementKinds : List (String × ℕ)
-elementKinds = ("'", element.kindNumber (Kind.Delimiter element.tick)) ∷ (")", element.kindNumber (Kind.Delimiter element.closeParenthesis)) ∷ []
+elementKinds = ("'", kindNumber (Kind.Delimiter tickNumber)) ∷ (")", kindNumber (Kind.Delimiter closeParenthesisNumber)) ∷ []
 
 -- what pieces takes spellings for
 abbrev pub pieceKinds : List (String × ℕ)
@@ -59,8 +60,8 @@ abbrev pub signs : List (String × Sign)
 signs = ("-", Minus) ∷ ("abs", Absolute) ∷ ("not", Not) ∷ ("+", Plus) ∷ []
 
 -- what the forms take spellings for, in the order of their kinds
-abbrev pub formKinds : List (String × Sym)
-formKinds =
+abbrev pub spelledSymbols : List (String × Sym)
+spelledSymbols =
     ("abs", form.word-abs) ∷ ("alias", form.word-alias) ∷ ("and", form.word-and) ∷ ("architecture", form.word-architecture) ∷
     ("begin", form.word-begin) ∷ ("block", form.word-block) ∷ ("constant", form.word-constant) ∷ ("downto", form.word-downto) ∷
     ("else", form.word-else) ∷ ("elsif", form.word-elsif) ∷ ("end", form.word-end) ∷ ("entity", form.word-entity) ∷
@@ -82,7 +83,7 @@ formOf (e ∷ es) s = elim (spells (bytesOf s) (e .0)) [ true ↦ e .1 | false �
 
 abbrev pub formsOf : List String → List Sym
 formsOf [] = []
-formsOf (s ∷ ss) = formOf formKinds s ∷ formsOf ss
+formsOf (s ∷ ss) = formOf spelledSymbols s ∷ formsOf ss
 
 -- the classes of elements that are not told by a spelling, as the forms take them
 abbrev pub formClass : Kind → Sym
@@ -103,11 +104,11 @@ classes =
 
 abbrev pub classNumbers : List Kind → List ℕ
 classNumbers [] = []
-classNumbers (k ∷ ks) = element.kindNumber k ∷ classNumbers ks
+classNumbers (k ∷ ks) = kindNumber k ∷ classNumbers ks
 
 -- what places takes the first of them for
 abbrev pub placeKinds : List ℕ
-placeKinds = place.identifier ∷ place.extended ∷ place.integerLiteral ∷ []
+placeKinds = place.identifierKind ∷ place.extendedKind ∷ place.integerLiteralKind ∷ []
 
 abbrev pub firstClasses : List Kind
 firstClasses = Kind.Identifier ∷ Kind.Extended ∷ Kind.Literal Literal.Integer ∷ []
@@ -132,4 +133,4 @@ each f (k ∷ ks) = f k ∷ each f ks
 
 -- the kinds of the forms, each once
 abbrev pub tokens : List Sym
-tokens = form.identifier ∷ form.integer ∷ form.real ∷ form.character ∷ form.string ∷ (given formKinds ++ (form.other ∷ []))
+tokens = form.identifier ∷ form.integer ∷ form.real ∷ form.character ∷ form.string ∷ (given spelledSymbols ++ (form.other ∷ []))

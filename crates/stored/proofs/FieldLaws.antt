@@ -13,7 +13,7 @@ use lib.Seq.{take-append-seam, drop-append-seam, getD-drop, length-take-le}
 use Rattle.stored.specs.Fields.{Field, fieldBytes, fieldsBytes, writable, allWritable}
 use Rattle.laws.proofs.Laws.{clash, both-left, both-right}
 use Rattle.stored.specs.code.Promises.{Bytes}
-use Rattle.stored.specs.code.Decode.{fieldOf, lengthIn, before, ending, fieldsFrom}
+use Rattle.stored.specs.code.Decode.{taggedField, lengthIn, before, ending, fieldsFrom}
 
 -- each field can be told from the end, and its length has two bytes
 pub data Good : List Field → Type 0 where
@@ -56,7 +56,7 @@ pass-some zero s fs e = (zero-le, e)
 pass-some (suc k) [] fs e = clash (cc)
 pass-some (suc k) (b ∷ s) fs e = let r = pass-some k s fs e in (suc-le-suc (r .0), r .1)
 
-pub field-front : (t h l : ℕ) (s : List ℕ) → (t ≡ 0 → ⊥) → fieldsFrom 0 (t ∷ h ∷ l ∷ s) ≡ before (fieldOf t (take (h * 256 + l) s)) (fieldsFrom (h * 256 + l) s)
+pub field-front : (t h l : ℕ) (s : List ℕ) → (t ≡ 0 → ⊥) → fieldsFrom 0 (t ∷ h ∷ l ∷ s) ≡ before (taggedField t (take (h * 256 + l) s)) (fieldsFrom (h * 256 + l) s)
 unfolding fieldsFrom
 field-front t h l s n = rw (ne-eqb t 0 n, fieldsFrom)
 
@@ -99,7 +99,7 @@ tag-only t s fs p e =
     rw (r .0, r .1, eqb-true t 0 p) (refl, no-field)
 
 bytes-are : (t a b n : ℕ) (u : List ℕ) (fs : List Field) → length (take n u) ≡ n → a ≡ n / 256 → b ≡ n % 256 → drop n u ≡ fieldsBytes fs
-    → t ∷ a ∷ b ∷ u ≡ fieldsBytes (fieldOf t (take n u) ∷ fs)
+    → t ∷ a ∷ b ∷ u ≡ fieldsBytes (taggedField t (take n u) ∷ fs)
 unfolding fieldsBytes fieldBytes
 bytes-are t a b n u fs m p q e = rw (m, ← e, take-append-drop n u, ← p, ← q)
 
@@ -118,7 +118,7 @@ fields-only (suc k) (t ∷ s) fs l h e = go (eqb t 0) refl (λ u gs l′ h′ e�
     go false p ih [] l h e = clash (let z = (rw (p, fieldsFrom) at e) in cc)
     go false p ih (a ∷ []) l h e = clash (let z = (rw (p, fieldsFrom) at e) in cc)
     go false p ih (a ∷ b ∷ u) l h e =
-        let d = before-some (fieldOf t (take (a * 256 + b) u)) (fieldsFrom (a * 256 + b) u) fs (sym (field-front t a b u (eqb-false t 0 p)) ∙ e) in
+        let d = before-some (taggedField t (take (a * 256 + b) u)) (fieldsFrom (a * 256 + b) u) fs (sym (field-front t a b u (eqb-false t 0 p)) ∙ e) in
         let q = pass-some (a * 256 + b) u (d .0) (d .1 .0) in
         let m : length (take (a * 256 + b) u) ≡ a * 256 + b = length-take-le (a * 256 + b) u (q .0) in
         let ha : a < 256 = h 1 in
@@ -126,6 +126,6 @@ fields-only (suc k) (t ∷ s) fs l h e = go (eqb t 0) refl (λ u gs l′ h′ e�
         let r = ih (drop (a * 256 + b) u) (d .0) (simp length-drop (omega arith)) (drop-bytes (a * 256 + b) u (λ i. h (suc (suc (suc i))))) (q .1) in
         let ea : a ≡ (a * 256 + b) / 256 = omega arith in
         let eb : b ≡ (a * 256 + b) % 256 = omega arith in
-        let z : t ∷ a ∷ b ∷ u ≡ fieldsBytes (fieldOf t (take (a * 256 + b) u) ∷ d .0) = bytes-are t a b (a * 256 + b) u (d .0) m ea eb (r .0) in
+        let z : t ∷ a ∷ b ∷ u ≡ fieldsBytes (taggedField t (take (a * 256 + b) u) ∷ d .0) = bytes-are t a b (a * 256 + b) u (d .0) m ea eb (r .0) in
         let w : length (take (a * 256 + b) u) < 65536 = rw m (omega arith) in
         rw (d .1 .1) (z, a-field (eqb-false t 0 p) w (r .1))

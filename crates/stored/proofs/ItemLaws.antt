@@ -16,11 +16,11 @@ use mir.Val.{ofZ, toZ, Fits, SFits}
 use mir.Syntax.{w32}
 use mir.ValLaws.{toZ-ofZ, ofZ-toZ, toZ-fits}
 use Rattle.stored.specs.Fields.{Field}
-use Rattle.stored.specs.Items.{Item, fourBytes, numberBytes, truthByte, tagOf, valueSize, valueBytes, itemField}
+use Rattle.stored.specs.Items.{StoredItem, fourBytes, numberBytes, truthByte, tagOf, valueSize, valueBytes, itemField}
 use Rattle.stored.specs.Stored.{Form, among, small, sized, itemLegal}
 use Rattle.laws.proofs.Laws.{clash}
 use Rattle.stored.specs.code.Promises.{Bytes}
-use Rattle.stored.specs.code.Decode.{fieldOf, wordIn, numberIn, truthIn, rangeIn, truthsIn, subtypeIn, valueIn}
+use Rattle.stored.specs.code.Decode.{taggedField, wordIn, heldNumber, heldTruth, heldRange, heldTruths, heldSubtype, heldValue}
 use Rattle.stored.specs.declared.StoredValue.{StoredValue}
 use Rattle.stored.specs.declared.StoredValue.the-variants.{Number, Truth, Range, Truths}
 use Rattle.stored.specs.declared.Held.{Held}
@@ -98,8 +98,8 @@ both true true e = (refl, refl)
 both true false e = clash (cc)
 both false y e = clash (cc)
 
-pub value-back : (v : StoredValue) (n : List ℕ) → sized v ≡ true → valueIn (tagOf v) (valueBytes v n) ≡ Holds v
-unfolding valueIn valueBytes numberIn truthIn subtypeIn rangeIn truthsIn sized
+pub value-back : (v : StoredValue) (n : List ℕ) → sized v ≡ true → heldValue (tagOf v) (valueBytes v n) ≡ Holds v
+unfolding heldValue valueBytes heldNumber heldTruth heldSubtype heldRange heldTruths sized
 value-back (Number z) n h =
     rw (le-ltb (length (numberBytes z ++ n)) 4 (long-four z n), word-back z n, small-word z h, toZ-ofZ w32 z (small-fits z h))
 value-back (Truth true) n h = rw (le-ltb (suc (length n)) 1 (omega arith))
@@ -142,16 +142,16 @@ pub by-test : {A B : Type 0} (P : A → Type 0) (t : Bool) {x y : A} → P (cond
 by-test P true h f g = f refl h
 by-test P false h f g = g refl h
 
-number-only : (s : List ℕ) (v : StoredValue) → Bytes s → 4 ≤ length s → numberIn s ≡ Holds v → Only 2 s v
-unfolding numberIn valueBytes numberBytes sized
+number-only : (s : List ℕ) (v : StoredValue) → Bytes s → 4 ≤ length s → heldNumber s ≡ Holds v → Only 2 s v
+unfolding heldNumber valueBytes numberBytes sized
 number-only s v h l e =
     let r = unless (eqb (wordIn s 0) 2147483648) (Holds (Number (toZ w32 (wordIn s 0)))) v e in
     let p : Number (toZ w32 (wordIn s 0)) ≡ v = cc in
     let b = word-below s 0 h in
     rw (← p) (refl, (rw (ofZ-toZ w32 (wordIn s 0) (record { fits = b })) (four-at s 0 h l), word-small (wordIn s 0) b (r .0)))
 
-truth-only : (s : List ℕ) (v : StoredValue) → 1 ≤ length s → truthIn s ≡ Holds v → Only 3 s v
-unfolding truthIn valueBytes sized
+truth-only : (s : List ℕ) (v : StoredValue) → 1 ≤ length s → heldTruth s ≡ Holds v → Only 3 s v
+unfolding heldTruth valueBytes sized
 truth-only s v l e =
     by-test (λ x. x ≡ Holds v) (eqb (getD s 0 0) 0) e
     (λ t q. let p : Truth false ≡ v = cc in rw (← p) (refl, (drop-cons s 0 0 l ∙ rw (eqb-true (getD s 0 0) 0 t), refl)))
@@ -163,8 +163,8 @@ nine-at : (s : List ℕ) → Bytes s → 9 ≤ length s → s ≡ getD s 0 0 ∷
 nine-at s h l =
     drop-cons s 0 0 (omega arith) ∙ ap (λ (x : List ℕ). getD s 0 0 ∷ x) (four-at s 1 h (omega arith) ∙ ap (λ (x : List ℕ). fourBytes (wordIn s 1) ++ x) (four-at s 5 h l))
 
-range-only : (s : List ℕ) (v : StoredValue) → Bytes s → 9 ≤ length s → getD s 0 0 ≡ 0 → rangeIn s ≡ Holds v → Only 4 s v
-unfolding rangeIn valueBytes numberBytes sized
+range-only : (s : List ℕ) (v : StoredValue) → Bytes s → 9 ≤ length s → getD s 0 0 ≡ 0 → heldRange s ≡ Holds v → Only 4 s v
+unfolding heldRange valueBytes numberBytes sized
 range-only s v h l k e =
     let r = unless (eqb (wordIn s 1) 2147483648) _ v e in
     let q = unless (eqb (wordIn s 5) 2147483648) (Holds (Range (toZ w32 (wordIn s 1)) (toZ w32 (wordIn s 5)))) v (r .1) in
@@ -173,28 +173,28 @@ range-only s v h l k e =
     let b = word-below s 5 h in
     rw (← p) (refl, (rw (ofZ-toZ w32 (wordIn s 1) (record { fits = a }), ofZ-toZ w32 (wordIn s 5) (record { fits = b })) (nine-at s h l ∙ rw k), rw (word-small (wordIn s 1) a (r .0), word-small (wordIn s 5) b (q .0))))
 
-truths-only : (s : List ℕ) (v : StoredValue) → Bytes s → 9 ≤ length s → getD s 0 0 ≡ 1 → truthsIn s ≡ Holds v → Only 4 s v
-unfolding truthsIn valueBytes numberBytes sized
+truths-only : (s : List ℕ) (v : StoredValue) → Bytes s → 9 ≤ length s → getD s 0 0 ≡ 1 → heldTruths s ≡ Holds v → Only 4 s v
+unfolding heldTruths valueBytes numberBytes sized
 truths-only s v h l k e =
     let r = only-if (eqb (wordIn s 1) 0) _ v e in
     let q = only-if (eqb (wordIn s 5) 1) (Holds Truths) v (r .1) in
     let p : Truths ≡ v = cc in
     rw (← p) (refl, (nine-at s h l ∙ rw (k, eqb-true (wordIn s 1) 0 (r .0), eqb-true (wordIn s 5) 1 (q .0)), refl))
 
-subtype-only : (s : List ℕ) (v : StoredValue) → Bytes s → 9 ≤ length s → subtypeIn s ≡ Holds v → Only 4 s v
-unfolding subtypeIn
+subtype-only : (s : List ℕ) (v : StoredValue) → Bytes s → 9 ≤ length s → heldSubtype s ≡ Holds v → Only 4 s v
+unfolding heldSubtype
 subtype-only s v h l e =
     by-test (λ x. x ≡ Holds v) (eqb (getD s 0 0) 0) e
     (λ t q. range-only s v h l (eqb-true (getD s 0 0) 0 t) q)
-    (λ f q. let r = only-if (eqb (getD s 0 0) 1) (truthsIn s) v q in truths-only s v h l (eqb-true (getD s 0 0) 1 (r .0)) (r .1))
+    (λ f q. let r = only-if (eqb (getD s 0 0) 1) (heldTruths s) v q in truths-only s v h l (eqb-true (getD s 0 0) 1 (r .0)) (r .1))
 
-pub value-only : (t : ℕ) (s : List ℕ) (v : StoredValue) → Bytes s → valueIn t s ≡ Holds v → Only t s v
-unfolding valueIn
+pub value-only : (t : ℕ) (s : List ℕ) (v : StoredValue) → Bytes s → heldValue t s ≡ Holds v → Only t s v
+unfolding heldValue
 value-only t s v h e =
     by-test (λ x. x ≡ Holds v) (eqb t 2) e
-    (λ p q. let r = unless (ltb (length s) 4) (numberIn s) v q in rw (eqb-true t 2 p) (number-only s v h (ltb-false (length s) 4 (r .0)) (r .1)))
+    (λ p q. let r = unless (ltb (length s) 4) (heldNumber s) v q in rw (eqb-true t 2 p) (number-only s v h (ltb-false (length s) 4 (r .0)) (r .1)))
     (λ _ e₂. by-test (λ x. x ≡ Holds v) (eqb t 3) e₂
-    (λ p q. let r = unless (ltb (length s) 1) (truthIn s) v q in rw (eqb-true t 3 p) (truth-only s v (ltb-false (length s) 1 (r .0)) (r .1)))
+    (λ p q. let r = unless (ltb (length s) 1) (heldTruth s) v q in rw (eqb-true t 3 p) (truth-only s v (ltb-false (length s) 1 (r .0)) (r .1)))
     (λ _ e₃. let z = only-if (eqb t 4) _ v e₃ in
-    let r = unless (ltb (length s) 9) (subtypeIn s) v (z .1) in
+    let r = unless (ltb (length s) 9) (heldSubtype s) v (z .1) in
     rw (eqb-true t 4 (z .0)) (subtype-only s v h (ltb-false (length s) 9 (r .0)) (r .1))))

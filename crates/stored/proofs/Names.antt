@@ -17,10 +17,11 @@ use Rattle.elements.specs.declared.Kind.{Kind}
 use Rattle.elements.specs.declared.Front.{Front}
 use Rattle.elements.specs.declared.Front.the-variants.{Skip, Element}
 use Rattle.words.specs.Words.{bytesOf}
-use Rattle.names.specs.Language.{languageNames, integerName, naturalName, positiveName, booleanName, trueName, falseName}
+use Rattle.names.specs.Language.{languageNames}
+use Rattle.names.specs.code.Language.{integerName, naturalName, positiveName, booleanName, trueName, falseName}
 use Rattle.stored.specs.Names.{inLowerCase, namedBy, namedWhole, legalName}
 use Rattle.stored.specs.Stored.{Form, sameBytes, among, formOne}
-use Rattle.stored.specs.code.Decode.{valueIn, itemFits, kept, keptIn}
+use Rattle.stored.specs.code.Decode.{heldValue, itemFits, heldLegal, keptIn}
 use Rattle.stored.specs.declared.StoredValue.{StoredValue}
 use Rattle.stored.specs.declared.Held.{Held}
 use Rattle.stored.specs.declared.Held.the-variants.{Nothing, Holds}
@@ -121,18 +122,18 @@ unfolding itemFits formOne
 does-fit v n x y p q = rw (p, q)
 
 module _ (F : Form) (t : ℕ) (s : List ℕ) (h : Held) where
-  pub kept-none : h ≡ Nothing → h ≡ valueIn t s → Nothing ≡ keptIn F t s
-  unfolding keptIn kept
+  pub kept-none : h ≡ Nothing → h ≡ heldValue t s → Nothing ≡ keptIn F t s
+  unfolding keptIn heldLegal
   kept-none e p = rw (← p, e)
 
-  pub kept-yes : (v : StoredValue) (r : List ℕ) (k : ℕ) (x : Bool) → h ≡ Holds v → h ≡ valueIn t s → k ≡ valueSize v → x ≡ itemFits F v r → x ≡ true → r ≡ drop k s → Holds v ≡ keptIn F t s
-  unfolding keptIn kept
+  pub kept-yes : (v : StoredValue) (r : List ℕ) (k : ℕ) (x : Bool) → h ≡ Holds v → h ≡ heldValue t s → k ≡ valueSize v → x ≡ itemFits F v r → x ≡ true → r ≡ drop k s → Holds v ≡ keptIn F t s
+  unfolding keptIn heldLegal
   kept-yes v r k x e p q f y g =
       let w : itemFits F v (drop (valueSize v) s) ≡ true = ap (λ (n : ℕ). itemFits F v (drop n s)) (sym q) ∙ ap (itemFits F v) (sym g) ∙ sym f ∙ y in
-      rw (← p, e, kept, w)
+      rw (← p, e, heldLegal, w)
 
-  pub kept-no : (v : StoredValue) (r : List ℕ) (k : ℕ) (x : Bool) → h ≡ Holds v → h ≡ valueIn t s → k ≡ valueSize v → x ≡ itemFits F v r → x ≡ false → r ≡ drop k s → Nothing ≡ keptIn F t s
-  unfolding keptIn kept
+  pub kept-no : (v : StoredValue) (r : List ℕ) (k : ℕ) (x : Bool) → h ≡ Holds v → h ≡ heldValue t s → k ≡ valueSize v → x ≡ itemFits F v r → x ≡ false → r ≡ drop k s → Nothing ≡ keptIn F t s
+  unfolding keptIn heldLegal
   kept-no v r k x e p q f y g =
       let w : itemFits F v (drop (valueSize v) s) ≡ false = ap (λ (n : ℕ). itemFits F v (drop n s)) (sym q) ∙ ap (itemFits F v) (sym g) ∙ sym f ∙ y in
-      rw (← p, e, kept, w)
+      rw (← p, e, heldLegal, w)

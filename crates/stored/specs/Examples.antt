@@ -5,13 +5,13 @@ use mathlib.Core.Bool.{true, false}
 use mathlib.Core.List.{List, [], _∷_}
 use lib.IntN.{pos, negsuc}
 use Rattle.words.specs.Words.{bytesOf}
-use Rattle.stored.specs.Items.{Item}
+use Rattle.stored.specs.Items.{StoredItem}
 use Rattle.stored.specs.Names.{legalName}
 use Rattle.stored.specs.Stored.{Stored, formOne}
 use Rattle.stored.specs.declared.StoredValue.the-variants.{Number, Truth, Range, Truths}
 
 -- five fields: the package `p`, the constants `ch4`, -1, and `lit`, true, the subtypes `share`, 0 to 300, and `flag`, boolean
-abbrev pub fiveItems : List Item
+abbrev pub fiveItems : List StoredItem
 fiveItems =
     record { value = Number (negsuc 0); name = bytesOf "ch4" }
     ∷ record { value = Truth true; name = bytesOf "lit" }

@@ -11,7 +11,7 @@ use Rattle.stored.specs.Fields.{Field, allBytes}
 use Rattle.stored.specs.declared.StoredValue.{StoredValue}
 use Rattle.stored.specs.declared.StoredValue.the-variants.{Number, Truth, Range, Truths}
 
-pub record Item : Type 0 where
+pub record StoredItem : Type 0 where
   pub value : StoredValue
   pub name : List ℕ
 
@@ -81,7 +81,7 @@ valueSize (Truth t) = 1
 valueSize (Range low high) = subtypeSize
 valueSize Truths = subtypeSize
 
-unfoldable pub itemField : Item → Field
+unfoldable pub itemField : StoredItem → Field
 itemField i = record { tag = tagOf (i .value); body = valueBytes (i .value) (i .name) }
 
 -- "Tag 1 holds the package name."

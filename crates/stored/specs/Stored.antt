@@ -9,7 +9,7 @@ use lib.ListN.{length}
 use Rattle.integers.specs.Integers.{largest}
 use Rattle.names.specs.Language.{languageNames}
 use Rattle.stored.specs.Fields.{Field, fieldsBytes, allWritable}
-use Rattle.stored.specs.Items.{Item, itemField, nameField}
+use Rattle.stored.specs.Items.{StoredItem, itemField, nameField}
 use Rattle.stored.specs.Names.{legalName}
 use Rattle.stored.specs.declared.StoredValue.{StoredValue}
 use Rattle.stored.specs.declared.StoredValue.the-variants.{Number, Truth, Range, Truths}
@@ -23,11 +23,11 @@ pub record Form : Type 0 where
   pub head : List Field
 
 -- "Tag 1 holds the package name. Then one field to an item in order": behind the form's head
-abbrev pub fieldsOf : Form → List ℕ → List Item → List Field
-fieldsOf F n items = F .head ++ (nameField n ∷ map itemField items)
+abbrev pub storedFields : Form → List ℕ → List StoredItem → List Field
+storedFields F n items = F .head ++ (nameField n ∷ map itemField items)
 
-unfoldable pub bytesOf : Form → List ℕ → List Item → List ℕ
-bytesOf F n items = fieldsBytes (fieldsOf F n items)
+unfoldable pub storedBytes : Form → List ℕ → List StoredItem → List ℕ
+storedBytes F n items = fieldsBytes (storedFields F n items)
 
 -- two names are the same bytes
 unfoldable pub sameBytes : List ℕ → List ℕ → Bool
@@ -45,8 +45,8 @@ unfoldable pub distinct : List (List ℕ) → Bool
 distinct [] = true
 distinct (n ∷ ns) = not (among n ns) && distinct ns
 
-abbrev pub names : List Item → List (List ℕ)
-names is = map (λ i. i .name) is
+abbrev pub itemNames : List StoredItem → List (List ℕ)
+itemNames is = map (λ i. i .name) is
 
 -- "numbers up to 2147483647 in size"
 abbrev pub small : ℤ → Bool
@@ -59,10 +59,10 @@ sized (Range low high) = small low && small high
 sized Truths = true
 
 -- an item by itself: "with legal names, .. none the language's"
-unfoldable pub itemLegal : Form → Item → Bool
+unfoldable pub itemLegal : Form → StoredItem → Bool
 itemLegal F i = sized (i .value) && (F .admits (i .value) && (F .legal (i .name) && not (among (i .name) (F .language))))
 
-unfoldable pub allLegal : Form → List Item → Bool
+unfoldable pub allLegal : Form → List StoredItem → Bool
 allLegal F [] = true
 allLegal F (i ∷ is) = itemLegal F i && allLegal F is
 
@@ -70,16 +70,16 @@ allLegal F (i ∷ is) = itemLegal F i && allLegal F is
 abbrev pub mostItems : ℕ
 mostItems = 1024
 
-pub record Legal (F : Form) (n : List ℕ) (items : List Item) : Type 0 where
+pub record Legal (F : Form) (n : List ℕ) (items : List StoredItem) : Type 0 where
   pub titled : F .legal n ≡ true
   pub each : allLegal F items ≡ true
   pub few : length items ≤ mostItems
-  pub different : distinct (names items) ≡ true
-  pub written : allWritable (fieldsOf F n items) ≡ true
+  pub different : distinct (itemNames items) ≡ true
+  pub written : allWritable (storedFields F n items) ≡ true
 
 -- "bytes that .. are exactly one such table"
-pub record Stored (F : Form) (s n : List ℕ) (items : List Item) : Type 0 where
-  pub bytes : s ≡ bytesOf F n items
+pub record Stored (F : Form) (s n : List ℕ) (items : List StoredItem) : Type 0 where
+  pub bytes : s ≡ storedBytes F n items
   pub legal : Legal F n items
 
 -- form one, of request 01: it holds every value, and begins with the package's name

@@ -11,7 +11,7 @@ ghost use Rattle.stored.specs.Fields.{allBytes};
 ghost use Rattle.stored.specs.Items.{numberSize, subtypeSize, valueSize};
 ghost use Rattle.stored.specs.Names.{inLowerCase, namedBy, legalName};
 ghost use Rattle.stored.specs.Stored.{sameBytes, among, formOne};
-ghost use Rattle.stored.specs.code.Decode.{wordIn, numberIn, truthIn, rangeIn, truthsIn, subtypeIn, valueIn, itemFits, keptIn};
+ghost use Rattle.stored.specs.code.Decode.{wordIn, heldNumber, heldTruth, heldRange, heldTruths, heldSubtype, heldValue, itemFits, keptIn};
 
 // What a stored item is: a number, a truth, a subtype of integer with its ends, a subtype of boolean.
 pub enum StoredValue {
@@ -105,7 +105,7 @@ fn signed(n: u32) -> i32
 
 fn number_in(s: &[u8]) -> Held
     requires { ⌜ numberSize ≤ length (now s) ⌝ }
-    ensures { λ r. ⌜ r ≡ numberIn (now (s .entry)) ⌝ }
+    ensures { λ r. ⌜ r ≡ heldNumber (now (s .entry)) ⌝ }
 {
     let n = word_in(s, 0);
     if n == POSITIVES {
@@ -116,7 +116,7 @@ fn number_in(s: &[u8]) -> Held
 
 fn truth_in(s: &[u8]) -> Held
     requires { ⌜ 1 ≤ length (now s) ⌝ }
-    ensures { λ r. ⌜ r ≡ truthIn (now (s .entry)) ⌝ }
+    ensures { λ r. ⌜ r ≡ heldTruth (now (s .entry)) ⌝ }
 {
     let b = s[0];
     if b == 0 {
@@ -130,7 +130,7 @@ fn truth_in(s: &[u8]) -> Held
 
 fn range_in(s: &[u8]) -> Held
     requires { ⌜ subtypeSize ≤ length (now s) ⌝ }
-    ensures { λ r. ⌜ r ≡ rangeIn (now (s .entry)) ⌝ }
+    ensures { λ r. ⌜ r ≡ heldRange (now (s .entry)) ⌝ }
 {
     let low = word_in(s, LOW_PLACE);
     if low == POSITIVES {
@@ -145,7 +145,7 @@ fn range_in(s: &[u8]) -> Held
 
 fn truths_in(s: &[u8]) -> Held
     requires { ⌜ subtypeSize ≤ length (now s) ⌝ }
-    ensures { λ r. ⌜ r ≡ truthsIn (now (s .entry)) ⌝ }
+    ensures { λ r. ⌜ r ≡ heldTruths (now (s .entry)) ⌝ }
 {
     let low = word_in(s, LOW_PLACE);
     if low != 0 {
@@ -160,7 +160,7 @@ fn truths_in(s: &[u8]) -> Held
 
 fn subtype_in(s: &[u8]) -> Held
     requires { ⌜ subtypeSize ≤ length (now s) ⌝ }
-    ensures { λ r. ⌜ r ≡ subtypeIn (now (s .entry)) ⌝ }
+    ensures { λ r. ⌜ r ≡ heldSubtype (now (s .entry)) ⌝ }
 {
     let b = s[0];
     if b == INTEGER_BYTE {
@@ -174,7 +174,7 @@ fn subtype_in(s: &[u8]) -> Held
 
 // What a field's contents begin with, by its tag.
 pub fn value_in(tag: u8, s: &[u8]) -> Held
-    ensures { λ r. ⌜ r ≡ valueIn tag (now (s .entry)) ⌝ }
+    ensures { λ r. ⌜ r ≡ heldValue tag (now (s .entry)) ⌝ }
 {
     if tag == NUMBER_TAG {
         if s.len() < NUMBER_SIZE {

@@ -14,18 +14,18 @@ use lib.IntN.{ℤ}
 use mir.Val.{Fits, SFits, toZ, ofZ}
 use mir.Syntax.{w32, w64}
 use mir.ValLaws.{toZ-ofZ}
-use Rattle.stored.specs.Items.{Item, valueSize}
+use Rattle.stored.specs.Items.{StoredItem, valueSize}
 use Rattle.stored.specs.Stored.{Form, formOne}
 use Rattle.stored.specs.code.Decode.{lengthIn, before, fieldsFrom, keptIn}
 use Rattle.stored.specs.declared.StoredValue.{StoredValue}
 use Rattle.stored.specs.declared.Held.{Held}
 use Rattle.stored.specs.declared.Held.the-variants.{Nothing, Holds}
-use Rattle.stored_reading.specs.code.Turns.{stepOf, turnHeld, turnStep, turnOf, itemsBy, itemsAt, tally, there, countIn}
+use Rattle.stored_reading.specs.code.Turns.{stepOf, turnHeld, turnStep, turnOf, itemsBy, itemsAt, countWith, there, itemsCounted}
 use Rattle.values.specs.Words.{valueKind, lowOf, highOf}
 use Rattle.values.specs.declared.Value.{Value}
 use Rattle.values.specs.declared.Value.the-variants as value
 use Rattle.stored.specs.declared.StoredValue.the-variants.{Number, Truth, Range, Truths}
-use Rattle.stored_reading.specs.Rows.{surveyValue, classOf, sizeOf, rowOf, rowsFrom}
+use Rattle.stored_reading.specs.Rows.{surveyValue, storedClass, sizeOf, storedRow, storedRowsFrom}
 use Rattle.stored_reading.specs.code.Answers.{rowsAt, firstsFrom, firstsAt, sizesFrom, sizesAt}
 use Rattle.stored_reading.specs.declared.FieldStep.{FieldStep}
 use Rattle.stored_reading.specs.declared.FieldStep.the-variants.{Bad, End, Tagged}
@@ -118,41 +118,41 @@ module _ (s : List ℕ) (at : ℕ) (r : List ℕ) (tn : ItemTurn) where
   less-next v k e p q = let h = at-within v k e p q in omega arith
 
 -- ---- counting
-tally-more : (n : ℕ) (i : Item) (x : Option (List Item)) → tally n (before i x) ≡ tally (n + 1) x
-unfolding tally before
+tally-more : (n : ℕ) (i : StoredItem) (x : Option (List StoredItem)) → countWith n (before i x) ≡ countWith (n + 1) x
+unfolding countWith before
 tally-more n i none = refl
 tally-more n i (some is) = ap Items (omega arith)
 
-module _ (s : List ℕ) (at n : ℕ) (whole : ItemCount) (e : tally n (itemsAt formOne (drop at s)) ≡ whole) where
+module _ (s : List ℕ) (at n : ℕ) (whole : ItemCount) (e : countWith n (itemsAt formOne (drop at s)) ≡ whole) where
   pub count-wrong : (r : List ℕ) (tn : ItemTurn) → tn ≡ Wrong → tn ≡ turnOf formOne r → r ≡ drop at s → Broken ≡ whole
-  unfolding tally
-  count-wrong r tn f p q = sym (ap (tally n) (at-wrong s at r tn f p q)) ∙ e
+  unfolding countWith
+  count-wrong r tn f p q = sym (ap (countWith n) (at-wrong s at r tn f p q)) ∙ e
 
   pub count-ends : (r : List ℕ) (tn : ItemTurn) → tn ≡ Ends → tn ≡ turnOf formOne r → r ≡ drop at s → Items n ≡ whole
-  unfolding tally
-  count-ends r tn f p q = ap Items (omega arith) ∙ sym (ap (tally n) (at-ends s at r tn f p q)) ∙ e
+  unfolding countWith
+  count-ends r tn f p q = ap Items (omega arith) ∙ sym (ap (countWith n) (at-ends s at r tn f p q)) ∙ e
 
-  pub count-on : (r : List ℕ) (tn : ItemTurn) (v : StoredValue) (k : ℕ) → tn ≡ Gives v k → tn ≡ turnOf formOne r → r ≡ drop at s → tally (n + 1) (itemsAt formOne (drop (at + (3 + k)) s)) ≡ whole
-  count-on r tn v k f p q = sym (tally-more n (itemOf v k (drop at s)) (itemsAt formOne (drop (at + (3 + k)) s))) ∙ sym (ap (tally n) (at-next s at r tn v k f p q)) ∙ e
+  pub count-on : (r : List ℕ) (tn : ItemTurn) (v : StoredValue) (k : ℕ) → tn ≡ Gives v k → tn ≡ turnOf formOne r → r ≡ drop at s → countWith (n + 1) (itemsAt formOne (drop (at + (3 + k)) s)) ≡ whole
+  count-on r tn v k f p q = sym (tally-more n (itemOf v k (drop at s)) (itemsAt formOne (drop (at + (3 + k)) s))) ∙ sym (ap (countWith n) (at-next s at r tn v k f p q)) ∙ e
 
   pub count-out : length s ≤ at → Broken ≡ whole
-  unfolding tally itemsAt itemsBy fieldsFrom
+  unfolding countWith itemsAt itemsBy fieldsFrom
   count-out l = rw (drop-of-length-le s l) at e
 
 -- ---- the rows
-there-before : (i : Item) (x : Option (List Item)) → there (before i x) ≡ true → there x ≡ true
+there-before : (i : StoredItem) (x : Option (List StoredItem)) → there (before i x) ≡ true → there x ≡ true
 unfolding there before
 there-before i none e = e
 there-before i (some is) e = refl
 
-cells-before : (at : ℕ) (i : Item) (x : Option (List Item)) → there x ≡ true
-    → rowsAt at (before i x) ≡ classOf (i .value) ∷ (at + (3 + valueSize (i .value))) ∷ length (i .name) ∷ valueKind (surveyValue (i .value)) ∷ lowOf (surveyValue (i .value)) ∷ highOf (surveyValue (i .value)) ∷ rowsAt (at + sizeOf i) x
-unfolding rowsAt rowsFrom before there
+cells-before : (at : ℕ) (i : StoredItem) (x : Option (List StoredItem)) → there x ≡ true
+    → rowsAt at (before i x) ≡ storedClass (i .value) ∷ (at + (3 + valueSize (i .value))) ∷ length (i .name) ∷ valueKind (surveyValue (i .value)) ∷ lowOf (surveyValue (i .value)) ∷ highOf (surveyValue (i .value)) ∷ rowsAt (at + sizeOf i) x
+unfolding rowsAt storedRowsFrom before there
 cells-before at i none e = clash (cc)
 cells-before at i (some is) e = refl
 
-count-before : (i : Item) (x : Option (List Item)) → there x ≡ true → countIn (before i x) ≡ suc (countIn x)
-unfolding countIn before there
+count-before : (i : StoredItem) (x : Option (List StoredItem)) → there x ≡ true → itemsCounted (before i x) ≡ suc (itemsCounted x)
+unfolding itemsCounted before there
 count-before i none e = clash (cc)
 count-before i (some is) e = refl
 
@@ -166,15 +166,15 @@ module _ (s : List ℕ) (at : ℕ) (r : List ℕ) (tn : ItemTurn) (v : StoredVal
   there-next h = there-before (itemOf v k (drop at s)) (itemsAt formOne (drop (at + (3 + k)) s)) (rw (at-next s at r tn v k e p q) at h)
 
   pub cells-next : there (itemsAt formOne (drop at s)) ≡ true → rowsAt at (itemsAt formOne (drop at s))
-      ≡ classOf v ∷ (at + (3 + valueSize v)) ∷ (k - valueSize v) ∷ valueKind (surveyValue v) ∷ lowOf (surveyValue v) ∷ highOf (surveyValue v) ∷ rowsAt (at + (3 + k)) (itemsAt formOne (drop (at + (3 + k)) s))
+      ≡ storedClass v ∷ (at + (3 + valueSize v)) ∷ (k - valueSize v) ∷ valueKind (surveyValue v) ∷ lowOf (surveyValue v) ∷ highOf (surveyValue v) ∷ rowsAt (at + (3 + k)) (itemsAt formOne (drop (at + (3 + k)) s))
   cells-next h =
       let g = at-gives s at r tn v k e p q in
       let n = name-length v k (drop at s) (g .0) in
       let z : at + (3 + (valueSize v + (k - valueSize v))) ≡ at + (3 + k) = let y = g .1 .0 in omega arith in
       ap (rowsAt at) (at-next s at r tn v k e p q) ∙ cells-before at (itemOf v k (drop at s)) (itemsAt formOne (drop (at + (3 + k)) s)) (there-next h) ∙ rw (n, z)
 
-  pub count-next : there (itemsAt formOne (drop at s)) ≡ true → countIn (itemsAt formOne (drop at s)) ≡ suc (countIn (itemsAt formOne (drop (at + (3 + k)) s)))
-  count-next h = ap countIn (at-next s at r tn v k e p q) ∙ count-before (itemOf v k (drop at s)) (itemsAt formOne (drop (at + (3 + k)) s)) (there-next h)
+  pub count-next : there (itemsAt formOne (drop at s)) ≡ true → itemsCounted (itemsAt formOne (drop at s)) ≡ suc (itemsCounted (itemsAt formOne (drop (at + (3 + k)) s)))
+  count-next h = ap itemsCounted (at-next s at r tn v k e p q) ∙ count-before (itemOf v k (drop at s)) (itemsAt formOne (drop (at + (3 + k)) s)) (there-next h)
 
 -- in the code's terms
 module _ (s : List ℕ) (at : ℕ) (r : List ℕ) (tn : ItemTurn) (v : StoredValue) (k : ℕ) where
@@ -187,26 +187,26 @@ module _ (s : List ℕ) (at : ℕ) (r : List ℕ) (tn : ItemTurn) (v : StoredVal
   pub head-fits : (h : ℕ) → tn ≡ Gives v k → tn ≡ turnOf formOne r → h ≡ valueSize v → r ≡ drop at s → h ≤ k
   head-fits h e p g q = let w = at-within s at r tn v k e p q in omega arith
 
-  pub fill-room : (w : ℕ) (t t₀ : List ℕ) → tn ≡ Gives v k → tn ≡ turnOf formOne r → there (itemsAt formOne (drop at s)) ≡ true → w + 6 * countIn (itemsAt formOne (drop at s)) ≤ length t₀ → length t ≡ length t₀ → r ≡ drop at s → w + 6 ≤ length t
+  pub fill-room : (w : ℕ) (t t₀ : List ℕ) → tn ≡ Gives v k → tn ≡ turnOf formOne r → there (itemsAt formOne (drop at s)) ≡ true → w + 6 * itemsCounted (itemsAt formOne (drop at s)) ≤ length t₀ → length t ≡ length t₀ → r ≡ drop at s → w + 6 ≤ length t
   fill-room w t t₀ e p h m n q = let c = count-next s at r tn v k e p q h in omega arith
 
-  pub fill-word : (w : ℕ) (t₀ : List ℕ) → tn ≡ Gives v k → tn ≡ turnOf formOne r → there (itemsAt formOne (drop at s)) ≡ true → w + 6 * countIn (itemsAt formOne (drop at s)) ≤ length t₀ → length t₀ < 2 ^ 64 → r ≡ drop at s → Fits w64 (w + 6)
+  pub fill-word : (w : ℕ) (t₀ : List ℕ) → tn ≡ Gives v k → tn ≡ turnOf formOne r → there (itemsAt formOne (drop at s)) ≡ true → w + 6 * itemsCounted (itemsAt formOne (drop at s)) ≤ length t₀ → length t₀ < 2 ^ 64 → r ≡ drop at s → Fits w64 (w + 6)
   fill-word w t₀ e p h m n q = let c = count-next s at r tn v k e p q h in omega arith
 
-  pub fill-left : (w : ℕ) (t₀ : List ℕ) → tn ≡ Gives v k → tn ≡ turnOf formOne r → there (itemsAt formOne (drop at s)) ≡ true → w + 6 * countIn (itemsAt formOne (drop at s)) ≤ length t₀ → r ≡ drop at s
-      → w + 6 + 6 * countIn (itemsAt formOne (drop (at + (3 + k)) s)) ≤ length t₀
+  pub fill-left : (w : ℕ) (t₀ : List ℕ) → tn ≡ Gives v k → tn ≡ turnOf formOne r → there (itemsAt formOne (drop at s)) ≡ true → w + 6 * itemsCounted (itemsAt formOne (drop at s)) ≤ length t₀ → r ≡ drop at s
+      → w + 6 + 6 * itemsCounted (itemsAt formOne (drop (at + (3 + k)) s)) ≤ length t₀
   fill-left w t₀ e p h m q = let c = count-next s at r tn v k e p q h in omega arith
 
   pub fill-on : (w h : ℕ) (t u whole : List ℕ) → tn ≡ Gives v k → tn ≡ turnOf formOne r → h ≡ valueSize v → there (itemsAt formOne (drop at s)) ≡ true → sets t w (rowsAt at (itemsAt formOne (drop at s))) ≡ whole
-      → r ≡ drop at s → u ≡ sets t w (rowOf v (at + (3 + h)) (k - h)) → sets u (w + 6) (rowsAt (at + (3 + k)) (itemsAt formOne (drop (at + (3 + k)) s))) ≡ whole
+      → r ≡ drop at s → u ≡ sets t w (storedRow v (at + (3 + h)) (k - h)) → sets u (w + 6) (rowsAt (at + (3 + k)) (itemsAt formOne (drop (at + (3 + k)) s))) ≡ whole
   fill-on w h t u whole e p g th m q n =
       ap (λ (x : List ℕ). sets x (w + 6) (rowsAt (at + (3 + k)) (itemsAt formOne (drop (at + (3 + k)) s)))) n
       ∙ rw (add-six w, g) refl
       ∙ sym (ap (sets t w) (cells-next s at r tn v k e p q th))
       ∙ m
 
-pub fill-length : (t u t₀ : List ℕ) (w p l : ℕ) (v : StoredValue) → length t ≡ length t₀ → u ≡ sets t w (rowOf v p l) → length u ≡ length t₀
-fill-length t u t₀ w p l v e q = ap length q ∙ length-sets t w (rowOf v p l) ∙ e
+pub fill-length : (t u t₀ : List ℕ) (w p l : ℕ) (v : StoredValue) → length t ≡ length t₀ → u ≡ sets t w (storedRow v p l) → length u ≡ length t₀
+fill-length t u t₀ w p l v e q = ap length q ∙ length-sets t w (storedRow v p l) ∙ e
 
 module _ (s : List ℕ) (at : ℕ) (t : List ℕ) (w : ℕ) (whole : List ℕ) (e : sets t w (rowsAt at (itemsAt formOne (drop at s))) ≡ whole) where
   pub fill-wrong : (r : List ℕ) (tn : ItemTurn) → tn ≡ Wrong → tn ≡ turnOf formOne r → r ≡ drop at s → t ≡ whole
@@ -214,15 +214,15 @@ module _ (s : List ℕ) (at : ℕ) (t : List ℕ) (w : ℕ) (whole : List ℕ) (
   fill-wrong r tn f p q = rw (at-wrong s at r tn f p q) at e
 
   pub fill-ends : (r : List ℕ) (tn : ItemTurn) → tn ≡ Ends → tn ≡ turnOf formOne r → r ≡ drop at s → t ≡ whole
-  unfolding rowsAt rowsFrom
+  unfolding rowsAt storedRowsFrom
   fill-ends r tn f p q = rw (at-ends s at r tn f p q) at e
 
   pub fill-out : length s ≤ at → t ≡ whole
   unfolding rowsAt itemsAt itemsBy fieldsFrom
   fill-out l = rw (drop-of-length-le s l) at e
 
-pub row-put : (t u : List ℕ) (w p l a d e f : ℕ) (v : StoredValue) (x : Value) → a ≡ classOf v → x ≡ surveyValue v → d ≡ valueKind x → e ≡ lowOf x → f ≡ highOf x
-    → u ≡ sets t w (a ∷ p ∷ l ∷ d ∷ e ∷ f ∷ []) → u ≡ sets t w (rowOf v p l)
+pub row-put : (t u : List ℕ) (w p l a d e f : ℕ) (v : StoredValue) (x : Value) → a ≡ storedClass v → x ≡ surveyValue v → d ≡ valueKind x → e ≡ lowOf x → f ≡ highOf x
+    → u ≡ sets t w (a ∷ p ∷ l ∷ d ∷ e ∷ f ∷ []) → u ≡ sets t w (storedRow v p l)
 row-put t u w p l a d e f v x ea ex ed ee ef h = h ∙ rw (ea, ed, ee, ef, ex)
 
 pub survey-number : (v : StoredValue) (z : ℤ) → v ≡ Number z → SFits w32 z → value.Number (toZ w32 (ofZ w32 z)) ≡ surveyValue v
@@ -235,12 +235,12 @@ pub survey-range : (v : StoredValue) (y z : ℤ) → v ≡ Range y z → SFits w
 survey-range v y z e f g = rw (toZ-ofZ w32 y f, toZ-ofZ w32 z g) (sym (ap surveyValue e))
 
 -- ---- the names' places and lengths
-firsts-before : (at : ℕ) (i : Item) (x : Option (List Item)) → there x ≡ true → firstsAt at (before i x) ≡ (at + (3 + valueSize (i .value))) ∷ firstsAt (at + sizeOf i) x
+firsts-before : (at : ℕ) (i : StoredItem) (x : Option (List StoredItem)) → there x ≡ true → firstsAt at (before i x) ≡ (at + (3 + valueSize (i .value))) ∷ firstsAt (at + sizeOf i) x
 unfolding firstsAt firstsFrom before there
 firsts-before at i none e = clash (cc)
 firsts-before at i (some is) e = refl
 
-sizes-before : (i : Item) (x : Option (List Item)) → there x ≡ true → sizesAt (before i x) ≡ length (i .name) ∷ sizesAt x
+sizes-before : (i : StoredItem) (x : Option (List StoredItem)) → there x ≡ true → sizesAt (before i x) ≡ length (i .name) ∷ sizesAt x
 unfolding sizesAt sizesFrom before there
 sizes-before i none e = clash (cc)
 sizes-before i (some is) e = refl
@@ -261,17 +261,17 @@ module _ (s : List ℕ) (at : ℕ) (r : List ℕ) (tn : ItemTurn) (v : StoredVal
       ap sizesAt (at-next s at r tn v k e p q) ∙ sizes-before (itemOf v k (drop at s)) (itemsAt formOne (drop (at + (3 + k)) s)) (there-next s at r tn v k e p q h) ∙ rw n
 
 module _ (s : List ℕ) (at : ℕ) (r : List ℕ) (tn : ItemTurn) (v : StoredValue) (k : ℕ) where
-  pub note-room : (w : ℕ) → tn ≡ Gives v k → tn ≡ turnOf formOne r → there (itemsAt formOne (drop at s)) ≡ true → w + countIn (itemsAt formOne (drop at s)) ≤ 1024 → r ≡ drop at s → w < 1024
+  pub note-room : (w : ℕ) → tn ≡ Gives v k → tn ≡ turnOf formOne r → there (itemsAt formOne (drop at s)) ≡ true → w + itemsCounted (itemsAt formOne (drop at s)) ≤ 1024 → r ≡ drop at s → w < 1024
   note-room w e p h m q = let c = count-next s at r tn v k e p q h in omega arith
 
-  pub note-word : (w : ℕ) → tn ≡ Gives v k → tn ≡ turnOf formOne r → there (itemsAt formOne (drop at s)) ≡ true → w + countIn (itemsAt formOne (drop at s)) ≤ 1024 → r ≡ drop at s → Fits w64 (w + 1)
+  pub note-word : (w : ℕ) → tn ≡ Gives v k → tn ≡ turnOf formOne r → there (itemsAt formOne (drop at s)) ≡ true → w + itemsCounted (itemsAt formOne (drop at s)) ≤ 1024 → r ≡ drop at s → Fits w64 (w + 1)
   note-word w e p h m q = let c = count-next s at r tn v k e p q h in omega arith
 
-  pub note-cell : (w : ℕ) → tn ≡ Gives v k → tn ≡ turnOf formOne r → there (itemsAt formOne (drop at s)) ≡ true → w + countIn (itemsAt formOne (drop at s)) ≤ 1024 → r ≡ drop at s → Fits w64 (w * 8)
+  pub note-cell : (w : ℕ) → tn ≡ Gives v k → tn ≡ turnOf formOne r → there (itemsAt formOne (drop at s)) ≡ true → w + itemsCounted (itemsAt formOne (drop at s)) ≤ 1024 → r ≡ drop at s → Fits w64 (w * 8)
   note-cell w e p h m q = let c = count-next s at r tn v k e p q h in omega arith
 
-  pub note-left : (w : ℕ) → tn ≡ Gives v k → tn ≡ turnOf formOne r → there (itemsAt formOne (drop at s)) ≡ true → w + countIn (itemsAt formOne (drop at s)) ≤ 1024 → r ≡ drop at s
-      → w + 1 + countIn (itemsAt formOne (drop (at + (3 + k)) s)) ≤ 1024
+  pub note-left : (w : ℕ) → tn ≡ Gives v k → tn ≡ turnOf formOne r → there (itemsAt formOne (drop at s)) ≡ true → w + itemsCounted (itemsAt formOne (drop at s)) ≤ 1024 → r ≡ drop at s
+      → w + 1 + itemsCounted (itemsAt formOne (drop (at + (3 + k)) s)) ≤ 1024
   note-left w e p h m q = let c = count-next s at r tn v k e p q h in omega arith
 
   pub firsts-on : (w h : ℕ) (t u whole : List ℕ) → tn ≡ Gives v k → tn ≡ turnOf formOne r → h ≡ valueSize v → there (itemsAt formOne (drop at s)) ≡ true → sets t w (firstsAt at (itemsAt formOne (drop at s))) ≡ whole

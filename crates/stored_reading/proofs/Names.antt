@@ -9,15 +9,15 @@ use native.Mathlib.Omega.{arith}
 use lib.ListN.{length, getD, take, drop, replicate, length-drop, length-replicate}
 use lib.Seq.{drop-drop, length-take-le, sets, sets-eq}
 use Rattle.laws.proofs.Laws.{clash}
-use Rattle.stored.specs.Items.{Item, valueSize}
-use Rattle.stored.specs.Stored.{Form, formOne, distinct, names}
+use Rattle.stored.specs.Items.{StoredItem, valueSize}
+use Rattle.stored.specs.Stored.{Form, formOne, distinct, itemNames}
 use Rattle.stored.specs.code.Decode.{before}
 use Rattle.stored.specs.declared.StoredValue.{StoredValue}
 use Rattle.stored.proofs.FieldLaws.{before-some}
 use Rattle.different_names.specs.Names.{nameAt, namesFrom}
 use Rattle.stored_reading.specs.Rows.{sizeOf}
 use Rattle.stored_reading.specs.Promises.{NamesAt}
-use Rattle.stored_reading.specs.code.Turns.{turnOf, itemsAt, there, countIn, distinctItems}
+use Rattle.stored_reading.specs.code.Turns.{turnOf, itemsAt, there, itemsCounted, distinctItems}
 use Rattle.stored_reading.specs.code.Answers.{firstsFrom, firstsAt, sizesFrom, sizesAt}
 use Rattle.stored_reading.specs.declared.ItemTurn.{ItemTurn}
 use Rattle.stored_reading.specs.declared.ItemTurn.the-variants.{Wrong, Ends, Gives}
@@ -48,9 +48,9 @@ name-stands s at h n l m =
     ap (λ (k : ℕ). take k (drop (at + (3 + h)) s)) b ∙ ap (take (n - h)) (sym d) ∙ sym (drop-of-take h n (drop 3 (drop at s)))
 
 abbrev pub Ahead : List ℕ → ℕ → Type 0
-Ahead s fuel = (at : ℕ) (is : List Item) → length (drop at s) ≤ fuel → itemsAt formOne (drop at s) ≡ some is → NamesAt s at is
+Ahead s fuel = (at : ℕ) (is : List StoredItem) → length (drop at s) ≤ fuel → itemsAt formOne (drop at s) ≡ some is → NamesAt s at is
 
-names-turn : (fuel : ℕ) (s : List ℕ) → Ahead s fuel → (at : ℕ) (is : List Item) → length (drop at s) ≤ suc fuel → itemsAt formOne (drop at s) ≡ some is
+names-turn : (fuel : ℕ) (s : List ℕ) → Ahead s fuel → (at : ℕ) (is : List StoredItem) → length (drop at s) ≤ suc fuel → itemsAt formOne (drop at s) ≡ some is
     → (tn : ItemTurn) → Turned formOne (drop at s) tn → NamesAt s at is
 names-turn fuel s r at is l e Wrong t = clash (cc)
 names-turn fuel s r at is l e Ends t = let w : [] ≡ is = cc in subst (NamesAt s at) w tt
@@ -81,19 +81,19 @@ shifted s f z x y k (suc n) = ap (λ (l : List (List ℕ)). take (getD z k 0) (d
 cons-same : {a b : List ℕ} {l m : List (List ℕ)} → a ≡ b → l ≡ m → a ∷ l ≡ b ∷ m
 cons-same p q = cc
 
-pub noted : (s : List ℕ) (at : ℕ) (is : List Item) (y z : List ℕ) → NamesAt s at is → namesFrom (nameAt s (firstsFrom at is ++ y) (sizesFrom is ++ z)) 0 (length is) ≡ names is
+pub noted : (s : List ℕ) (at : ℕ) (is : List StoredItem) (y z : List ℕ) → NamesAt s at is → namesFrom (nameAt s (firstsFrom at is ++ y) (sizesFrom is ++ z)) 0 (length is) ≡ itemNames is
 unfolding namesFrom nameAt firstsFrom sizesFrom
 noted s at [] y z h = refl
 noted s at (i ∷ is) y z h =
     cons-same (h .0)
     (shifted s (firstsFrom (at + sizeOf i) is ++ y) (sizesFrom is ++ z) (at + (3 + valueSize (i .value))) (length (i .name)) 0 (length is) ∙ noted s (at + sizeOf i) is y z (h .1))
 
-length-firsts : (at : ℕ) (is : List Item) → length (firstsFrom at is) ≡ length is
+length-firsts : (at : ℕ) (is : List StoredItem) → length (firstsFrom at is) ≡ length is
 unfolding firstsFrom
 length-firsts at [] = refl
 length-firsts at (i ∷ is) = ap suc (length-firsts (at + sizeOf i) is)
 
-length-sizes : (is : List Item) → length (sizesFrom is) ≡ length is
+length-sizes : (is : List StoredItem) → length (sizesFrom is) ≡ length is
 unfolding sizesFrom
 length-sizes [] = refl
 length-sizes (i ∷ is) = ap suc (length-sizes is)
@@ -104,27 +104,27 @@ put-front l w h =
     let e : 0 + length l ≡ length l = omega arith in
     sets-eq l (replicate w 0) 0 (rw (e, length-replicate) h) ∙ rw (e, drop-replicate)
 
-there-some : (x : Option (List Item)) → there x ≡ true → (is : List Item) × (x ≡ some is)
+there-some : (x : Option (List StoredItem)) → there x ≡ true → (is : List StoredItem) × (x ≡ some is)
 unfolding there
 there-some none e = clash (cc)
 there-some (some is) e = (is, refl)
 
-differ-by : (s : List ℕ) (from n : ℕ) (f z f₀ z₀ : List ℕ) (r : Bool) (is : List Item) → NamesAt s from is → n ≡ length is → n ≤ 1024 → r ≡ distinct (namesFrom (nameAt s f z) 0 n)
-    → f ≡ sets f₀ 0 (firstsFrom from is) → z ≡ sets z₀ 0 (sizesFrom is) → f₀ ≡ replicate 1024 0 → z₀ ≡ replicate 1024 0 → r ≡ distinct (names is)
+differ-by : (s : List ℕ) (from n : ℕ) (f z f₀ z₀ : List ℕ) (r : Bool) (is : List StoredItem) → NamesAt s from is → n ≡ length is → n ≤ 1024 → r ≡ distinct (namesFrom (nameAt s f z) 0 n)
+    → f ≡ sets f₀ 0 (firstsFrom from is) → z ≡ sets z₀ 0 (sizesFrom is) → f₀ ≡ replicate 1024 0 → z₀ ≡ replicate 1024 0 → r ≡ distinct (itemNames is)
 differ-by s from n f z f₀ z₀ r is h m l e p q u v =
     let a : f ≡ firstsFrom from is ++ replicate (1024 - length (firstsFrom from is)) 0 = p ∙ rw u (put-front (firstsFrom from is) 1024 (rw (length-firsts from is) (omega arith))) in
     let b : z ≡ sizesFrom is ++ replicate (1024 - length (sizesFrom is)) 0 = q ∙ rw v (put-front (sizesFrom is) 1024 (rw (length-sizes is) (omega arith))) in
     let g = noted s from is (replicate (1024 - length (firstsFrom from is)) 0) (replicate (1024 - length (sizesFrom is)) 0) h in
     e ∙ rw (a, b, m) (ap distinct g)
 
-pub names-differ : (s : List ℕ) (from n : ℕ) (f z f₀ z₀ : List ℕ) (r : Bool) → there (itemsAt formOne (drop from s)) ≡ true → n ≡ countIn (itemsAt formOne (drop from s)) → n ≤ 1024
+pub names-differ : (s : List ℕ) (from n : ℕ) (f z f₀ z₀ : List ℕ) (r : Bool) → there (itemsAt formOne (drop from s)) ≡ true → n ≡ itemsCounted (itemsAt formOne (drop from s)) → n ≤ 1024
     → r ≡ distinct (namesFrom (nameAt s f z) 0 n) → f ≡ sets f₀ 0 (firstsAt from (itemsAt formOne (drop from s))) → z ≡ sets z₀ 0 (sizesAt (itemsAt formOne (drop from s)))
     → f₀ ≡ replicate 1024 0 → z₀ ≡ replicate 1024 0 → r ≡ distinctItems (itemsAt formOne (drop from s))
-unfolding countIn firstsAt sizesAt distinctItems
+unfolding itemsCounted firstsAt sizesAt distinctItems
 names-differ s from n f z f₀ z₀ r t c l e p q u v =
     let w = there-some (itemsAt formOne (drop from s)) t in
     let h = names-there (length (drop from s)) s from (w .0) (le-refl (length (drop from s))) (w .1) in
-    differ-by s from n f z f₀ z₀ r (w .0) h (c ∙ ap countIn (w .1)) l e
-    (p ∙ ap (λ (x : Option (List Item)). sets f₀ 0 (firstsAt from x)) (w .1))
-    (q ∙ ap (λ (x : Option (List Item)). sets z₀ 0 (sizesAt x)) (w .1)) u v
+    differ-by s from n f z f₀ z₀ r (w .0) h (c ∙ ap itemsCounted (w .1)) l e
+    (p ∙ ap (λ (x : Option (List StoredItem)). sets f₀ 0 (firstsAt from x)) (w .1))
+    (q ∙ ap (λ (x : Option (List StoredItem)). sets z₀ 0 (sizesAt x)) (w .1)) u v
     ∙ sym (ap distinctItems (w .1))

@@ -6,8 +6,8 @@ use native.Mathlib.Nat.{le-refl}
 use lib.ListN.{length, take, drop}
 use lib.Seq.{take-append-seam}
 use Rattle.stored.specs.Fields.{fieldBytes, fieldsBytes}
-use Rattle.stored.specs.Items.{Item, itemField}
-use Rattle.stored.specs.Stored.{Stored, formOne, bytesOf}
+use Rattle.stored.specs.Items.{StoredItem, itemField}
+use Rattle.stored.specs.Stored.{Stored, formOne, storedBytes}
 use Rattle.stored.proofs.Inverse.{found}
 use Rattle.stored_reading.specs.Permitted.{Permitted}
 use Rattle.stored_reading.specs.Promises.{NoChoice, RefusedExactly, NamesStand}
@@ -25,8 +25,8 @@ refused-exactly s w r t p = (
   ((λ e. let d = subst (λ (x : StoredReading). Permitted s w x t) e p .0 in (d .name, d .items, d .stored, d .short)), λ h. short-when s w r t p (h .0) (h .1) (h .2) (h .3)),
 )
 
-package-name : (s n : List ℕ) (is : List Item) → Stored formOne s n is → take (length n) (drop 3 s) ≡ n
-unfolding bytesOf fieldsBytes fieldBytes formOne
+package-name : (s n : List ℕ) (is : List StoredItem) → Stored formOne s n is → take (length n) (drop 3 s) ≡ n
+unfolding storedBytes fieldsBytes fieldBytes formOne
 package-name s n is h = let rest = fieldsBytes (map itemField is) in let p : drop 3 s ≡ n ++ rest = ap (drop 3) (h .bytes) in ap (take (length n)) p ∙ take-append-seam n rest
 
 pub names-stand : NamesStand

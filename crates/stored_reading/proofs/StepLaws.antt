@@ -13,9 +13,9 @@ use lib.Seq.{length-take-le}
 use mir.Val.{toZ}
 use mir.Syntax.{w32}
 use Rattle.stored.specs.Fields.{Field}
-use Rattle.stored.specs.Items.{Item, valueSize}
+use Rattle.stored.specs.Items.{StoredItem, valueSize}
 use Rattle.stored.specs.Stored.{Form}
-use Rattle.stored.specs.code.Decode.{fieldOf, lengthIn, before, ending, fieldsFrom, wordIn, numberIn, truthIn, rangeIn, truthsIn, subtypeIn, valueIn, itemFits, kept, keptIn, withName, itemIn, put, itemsOf}
+use Rattle.stored.specs.code.Decode.{taggedField, lengthIn, before, ending, fieldsFrom, wordIn, heldNumber, heldTruth, heldRange, heldTruths, heldSubtype, heldValue, itemFits, heldLegal, keptIn, withName, itemIn, withItem, itemsInFields}
 use Rattle.stored.specs.declared.StoredValue.{StoredValue}
 use Rattle.stored.specs.declared.StoredValue.the-variants.{Number, Truth, Range, Truths}
 use Rattle.stored.specs.declared.Held.{Held}
@@ -48,7 +48,7 @@ pass-none (suc k) (b ∷ s) l = pass-none k s (le-of-suc-le-suc l)
 abbrev pub Stepped : List ℕ → FieldStep → Type 0
 Stepped s Bad = fieldsFrom 0 s ≡ none
 Stepped s End = fieldsFrom 0 s ≡ some []
-Stepped s (Tagged t n) = (3 + n ≤ length s) × (fieldsFrom 0 s ≡ before (fieldOf t (take n (drop 3 s))) (fieldsFrom 0 (drop (3 + n) s)))
+Stepped s (Tagged t n) = (3 + n ≤ length s) × (fieldsFrom 0 s ≡ before (taggedField t (take n (drop 3 s))) (fieldsFrom 0 (drop (3 + n) s)))
 
 ending-none : (a b : ℕ) (u : List ℕ) → (suc (suc (suc (length u))) ≡ 3 → ⊥) → ending (a ∷ b ∷ u) ≡ none
 unfolding ending
@@ -109,58 +109,58 @@ abbrev sizeHeld : Held → ℕ
 sizeHeld Nothing = 0
 sizeHeld (Holds v) = valueSize v
 
-long-number : (s : List ℕ) (v : StoredValue) → numberIn s ≡ Holds v → valueSize v ≡ 4
-unfolding numberIn
+long-number : (s : List ℕ) (v : StoredValue) → heldNumber s ≡ Holds v → valueSize v ≡ 4
+unfolding heldNumber
 long-number s v e = sym (ap sizeHeld (unless (eqb (wordIn s 0) 2147483648) (Holds (Number (toZ w32 (wordIn s 0)))) v e .1))
 
-long-truth : (s : List ℕ) (v : StoredValue) → truthIn s ≡ Holds v → valueSize v ≡ 1
-unfolding truthIn
+long-truth : (s : List ℕ) (v : StoredValue) → heldTruth s ≡ Holds v → valueSize v ≡ 1
+unfolding heldTruth
 long-truth s v e =
     by-test (λ x. x ≡ Holds v) (eqb (getD s 0 0) 0) e
     (λ _ q. sym (ap sizeHeld q))
     (λ _ q. sym (ap sizeHeld (only-if (eqb (getD s 0 0) 1) (Holds (Truth true)) v q .1)))
 
-long-range : (s : List ℕ) (v : StoredValue) → rangeIn s ≡ Holds v → valueSize v ≡ 9
-unfolding rangeIn
+long-range : (s : List ℕ) (v : StoredValue) → heldRange s ≡ Holds v → valueSize v ≡ 9
+unfolding heldRange
 long-range s v e =
     let x = Holds (Range (toZ w32 (wordIn s 1)) (toZ w32 (wordIn s 5))) in
     let r = unless (eqb (wordIn s 1) 2147483648) (cond (eqb (wordIn s 5) 2147483648) Nothing x) v e in
     sym (ap sizeHeld (unless (eqb (wordIn s 5) 2147483648) x v (r .1) .1))
 
-long-truths : (s : List ℕ) (v : StoredValue) → truthsIn s ≡ Holds v → valueSize v ≡ 9
-unfolding truthsIn
+long-truths : (s : List ℕ) (v : StoredValue) → heldTruths s ≡ Holds v → valueSize v ≡ 9
+unfolding heldTruths
 long-truths s v e =
     let r = only-if (eqb (wordIn s 1) 0) (cond (eqb (wordIn s 5) 1) (Holds Truths) Nothing) v e in
     sym (ap sizeHeld (only-if (eqb (wordIn s 5) 1) (Holds Truths) v (r .1) .1))
 
-long-subtype : (s : List ℕ) (v : StoredValue) → subtypeIn s ≡ Holds v → valueSize v ≡ 9
-unfolding subtypeIn
+long-subtype : (s : List ℕ) (v : StoredValue) → heldSubtype s ≡ Holds v → valueSize v ≡ 9
+unfolding heldSubtype
 long-subtype s v e =
     by-test (λ x. x ≡ Holds v) (eqb (getD s 0 0) 0) e
     (λ _ q. long-range s v q)
-    (λ _ q. long-truths s v (only-if (eqb (getD s 0 0) 1) (truthsIn s) v q .1))
+    (λ _ q. long-truths s v (only-if (eqb (getD s 0 0) 1) (heldTruths s) v q .1))
 
-pub value-long : (t : ℕ) (s : List ℕ) (v : StoredValue) → valueIn t s ≡ Holds v → valueSize v ≤ length s
-unfolding valueIn
+pub value-long : (t : ℕ) (s : List ℕ) (v : StoredValue) → heldValue t s ≡ Holds v → valueSize v ≤ length s
+unfolding heldValue
 value-long t s v e =
     by-test (λ x. x ≡ Holds v) (eqb t 2) e
-    (λ _ q. let r = unless (ltb (length s) 4) (numberIn s) v q in let z = long-number s v (r .1) in let l = ltb-false (length s) 4 (r .0) in omega arith)
+    (λ _ q. let r = unless (ltb (length s) 4) (heldNumber s) v q in let z = long-number s v (r .1) in let l = ltb-false (length s) 4 (r .0) in omega arith)
     (λ _ e₂. by-test (λ x. x ≡ Holds v) (eqb t 3) e₂
-    (λ _ q. let r = unless (ltb (length s) 1) (truthIn s) v q in let z = long-truth s v (r .1) in let l = ltb-false (length s) 1 (r .0) in omega arith)
+    (λ _ q. let r = unless (ltb (length s) 1) (heldTruth s) v q in let z = long-truth s v (r .1) in let l = ltb-false (length s) 1 (r .0) in omega arith)
     (λ _ e₃. let y = only-if (eqb t 4) _ v e₃ in
-    let r = unless (ltb (length s) 9) (subtypeIn s) v (y .1) in let z = long-subtype s v (r .1) in let l = ltb-false (length s) 9 (r .0) in omega arith))
+    let r = unless (ltb (length s) 9) (heldSubtype s) v (y .1) in let z = long-subtype s v (r .1) in let l = ltb-false (length s) 9 (r .0) in omega arith))
 
-kept-is : (F : Form) (h : Held) (s : List ℕ) (v : StoredValue) → kept F h s ≡ Holds v → h ≡ Holds v
-unfolding kept
+kept-is : (F : Form) (h : Held) (s : List ℕ) (v : StoredValue) → heldLegal F h s ≡ Holds v → h ≡ Holds v
+unfolding heldLegal
 kept-is F Nothing s v e = clash (cc)
 kept-is F (Holds w) s v e = only-if (itemFits F w (drop (valueSize w) s)) (Holds w) v e .1
 
 pub kept-long : (F : Form) (t : ℕ) (s : List ℕ) (v : StoredValue) → keptIn F t s ≡ Holds v → valueSize v ≤ length s
 unfolding keptIn
-kept-long F t s v e = value-long t s v (kept-is F (valueIn t s) s v e)
+kept-long F t s v e = value-long t s v (kept-is F (heldValue t s) s v e)
 
 -- ---- turns
-abbrev pub itemOf : StoredValue → ℕ → List ℕ → Item
+abbrev pub itemOf : StoredValue → ℕ → List ℕ → StoredItem
 itemOf v n s = record { value = v; name = drop (valueSize v) (take n (drop 3 s)) }
 
 abbrev pub Turned : Form → List ℕ → ItemTurn → Type 0
@@ -168,18 +168,18 @@ Turned F s Wrong = itemsAt F s ≡ none
 Turned F s Ends = itemsAt F s ≡ some []
 Turned F s (Gives v n) = (3 + n ≤ length s) × ((valueSize v ≤ n) × (itemsAt F s ≡ before (itemOf v n s) (itemsAt F (drop (3 + n) s))))
 
-put-before : (F : Form) (f : Field) (r : Option (List Field)) → itemsBy F (before f r) ≡ put (itemIn F f) (itemsBy F r)
-unfolding itemsBy before itemsOf put
+put-before : (F : Form) (f : Field) (r : Option (List Field)) → itemsBy F (before f r) ≡ withItem (itemIn F f) (itemsBy F r)
+unfolding itemsBy before itemsInFields withItem
 put-before F f (some fs) = refl
 put-before F f none = go (itemIn F f)
   where
-    go : (x : Option Item) → none ≡ put x none
+    go : (x : Option StoredItem) → none ≡ withItem x none
     go none = refl
     go (some i) = refl
 
 turned : (F : Form) (s : List ℕ) (t n : ℕ) (h : Held) → keptIn F t (take n (drop 3 s)) ≡ h → 3 + n ≤ length s
-    → fieldsFrom 0 s ≡ before (fieldOf t (take n (drop 3 s))) (fieldsFrom 0 (drop (3 + n) s)) → Turned F s (turnHeld h n)
-unfolding turnHeld itemsAt itemIn withName put
+    → fieldsFrom 0 s ≡ before (taggedField t (take n (drop 3 s))) (fieldsFrom 0 (drop (3 + n) s)) → Turned F s (turnHeld h n)
+unfolding turnHeld itemsAt itemIn withName withItem
 turned F s t n Nothing p l e = ap (itemsBy F) e ∙ put-before F _ (fieldsFrom 0 (drop (3 + n) s)) ∙ rw p
 turned F s t n (Holds v) p l e =
     let m : length (take n (drop 3 s)) ≡ n = length-take-le n (drop 3 s) (rw (length-drop 3 s) (omega arith)) in
@@ -190,7 +190,7 @@ unfolding itemsAt itemsBy
 bad-items F s e = rw e
 
 end-items : (F : Form) (s : List ℕ) → fieldsFrom 0 s ≡ some [] → itemsAt F s ≡ some []
-unfolding itemsAt itemsBy itemsOf
+unfolding itemsAt itemsBy itemsInFields
 end-items F s e = rw e
 
 pub turn-is : (F : Form) (s : List ℕ) → Turned F s (turnOf F s)

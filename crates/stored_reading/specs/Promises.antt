@@ -4,10 +4,10 @@ use mathlib.Core.Path.{_≡_}
 use mathlib.Core.Logic.{_↔_}
 use mathlib.Core.List.{List, [], _∷_}
 use lib.ListN.{length, take, drop}
-use Rattle.stored.specs.Items.{Item, valueSize}
+use Rattle.stored.specs.Items.{StoredItem, valueSize}
 use Rattle.stored.specs.Stored.{Stored, formOne}
 use Rattle.stored_reading.specs.Rows.{headSize, sizeOf}
-use Rattle.stored_reading.specs.Permitted.{rowsIn, Permitted}
+use Rattle.stored_reading.specs.Permitted.{storedRowsIn, Permitted}
 use Rattle.stored_reading.specs.declared.StoredRefusal.the-variants.{NotStored, ItemsShort}
 use Rattle.stored_reading.specs.declared.StoredReading.{StoredReading}
 use Rattle.stored_reading.specs.declared.StoredReading.the-variants.{Read, Refused}
@@ -20,15 +20,15 @@ NoChoice = (s : List ℕ) (words : ℕ) (r q : StoredReading) (t u : List ℕ) �
 abbrev pub RefusedExactly : Type 0
 RefusedExactly =
     (s : List ℕ) (words : ℕ) (r : StoredReading) (t : List ℕ) → Permitted s words r t
-    → ((r ≡ Refused NotStored) ↔ ((n : List ℕ) (items : List Item) → Stored formOne s n items → ⊥))
-    × ((r ≡ Refused (ItemsShort (rowsIn words))) ↔ ((n : List ℕ) × (items : List Item) × Stored formOne s n items × (rowsIn words < length items)))
+    → ((r ≡ Refused NotStored) ↔ ((n : List ℕ) (items : List StoredItem) → Stored formOne s n items → ⊥))
+    × ((r ≡ Refused (ItemsShort (storedRowsIn words))) ↔ ((n : List ℕ) × (items : List StoredItem) × Stored formOne s n items × (storedRowsIn words < length items)))
 
 -- The names stand in the bytes where the answer and the rows say.
-abbrev pub NamesAt : List ℕ → ℕ → List Item → Type 0
+abbrev pub NamesAt : List ℕ → ℕ → List StoredItem → Type 0
 NamesAt s at [] = Unit
 NamesAt s at (i ∷ is) = (take (length (i .name)) (drop (at + (headSize + valueSize (i .value))) s) ≡ i .name) × NamesAt s (at + sizeOf i) is
 
 abbrev pub NamesStand : Type 0
 NamesStand =
-    (s n : List ℕ) (items : List Item) → Stored formOne s n items
+    (s n : List ℕ) (items : List StoredItem) → Stored formOne s n items
     → (take (length n) (drop headSize s) ≡ n) × NamesAt s (headSize + length n) items

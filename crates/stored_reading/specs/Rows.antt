@@ -3,11 +3,11 @@
 use Prim.Native.Nat.{ℕ, _+_}
 use mathlib.Core.List.{List, [], _∷_}
 use lib.ListN.{length}
-use Rattle.pieces.specs.Classes.{constant, subtype}
+use Rattle.pieces.specs.Classes as class
 use Rattle.values.specs.Words.{valueKind, lowOf, highOf}
 use Rattle.values.specs.declared.Value.{Value}
 use Rattle.values.specs.declared.Value.the-variants as value
-use Rattle.stored.specs.Items.{Item, valueSize}
+use Rattle.stored.specs.Items.{StoredItem, valueSize}
 use Rattle.stored.specs.declared.StoredValue.{StoredValue}
 use Rattle.stored.specs.declared.StoredValue.the-variants.{Number, Truth, Range, Truths}
 
@@ -18,30 +18,30 @@ surveyValue (Truth t) = value.Truth t
 surveyValue (Range low high) = value.Range low high
 surveyValue Truths = value.Truths
 
-abbrev pub classOf : StoredValue → ℕ
-classOf (Number z) = constant
-classOf (Truth t) = constant
-classOf (Range low high) = subtype
-classOf Truths = subtype
+abbrev pub storedClass : StoredValue → ℕ
+storedClass (Number z) = class.constant
+storedClass (Truth t) = class.constant
+storedClass (Range low high) = class.subtype
+storedClass Truths = class.subtype
 
 -- how many bytes a field has before its contents: the tag and the length
 abbrev pub headSize : ℕ
 headSize = 3
 
 -- how many bytes an item's field has
-abbrev pub sizeOf : Item → ℕ
+abbrev pub sizeOf : StoredItem → ℕ
 sizeOf i = headSize + (valueSize (i .value) + length (i .name))
 
 -- how many words a row has
-abbrev pub rowWords : ℕ
-rowWords = 6
+abbrev pub storedRowWords : ℕ
+storedRowWords = 6
 
-abbrev pub rowOf : StoredValue → ℕ → ℕ → List ℕ
-rowOf v place size = classOf v ∷ place ∷ size ∷ valueKind (surveyValue v) ∷ lowOf (surveyValue v) ∷ highOf (surveyValue v) ∷ []
+abbrev pub storedRow : StoredValue → ℕ → ℕ → List ℕ
+storedRow v place size = storedClass v ∷ place ∷ size ∷ valueKind (surveyValue v) ∷ lowOf (surveyValue v) ∷ highOf (surveyValue v) ∷ []
 
 -- the rows of items whose fields stand one after the other from a place on
-unfoldable pub rowsFrom : ℕ → List Item → List ℕ
-rowsFrom at [] = []
-rowsFrom at (i ∷ is) =
-    classOf (i .value) ∷ (at + (headSize + valueSize (i .value))) ∷ length (i .name) ∷ valueKind (surveyValue (i .value)) ∷ lowOf (surveyValue (i .value))
-    ∷ highOf (surveyValue (i .value)) ∷ rowsFrom (at + sizeOf i) is
+unfoldable pub storedRowsFrom : ℕ → List StoredItem → List ℕ
+storedRowsFrom at [] = []
+storedRowsFrom at (i ∷ is) =
+    storedClass (i .value) ∷ (at + (headSize + valueSize (i .value))) ∷ length (i .name) ∷ valueKind (surveyValue (i .value)) ∷ lowOf (surveyValue (i .value))
+    ∷ highOf (surveyValue (i .value)) ∷ storedRowsFrom (at + sizeOf i) is

@@ -13,11 +13,11 @@ ghost use lib.Seq.{sets};
 ghost use Rattle.stored.specs.Fields.{allBytes};
 ghost use Rattle.stored.specs.Stored.{formOne, mostItems};
 ghost use Rattle.stored.specs.code.Decode.{decode};
-ghost use Rattle.stored_reading.specs.Rows.{surveyValue, classOf, rowWords, rowOf};
+ghost use Rattle.stored_reading.specs.Rows.{surveyValue, storedClass, storedRowWords, storedRow};
 ghost use Rattle.stored_reading.specs.Refusals.{storedNumber, storedPlace};
 ghost use Rattle.stored_reading.specs.Permitted.{Permitted};
-ghost use Rattle.stored_reading.specs.code.Turns.{stepOf, turnOf, itemsAt, tally, there, countIn, distinctItems};
-ghost use Rattle.stored_reading.specs.code.Answers.{rowsAt, firstsAt, sizesAt, foundOf};
+ghost use Rattle.stored_reading.specs.code.Turns.{stepOf, turnOf, itemsAt, countWith, there, itemsCounted, distinctItems};
+ghost use Rattle.stored_reading.specs.code.Answers.{rowsAt, firstsAt, sizesAt, examinedOf};
 
 // 24, and 10 with the rows that the table has.
 pub enum StoredRefusal {
@@ -149,7 +149,7 @@ fn turn_of(s: &[u8]) -> ItemTurn
 }
 
 fn count_from(s: &[u8], from: usize) -> ItemCount
-    ensures { λ r. ⌜ r ≡ tally 0 (itemsAt formOne (drop from (now (s .entry)))) ⌝ }
+    ensures { λ r. ⌜ r ≡ countWith 0 (itemsAt formOne (drop from (now (s .entry)))) ⌝ }
 {
     let mut at = from;
     let mut n: usize = 0;
@@ -174,7 +174,7 @@ fn count_from(s: &[u8], from: usize) -> ItemCount
 
 fn note_names(s: &[u8], from: usize, firsts: &mut [u64; MOST_ITEMS], sizes: &mut [u64; MOST_ITEMS])
     requires { ⌜ there (itemsAt formOne (drop from (now s))) ≡ true ⌝ }
-    requires { ⌜ countIn (itemsAt formOne (drop from (now s))) ≤ mostItems ⌝ }
+    requires { ⌜ itemsCounted (itemsAt formOne (drop from (now s))) ≤ mostItems ⌝ }
     ensures { λ _. ⌜ now (firsts .exit) ≡ sets (now (firsts .entry)) 0 (firstsAt from (itemsAt formOne (drop from (now (s .entry))))) ⌝ }
     ensures { λ _. ⌜ now (sizes .exit) ≡ sets (now (sizes .entry)) 0 (sizesAt (itemsAt formOne (drop from (now (s .entry))))) ⌝ }
 {
@@ -201,7 +201,7 @@ fn note_names(s: &[u8], from: usize, firsts: &mut [u64; MOST_ITEMS], sizes: &mut
 
 fn names_differ(s: &[u8], from: usize, n: usize) -> bool
     requires { ⌜ there (itemsAt formOne (drop from (now s))) ≡ true ⌝ }
-    requires { ⌜ (n ≡ countIn (itemsAt formOne (drop from (now s)))) × (n ≤ mostItems) ⌝ }
+    requires { ⌜ (n ≡ itemsCounted (itemsAt formOne (drop from (now s)))) × (n ≤ mostItems) ⌝ }
     ensures { λ r. ⌜ r ≡ distinctItems (itemsAt formOne (drop from (now (s .entry)))) ⌝ }
 {
     let mut firsts = [0u64; MOST_ITEMS];
@@ -225,7 +225,7 @@ fn survey_value(v: StoredValue) -> Value
 }
 
 fn class_of(v: StoredValue) -> u64
-    ensures { λ r. ⌜ r ≡ classOf v ⌝ }
+    ensures { λ r. ⌜ r ≡ storedClass v ⌝ }
 {
     match v {
         StoredValue::Number(_) => pieces::CONSTANT,
@@ -236,7 +236,7 @@ fn class_of(v: StoredValue) -> u64
 }
 
 fn put_row(t: &mut [u64], w: usize, a: u64, b: u64, c: u64, d: u64, e: u64, f: u64)
-    requires { ⌜ w + rowWords ≤ length (now t) ⌝ }
+    requires { ⌜ w + storedRowWords ≤ length (now t) ⌝ }
     ensures { λ _. ⌜ now (t .exit) ≡ sets (now (t .entry)) w (a ∷ b ∷ c ∷ d ∷ e ∷ f ∷ []) ⌝ }
 {
     t[w] = a;
@@ -248,8 +248,8 @@ fn put_row(t: &mut [u64], w: usize, a: u64, b: u64, c: u64, d: u64, e: u64, f: u
 }
 
 fn put_item(t: &mut [u64], w: usize, v: StoredValue, place: u64, size: u64)
-    requires { ⌜ w + rowWords ≤ length (now t) ⌝ }
-    ensures { λ _. ⌜ now (t .exit) ≡ sets (now (t .entry)) w (rowOf v place size) ⌝ }
+    requires { ⌜ w + storedRowWords ≤ length (now t) ⌝ }
+    ensures { λ _. ⌜ now (t .exit) ≡ sets (now (t .entry)) w (storedRow v place size) ⌝ }
 {
     let class = class_of(v);
     let value = survey_value(v);
@@ -261,7 +261,7 @@ fn put_item(t: &mut [u64], w: usize, v: StoredValue, place: u64, size: u64)
 
 fn fill(s: &[u8], from: usize, t: &mut [u64])
     requires { ⌜ there (itemsAt formOne (drop from (now s))) ≡ true ⌝ }
-    requires { ⌜ rowWords * countIn (itemsAt formOne (drop from (now s))) ≤ length (now t) ⌝ }
+    requires { ⌜ storedRowWords * itemsCounted (itemsAt formOne (drop from (now s))) ≤ length (now t) ⌝ }
     ensures { λ _. ⌜ now (t .exit) ≡ sets (now (t .entry)) 0 (rowsAt from (itemsAt formOne (drop from (now (s .entry))))) ⌝ }
 {
     let mut at = from;
@@ -287,7 +287,7 @@ fn fill(s: &[u8], from: usize, t: &mut [u64])
 // ---- the whole
 
 fn examine(s: &[u8]) -> Examined
-    ensures { λ r. ⌜ r ≡ foundOf (decode formOne (now (s .entry))) ⌝ }
+    ensures { λ r. ⌜ r ≡ examinedOf (decode formOne (now (s .entry))) ⌝ }
 {
     match step_of(s) {
         FieldStep::Bad => Examined::Nowhere,

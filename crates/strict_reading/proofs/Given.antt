@@ -13,13 +13,13 @@ use Rattle.places.specs.Places.{rowWords, kindsOf}
 use Rattle.elements.specs.declared.Kind.{Kind}
 use Rattle.elements.specs.declared.Literal.{Literal}
 use Rattle.elements.specs.Kinds.{kindNumber}
-use Rattle.element_reading.specs.Rows.{Row, rowsOf}
+use Rattle.element_reading.specs.Rows.{ElementRow, rowsOf}
 use Rattle.element_reading.specs.Table.{cells}
 use Rattle.element_reading.specs.Reading.{tableOf}
 use Rattle.element_reading.specs.declared.Reading.the-variants as R
 use Rattle.element_reading.specs.Given.{elementCount, Taken}
 use Rattle.element_reading.proofs.Answers.{taken-read, table-read, table-length}
-use Rattle.tree.specs.code.Answers.{elementsIn}
+use Rattle.tree.specs.code.Answers.{elementsCounted}
 use Rattle.strict_reading.specs.declared.Unread.{Unread}
 use Rattle.strict_reading.specs.declared.Unread.the-variants as U
 use Rattle.refusals.specs.declared.StrictRefusal.the-variants as S
@@ -28,7 +28,7 @@ use Rattle.strict_reading.specs.Given.{UnreadableIn, FirstUnreadable, No
 
 module _ (text : List ℕ) (ew : ℕ) where
   -- all the elements elementCount
-  pub all-count : Taken text ew → elementsIn (tableOf text ew) (elementCount text) ≡ elementCount text
+  pub all-count : Taken text ew → elementsCounted (tableOf text ew) (elementCount text) ≡ elementCount text
   all-count t =
       let l = t .1 in
       let m = t .2 in
@@ -47,11 +47,11 @@ unreadable-kind (Kind.Delimiter n) e = absurd (omega arith)
 unreadable-kind (Kind.Reserved n) e = absurd (omega arith)
 
 -- the search for an unreadable element among rows of which the first is number i
-abbrev SearchSays : ℕ → List Row → Unread → Type 0
+abbrev SearchSays : ℕ → List ElementRow → Unread → Type 0
 SearchSays i rs (U.At k) = (m : ℕ) × ((k ≡ i + m) × FirstUnreadable rs m)
 SearchSays i rs U.Nothing = NoneUnreadable rs
 
-found-later : (i : ℕ) (r : Row) (rs : List Row) (f : Unread) → (r .kind ≡ Kind.Unreadable → ⊥) → SearchSays (suc i) rs f → SearchSays i (r ∷ rs) f
+found-later : (i : ℕ) (r : ElementRow) (rs : List ElementRow) (f : Unread) → (r .kind ≡ Kind.Unreadable → ⊥) → SearchSays (suc i) rs f → SearchSays i (r ∷ rs) f
 found-later i r rs (U.At k) d s =
     let p = s .1 .0 in
     (suc (s .0), (omega arith, (s .1 .1 .0, λ j l. before j (omega arith))))
@@ -66,16 +66,16 @@ found-later i r rs U.Nothing d s = none
     none (suc e) u = s e u
 
 -- the kinds of rows, as the table has them
-abbrev numbers : List Row → List ℕ
+abbrev numbers : List ElementRow → List ℕ
 numbers [] = []
 numbers (r ∷ rs) = kindNumber (r .kind) ∷ numbers rs
 
-kinds-rows : (rs : List Row) (l : List ℕ) → kindsOf (length rs) (cells rs ++ l) ≡ numbers rs
+kinds-rows : (rs : List ElementRow) (l : List ℕ) → kindsOf (length rs) (cells rs ++ l) ≡ numbers rs
 unfolding kindsOf cells
 kinds-rows [] l = refl
 kinds-rows (r ∷ rs) l = ap (λ (ks : List ℕ). kindNumber (r .kind) ∷ ks) (kinds-rows rs l)
 
-search-says : (rs : List Row) (i : ℕ) → SearchSays i rs (unreadableFrom i (numbers rs))
+search-says : (rs : List ElementRow) (i : ℕ) → SearchSays i rs (unreadableFrom i (numbers rs))
 unfolding unreadableFrom
 search-says [] i = λ e u. u
 search-says (r ∷ rs) i = go (eqb (kindNumber (r .kind)) 7) refl (search-says rs (suc i))
@@ -89,7 +89,7 @@ search-says (r ∷ rs) i = go (eqb (kindNumber (r .kind)) 7) refl (search-says r
         s
 
 -- what the search among a text's elements says, and where it ends by what is said
-abbrev pub UnreadSays : List Row → Unread → Type 0
+abbrev pub UnreadSays : List ElementRow → Unread → Type 0
 UnreadSays rs (U.At k) = FirstUnreadable rs k
 UnreadSays rs U.Nothing = NoneUnreadable rs
 

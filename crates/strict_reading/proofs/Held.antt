@@ -10,7 +10,7 @@ use borrow.Author.Tests.{ltb-false}
 use lib.Dec.{ltb}
 use lib.ListN.{length, getD, replicate, length-append, length-replicate, List·getD-eq-default}
 use Rattle.elements.specs.Kinds.{kindNumber}
-use Rattle.element_reading.specs.Rows.{Row, rowsOf}
+use Rattle.element_reading.specs.Rows.{ElementRow, rowsOf}
 use Rattle.element_reading.specs.Table.{cells}
 use Rattle.element_reading.specs.Reading.{tableOf}
 use Rattle.element_reading.proofs.Answers.{table-read}
@@ -22,7 +22,7 @@ use Rattle.forms.specs.Tree as forms
 use Rattle.one_tree.proofs.Elements.{form-kind}
 use Rattle.tree.specs.code.Answers.{terminalsOf}
 use Rattle.forms.specs.Words.{wordsOf}
-use Rattle.forms.specs.Words.{rowsIn}
+use Rattle.forms.specs.Words.{treeRowsIn}
 use Rattle.forms.specs.Labels.{LabelsLead}
 use Rattle.verdict.specs.Verdict.{Judged}
 use Rattle.verdict.specs.code.Judging.{verdictOf}
@@ -30,7 +30,7 @@ use Rattle.verdict.specs.code.Promises.{rowsHad}
 use Rattle.verdict.specs.declared.Verdict.{Verdict}
 use Rattle.verdict.proofs.Promises.{judged-exactly}
 use Rattle.element_reading.specs.Given.{elementCount, Taken}
-use Rattle.strict_reading.specs.Given.{formKinds, Elements, alike}
+use Rattle.strict_reading.specs.Given.{formKinds, Elements, sameNameIn}
 use Rattle.element_reading.proofs.Answers.{taken-read}
 use Rattle.laws.proofs.Laws.{zeros-at}
 use Rattle.forms.proofs.Words.{words-size}
@@ -60,7 +60,7 @@ module _ (text l : List ℕ) (m z : ℕ) (e : length l ≡ 3 * m) where
   unfolding sameName spelledSame
   same-padded a b = rw (cell-padded a 0, cell-padded b 0, cell-padded a 1, cell-padded b 1, cell-padded a 2, cell-padded b 2)
 
-terminals-rows : (rs : List Row) (l : List ℕ) → terminalsOf (length rs) (cells rs ++ l) ≡ formKinds rs
+terminals-rows : (rs : List ElementRow) (l : List ℕ) → terminalsOf (length rs) (cells rs ++ l) ≡ formKinds rs
 unfolding terminalsOf kindsOf cells
 terminals-rows [] l = refl
 terminals-rows (r ∷ rs) l =
@@ -72,21 +72,21 @@ module _ (text : List ℕ) (ew : ℕ) (t : Taken text ew) where
   table-elements : terminalsOf (elementCount text) (tableOf text ew) ≡ Elements text
   table-elements = rw (table-read text ew (taken-read text ew t)) (terminals-rows (rowsOf text) (replicate (ew - 3 * elementCount text) 0))
 
-  table-alike : sameName text (tableOf text ew) ≡ alike text
+  table-alike : sameName text (tableOf text ew) ≡ sameNameIn text
   table-alike =
       rw (table-read text ew (taken-read text ew t))
       (fun-ext (λ a. fun-ext (same-padded text (cells (rowsOf text)) (elementCount text) (ew - 3 * elementCount text) (length-cells (rowsOf text)) a)))
 
   -- so that what holds of one holds of the other
-  pub of-text : (P : (ℕ → ℕ → Bool) → List ℕ → Type 0) → P (sameName text (tableOf text ew)) (terminalsOf (elementCount text) (tableOf text ew)) → P (alike text) (Elements text)
+  pub of-text : (P : (ℕ → ℕ → Bool) → List ℕ → Type 0) → P (sameName text (tableOf text ew)) (terminalsOf (elementCount text) (tableOf text ew)) → P (sameNameIn text) (Elements text)
   of-text P x = subst₂ P table-alike table-elements x
 
-  pub of-table : (P : (ℕ → ℕ → Bool) → List ℕ → Type 0) → P (alike text) (Elements text) → P (sameName text (tableOf text ew)) (terminalsOf (elementCount text) (tableOf text ew))
+  pub of-table : (P : (ℕ → ℕ → Bool) → List ℕ → Type 0) → P (sameNameIn text) (Elements text) → P (sameName text (tableOf text ew)) (terminalsOf (elementCount text) (tableOf text ew))
   of-table P x = subst₂ P (sym table-alike) (sym table-elements) x
 
 -- the rows of a tree table that has these rows and then other words
-pub rows-in : (rs : List forms.Row) (l : List ℕ) → rowsIn (length rs) (wordsOf rs ++ l) ≡ rs
-unfolding rowsIn
+pub rows-in : (rs : List forms.Row) (l : List ℕ) → treeRowsIn (length rs) (wordsOf rs ++ l) ≡ rs
+unfolding treeRowsIn
 rows-in [] l = refl
 rows-in (r ∷ rs) l = ap (λ (x : List forms.Row). r ∷ x) (rows-in rs l)
 
@@ -102,7 +102,7 @@ module _ (text table : List ℕ) (rs : List forms.Row) (room : ℕ) (h : LabelsL
       let b = length-replicate {A = ℕ} (room - 5 * length rs) 0 in
       let w = words-size rs in
       let z : min (length rs) (length (wordsOf rs ++ replicate {A = ℕ} (room - 5 * length rs) 0) / 5) ≡ length rs = omega arith in
-      ap (λ (n : ℕ). rowsIn n (wordsOf rs ++ replicate (room - 5 * length rs) 0)) z ∙ rows-in rs (replicate (room - 5 * length rs) 0)
+      ap (λ (n : ℕ). treeRowsIn n (wordsOf rs ++ replicate (room - 5 * length rs) 0)) z ∙ rows-in rs (replicate (room - 5 * length rs) 0)
 
   pub verdict-rows : (verdictOf (wordsOf rs ++ replicate (room - 5 * length rs) 0) (length rs) ≡ v) ↔ Judged text table rs v
   unfolding words

@@ -14,7 +14,7 @@ use Rattle.element_reading.specs.declared.Reading.{Reading}
 use Rattle.element_reading.specs.declared.Reading.the-variants as R
 use Rattle.refusals.specs.declared.Refusal.{Refusal}
 use Rattle.places.specs.declared.ElementNumber.{ElementNumber}
-use Rattle.tree.specs.code.Answers.{elementsIn, readingIn, answerOf}
+use Rattle.tree.specs.code.Answers.{elementsCounted, readingIn, treeAnswerOf}
 use Rattle.tree.specs.code.Answers as trees
 use Rattle.tree.specs.declared.Answer.{Answer}
 use Rattle.tree.specs.declared.Answer.the-variants as A
@@ -26,7 +26,7 @@ use Rattle.refusals.specs.declared.StrictRefusal.{StrictRefusal}
 use Rattle.refusals.specs.declared.StrictRefusal.the-variants as S
 use Rattle.strict_reading.specs.declared.Strict.{Strict}
 use Rattle.strict_reading.specs.declared.Strict.the-variants.{Read, Refused}
-use Rattle.strict_reading.specs.code.Strict.{unreadableFrom, byAnswer, treeTable, fileOf, byUnread, elementsAs, byReading, strictOf, kept, elementsAfter, treeByUnread, treeAs, treeByReading, treeAfter}
+use Rattle.strict_reading.specs.code.Strict.{unreadableFrom, byAnswer, treeTable, fileOf, byUnread, elementsAs, strictByReading, strictOf, keptByStrict, elementsAfterStrict, treeByUnread, treeAs, treeByReading, treeAfter}
 
 -- the search for an unreadable element
 found : (i k : ℕ) (ks : List ℕ) → k ≡ 7 → unreadableFrom i (k ∷ ks) ≡ U.At i
@@ -57,8 +57,8 @@ module _ (t : List ℕ) (count i : ℕ) (whole : Unread) (v : unreadableFrom i (
 
 -- a file, or refusal 5, 6, 7 or 8: a is what `read_tree` answers, u the tree table then, e the element table where it is cleared
 module _ (text t : List ℕ) (count w : ℕ) (a : Answer) (u : List ℕ)
-    (p : a ≡ answerOf w (readingIn text t (elementsIn t count)))
-    (q : u ≡ trees.tableOf w (readingIn text t (elementsIn t count))) where
+    (p : a ≡ treeAnswerOf w (readingIn text t (elementsCounted t count)))
+    (q : u ≡ trees.treeTableOf w (readingIn text t (elementsCounted t count))) where
   tree-as : u ≡ treeTable text t count w
   unfolding treeTable
   tree-as = q
@@ -67,11 +67,11 @@ module _ (text t : List ℕ) (count w : ℕ) (a : Answer) (u : List ℕ)
   unfolding fileOf
   file-as = rw (← p, ← tree-as)
 
-  pub file-read : (rows : ℕ) (v : Verdict) → a ≡ A.Tree rows → v ≡ verdictOf u rows → (Read rows v ≡ fileOf text t count w) × ((t ≡ kept (fileOf text t count w) t) × (u ≡ treeTable text t count w))
-  file-read rows v m g = let e = sym (file-as ∙ ap (λ (x : Answer). byAnswer x u) m ∙ ap (Read rows) (sym g)) in (e, (ap (λ (x : Strict). kept x t) e, tree-as))
+  pub file-read : (rows : ℕ) (v : Verdict) → a ≡ A.Tree rows → v ≡ verdictOf u rows → (Read rows v ≡ fileOf text t count w) × ((t ≡ keptByStrict (fileOf text t count w) t) × (u ≡ treeTable text t count w))
+  file-read rows v m g = let e = sym (file-as ∙ ap (λ (x : Answer). byAnswer x u) m ∙ ap (Read rows) (sym g)) in (e, (ap (λ (x : Strict). keptByStrict x t) e, tree-as))
 
-  pub file-refused : (r : StrictRefusal) (x : List ℕ) → a ≡ A.Refused r → x ≡ replicate (length t) 0 → (Refused r ≡ fileOf text t count w) × ((x ≡ kept (fileOf text t count w) t) × (u ≡ treeTable text t count w))
-  file-refused r x m z = let e = sym (file-as ∙ ap (λ (y : Answer). byAnswer y u) m) in (e, (z ∙ ap (λ (y : Strict). kept y t) e, tree-as))
+  pub file-refused : (r : StrictRefusal) (x : List ℕ) → a ≡ A.Refused r → x ≡ replicate (length t) 0 → (Refused r ≡ fileOf text t count w) × ((x ≡ keptByStrict (fileOf text t count w) t) × (u ≡ treeTable text t count w))
+  file-refused r x m z = let e = sym (file-as ∙ ap (λ (y : Answer). byAnswer y u) m) in (e, (z ∙ ap (λ (y : Strict). keptByStrict y t) e, tree-as))
 
 -- refusal 2, or a file: f is what `first_unreadable` answers
 module _ (text t : List ℕ) (count w : ℕ) (f : Unread) (p : f ≡ unreadableFrom 0 (kindsOf count t)) where
@@ -83,19 +83,19 @@ module _ (text t : List ℕ) (count w : ℕ) (f : Unread) (p : f ≡ unreadableF
   unfolding treeAs
   tree-all = rw p
 
-  pub all-unreadable : (k : ℕ) (x u : List ℕ) → f ≡ U.At k → x ≡ replicate (length t) 0 → u ≡ replicate w 0 → (Refused (S.Unreadable (record { 0 = k })) ≡ elementsAs text t count w) × ((x ≡ kept (elementsAs text t count w) t) × (u ≡ treeAs text t count w))
+  pub all-unreadable : (k : ℕ) (x u : List ℕ) → f ≡ U.At k → x ≡ replicate (length t) 0 → u ≡ replicate w 0 → (Refused (S.Unreadable (record { 0 = k })) ≡ elementsAs text t count w) × ((x ≡ keptByStrict (elementsAs text t count w) t) × (u ≡ treeAs text t count w))
   all-unreadable k x u m z y =
       let e : Refused (S.Unreadable (record { 0 = k })) ≡ elementsAs text t count w = sym (rw m at all-as) in
-      (e, (z ∙ ap (λ (s : Strict). kept s t) e, y ∙ sym (rw m at tree-all)))
+      (e, (z ∙ ap (λ (s : Strict). keptByStrict s t) e, y ∙ sym (rw m at tree-all)))
 
-  pub all-file : (r : Strict) (x u : List ℕ) → f ≡ U.Nothing → r ≡ fileOf text t count w → x ≡ kept (fileOf text t count w) t → u ≡ treeTable text t count w → (r ≡ elementsAs text t count w) × ((x ≡ kept (elementsAs text t count w) t) × (u ≡ treeAs text t count w))
+  pub all-file : (r : Strict) (x u : List ℕ) → f ≡ U.Nothing → r ≡ fileOf text t count w → x ≡ keptByStrict (fileOf text t count w) t → u ≡ treeTable text t count w → (r ≡ elementsAs text t count w) × ((x ≡ keptByStrict (elementsAs text t count w) t) × (u ≡ treeAs text t count w))
   all-file r x u m e z y =
       let g : elementsAs text t count w ≡ fileOf text t count w = rw m at all-as in
-      (e ∙ sym g, (z ∙ ap (λ (s : Strict). kept s t) (sym g), y ∙ sym (rw m at tree-all)))
+      (e ∙ sym g, (z ∙ ap (λ (s : Strict). keptByStrict s t) (sym g), y ∙ sym (rw m at tree-all)))
 
 -- refusals 1, 3, 4, or the elements: o is what `read_elements` answers, t the element table then
 module _ (text : List ℕ) (ew w : ℕ) (o : Reading) (t : List ℕ) (p : o ≡ readingOf text ew) (q : t ≡ elements.tableOf text ew) where
-  strict-as : strictOf text ew w ≡ byReading o text t w
+  strict-as : strictOf text ew w ≡ strictByReading o text t w
   unfolding strictOf
   strict-as = rw (← p, ← q)
 
@@ -103,17 +103,17 @@ module _ (text : List ℕ) (ew w : ℕ) (o : Reading) (t : List ℕ) (p : o ≡ 
   unfolding treeAfter
   after-as = rw (← p, ← q)
 
-  kept-as : elementsAfter text ew w ≡ kept (strictOf text ew w) t
-  unfolding elementsAfter
+  kept-as : elementsAfterStrict text ew w ≡ keptByStrict (strictOf text ew w) t
+  unfolding elementsAfterStrict
   kept-as = rw (← q)
 
-  pub strict-read : (n : ElementNumber) (r : Strict) (x u : List ℕ) → o ≡ R.Read n → r ≡ elementsAs text t (n .0) w → x ≡ kept (elementsAs text t (n .0) w) t → u ≡ treeAs text t (n .0) w → (r ≡ strictOf text ew w) × ((x ≡ elementsAfter text ew w) × (u ≡ treeAfter text ew w))
+  pub strict-read : (n : ElementNumber) (r : Strict) (x u : List ℕ) → o ≡ R.Read n → r ≡ elementsAs text t (n .0) w → x ≡ keptByStrict (elementsAs text t (n .0) w) t → u ≡ treeAs text t (n .0) w → (r ≡ strictOf text ew w) × ((x ≡ elementsAfterStrict text ew w) × (u ≡ treeAfter text ew w))
   strict-read n r x u m e z y =
       let g : strictOf text ew w ≡ elementsAs text t (n .0) w = rw m at strict-as in
-      (e ∙ sym g, (z ∙ ap (λ (s : Strict). kept s t) (sym g) ∙ sym kept-as, y ∙ sym (rw m at after-as)))
+      (e ∙ sym g, (z ∙ ap (λ (s : Strict). keptByStrict s t) (sym g) ∙ sym kept-as, y ∙ sym (rw m at after-as)))
 
-  pub strict-refused : (r : Refusal) (u : List ℕ) → o ≡ R.Refused r → u ≡ replicate w 0 → (Refused (S.Elements r) ≡ strictOf text ew w) × ((t ≡ elementsAfter text ew w) × (u ≡ treeAfter text ew w))
+  pub strict-refused : (r : Refusal) (u : List ℕ) → o ≡ R.Refused r → u ≡ replicate w 0 → (Refused (S.Elements r) ≡ strictOf text ew w) × ((t ≡ elementsAfterStrict text ew w) × (u ≡ treeAfter text ew w))
   strict-refused r u m y =
       let z : t ≡ replicate ew 0 = q ∙ table-refused text ew (sym p ∙ m) in
       let g : Refused (S.Elements r) ≡ strictOf text ew w = sym (rw m at strict-as) in
-      (g, (z ∙ ap (λ (k : ℕ). replicate k 0) (sym (ap length z ∙ length-replicate ew 0)) ∙ ap (λ (s : Strict). kept s t) g ∙ sym kept-as, y ∙ sym (rw m at after-as)))
+      (g, (z ∙ ap (λ (k : ℕ). replicate k 0) (sym (ap length z ∙ length-replicate ew 0)) ∙ ap (λ (s : Strict). keptByStrict s t) g ∙ sym kept-as, y ∙ sym (rw m at after-as)))

@@ -14,18 +14,18 @@ use Rattle.element_reading.specs.Reading.{readingOf, tableOf}
 use Rattle.element_reading.specs.declared.Reading.{Reading}
 use Rattle.element_reading.specs.declared.Reading.the-variants as R
 use Rattle.element_reading.proofs.Answers.{table-read, table-length}
-use Rattle.forms.specs.code.Frames.{State, rowsOf}
+use Rattle.forms.specs.code.Frames.{State, stateRows}
 use Rattle.forms.specs.Tree as forms
 use Rattle.forms.specs.code.Frames as frames
-use Rattle.forms.specs.Words.{rowsIn}
-use Rattle.tree.specs.code.Answers.{elementsIn, readingIn, answerOf, noFile, nameDiffers, tooDeep, tableShort}
+use Rattle.forms.specs.Words.{treeRowsIn}
+use Rattle.tree.specs.code.Answers.{elementsCounted, readingIn, treeAnswerOf, noFile, nameDiffers, tooDeep, tableShort}
 use Rattle.forms.specs.Words.{wordsOf}
 use Rattle.laws.proofs.Laws.{clash}
 use Rattle.tree.specs.code.Answers as answers
 use Rattle.tree.specs.declared.Answer.{Answer}
 use Rattle.tree.specs.declared.Answer.the-variants as A
 use Rattle.tree_promises.specs.Due.{NoFileFirst, NameFirst, DepthFirst}
-use Rattle.tree_promises.specs.code.Promises.{Answered}
+use Rattle.tree_promises.specs.code.Promises.{treeAnswer}
 use Rattle.tree_promises.specs.code.Promises as trees
 use Rattle.tree_promises.proofs.Exactly.{reading-file, file-reading}
 use Rattle.tree_promises.proofs.Promises.{accepts, has-rows, no-file-exactly, name-differs-exactly, too-deep-exactly, is-short, zeros-else, each-label-leads, elsewhere, none-elsewhere}
@@ -40,11 +40,11 @@ use Rattle.refusals.specs.declared.StrictRefusal.{StrictRefusal}
 use Rattle.refusals.specs.declared.StrictRefusal.the-variants as S
 use Rattle.strict_reading.specs.declared.Strict.{Strict}
 use Rattle.strict_reading.specs.declared.Strict.the-variants.{Read, Refused}
-use Rattle.strict_reading.specs.code.Strict.{unreadableFrom, byAnswer, treeTable, fileOf, byUnread, elementsAs, byReading, strictOf, kept, elementsAfter, treeByUnread, treeAs, treeByReading, treeAfter}
+use Rattle.strict_reading.specs.code.Strict.{unreadableFrom, byAnswer, treeTable, fileOf, byUnread, elementsAs, strictByReading, strictOf, keptByStrict, elementsAfterStrict, treeByUnread, treeAs, treeByReading, treeAfter}
 use Rattle.element_reading.specs.Given.{elementCount, Taken}
 use Rattle.element_reading.specs.Given as given
 use Rattle.element_reading.proofs.Answers as reading
-use Rattle.strict_reading.specs.Given.{FirstUnreadable, Readable, Elements, alike, File, ReadAs, IsRead, Given, of-elements, unreadable, no-file, name-differs, too-deep, tree-short}
+use Rattle.strict_reading.specs.Given.{FirstUnreadable, Readable, Elements, sameNameIn, File, ReadAs, IsRead, Given, of-elements, unreadable, no-file, name-differs, too-deep, tree-short}
 use Rattle.strict_reading.specs.Permitted.{Permitted}
 use Rattle.strict_reading.specs.Promises.{Accepted, RefusedExactly, NoChoice, SomeAnswer}
 use Rattle.element_reading.proofs.Answers.{ReadingSays, reading-says, taken-read, refused-reading}
@@ -52,7 +52,7 @@ use Rattle.strict_reading.proofs.Given.{all-count, UnreadSays, unread-s
 use Rattle.strict_reading.proofs.Held.{of-text, of-table, rows-in, verdict-rows}
 
 -- what a reading answers, layer by layer
-strict-by : (text : List ℕ) (ew tw : ℕ) (o : Reading) → readingOf text ew ≡ o → strictOf text ew tw ≡ byReading o text (tableOf text ew) tw
+strict-by : (text : List ℕ) (ew tw : ℕ) (o : Reading) → readingOf text ew ≡ o → strictOf text ew tw ≡ strictByReading o text (tableOf text ew) tw
 unfolding strictOf
 strict-by text ew tw o e = rw e
 
@@ -69,14 +69,14 @@ module _ (text table : List ℕ) (n tw : ℕ) where
   unfolding treeAs
   tree-by f e = rw e
 
-  file-by : (a : Answer) → answerOf tw (readingIn text table (elementsIn table n)) ≡ a → fileOf text table n tw ≡ byAnswer a (treeTable text table n tw)
+  file-by : (a : Answer) → treeAnswerOf tw (readingIn text table (elementsCounted table n)) ≡ a → fileOf text table n tw ≡ byAnswer a (treeTable text table n tw)
   unfolding fileOf
   file-by a e = rw e
 
   -- a file that is refused leaves zeros in the tree table
   file-zeros : (r : StrictRefusal) → fileOf text table n tw ≡ Refused r → treeTable text table n tw ≡ replicate tw 0
   unfolding treeTable
-  file-zeros r e = zeros-else text table (elementsIn table n) tw (λ rows m. let z : Read rows (verdictOf (treeTable text table n tw) rows) ≡ Refused r = sym (file-by (A.Tree rows) m) ∙ e in let c : _≡_ {A = ℕ} 0 1 = cc in omega arith)
+  file-zeros r e = zeros-else text table (elementsCounted table n) tw (λ rows m. let z : Read rows (verdictOf (treeTable text table n tw) rows) ≡ Refused r = sym (file-by (A.Tree rows) m) ∙ e in let c : _≡_ {A = ℕ} 0 1 = cc in omega arith)
 
   all-zeros : (f : Unread) → unreadableFrom 0 (kindsOf n table) ≡ f → (r : StrictRefusal) → elementsAs text table n tw ≡ Refused r → treeAs text table n tw ≡ replicate tw 0
   all-zeros (U.At k) f r e = tree-by (U.At k) f
@@ -89,10 +89,10 @@ tree-zeros text ew tw (R.Read n) o r e =
     ∙ all-zeros text (tableOf text ew) (n .0) tw (unreadableFrom 0 (kindsOf (n .0) (tableOf text ew))) refl r (sym (strict-by text ew tw (R.Read n) o) ∙ e)
 
 -- a refusal leaves zeros
-zeros-on-refusal : (text : List ℕ) (ew tw : ℕ) (r : StrictRefusal) → strictOf text ew tw ≡ Refused r → (elementsAfter text ew tw ≡ replicate ew 0) × (treeAfter text ew tw ≡ replicate tw 0)
-unfolding elementsAfter
+zeros-on-refusal : (text : List ℕ) (ew tw : ℕ) (r : StrictRefusal) → strictOf text ew tw ≡ Refused r → (elementsAfterStrict text ew tw ≡ replicate ew 0) × (treeAfter text ew tw ≡ replicate tw 0)
+unfolding elementsAfterStrict
 zeros-on-refusal text ew tw r e =
-    (ap (λ (s : Strict). kept s (tableOf text ew)) e ∙ ap (λ (k : ℕ). replicate k 0) (table-length text ew), tree-zeros text ew tw (readingOf text ew) refl r e)
+    (ap (λ (s : Strict). keptByStrict s (tableOf text ew)) e ∙ ap (λ (k : ℕ). replicate k 0) (table-length text ew), tree-zeros text ew tw (readingOf text ew) refl r e)
 
 -- a text whose elements are taken and readable is answered as they are
 module _ (text : List ℕ) (ew tw : ℕ) where
@@ -101,44 +101,44 @@ module _ (text : List ℕ) (ew tw : ℕ) where
       strict-by text ew tw (R.Read (record { 0 = elementCount text })) (taken-read text ew (r .0))
       ∙ all-by text (tableOf text ew) (elementCount text) tw U.Nothing (none-unread text ew (r .0) (r .1))
 
-  answered-as : Taken text ew → (a : Answer) → Answered text (tableOf text ew) (elementCount text) tw ≡ a
+  answered-as : Taken text ew → (a : Answer) → treeAnswer text (tableOf text ew) (elementCount text) tw ≡ a
       → fileOf text (tableOf text ew) (elementCount text) tw ≡ byAnswer a (treeTable text (tableOf text ew) (elementCount text) tw)
   answered-as t a e =
       file-by text (tableOf text ew) (elementCount text) tw a
-      (ap (λ (k : ℕ). answerOf tw (readingIn text (tableOf text ew) k)) (all-count text ew t) ∙ e)
+      (ap (λ (k : ℕ). treeAnswerOf tw (readingIn text (tableOf text ew) k)) (all-count text ew t) ∙ e)
 
   -- the tree table has the file's rows
-  tree-rows : Taken text ew → (s : State) → trees.File text (tableOf text ew) (elementCount text) s → 5 * length (rowsOf s) ≤ tw
-      → treeTable text (tableOf text ew) (elementCount text) tw ≡ wordsOf (rowsOf s) ++ replicate (tw - 5 * length (rowsOf s)) 0
+  tree-rows : Taken text ew → (s : State) → trees.ReadsAsFile text (tableOf text ew) (elementCount text) s → 5 * length (stateRows s) ≤ tw
+      → treeTable text (tableOf text ew) (elementCount text) tw ≡ wordsOf (stateRows s) ++ replicate (tw - 5 * length (stateRows s)) 0
   unfolding treeTable
   tree-rows t s f l =
-      ap (λ (k : ℕ). answers.tableOf tw (readingIn text (tableOf text ew) k)) (all-count text ew t) ∙ has-rows text (tableOf text ew) (elementCount text) tw s f l
+      ap (λ (k : ℕ). answers.treeTableOf tw (readingIn text (tableOf text ew) k)) (all-count text ew t) ∙ has-rows text (tableOf text ew) (elementCount text) tw s f l
 
   -- the verdict on the tree table is that on the file's rows
-  verdict-as : Taken text ew → (s : State) → trees.File text (tableOf text ew) (elementCount text) s → (rows : ℕ) → length (rowsOf s) ≡ rows → 5 * rows ≤ tw → (v : Verdict)
-      → (verdictOf (treeTable text (tableOf text ew) (elementCount text) tw) rows ≡ v) ↔ Judged text (cells (elements.rowsOf text)) (rowsOf s) v
+  verdict-as : Taken text ew → (s : State) → trees.ReadsAsFile text (tableOf text ew) (elementCount text) s → (rows : ℕ) → length (stateRows s) ≡ rows → 5 * rows ≤ tw → (v : Verdict)
+      → (verdictOf (treeTable text (tableOf text ew) (elementCount text) tw) rows ≡ v) ↔ Judged text (cells (elements.rowsOf text)) (stateRows s) v
   verdict-as t s f rows c l v =
-      let m : 5 * length (rowsOf s) ≤ tw = omega arith in
-      subst (λ (n : ℕ). (verdictOf (treeTable text (tableOf text ew) (elementCount text) tw) n ≡ v) ↔ Judged text (cells (elements.rowsOf text)) (rowsOf s) v) c
-      (subst (λ (x : List ℕ). (verdictOf x (length (rowsOf s)) ≡ v) ↔ Judged text (cells (elements.rowsOf text)) (rowsOf s) v) (sym (tree-rows t s f m))
-      (verdict-rows text (cells (elements.rowsOf text)) (rowsOf s) tw (each-label-leads text (tableOf text ew) (elementCount text) s f) m v))
+      let m : 5 * length (stateRows s) ≤ tw = omega arith in
+      subst (λ (n : ℕ). (verdictOf (treeTable text (tableOf text ew) (elementCount text) tw) n ≡ v) ↔ Judged text (cells (elements.rowsOf text)) (stateRows s) v) c
+      (subst (λ (x : List ℕ). (verdictOf x (length (stateRows s)) ≡ v) ↔ Judged text (cells (elements.rowsOf text)) (stateRows s) v) (sym (tree-rows t s f m))
+      (verdict-rows text (cells (elements.rowsOf text)) (stateRows s) tw (each-label-leads text (tableOf text ew) (elementCount text) s f) m v))
 
   -- when each refusal is given, refusal by refusal
   abbrev GivenAs : StrictRefusal → Type 0
   GivenAs (S.Elements r) = reading.GivenAs text ew r
   GivenAs (S.Unreadable e) = Taken text ew × FirstUnreadable (elements.rowsOf text) (e .0)
-  GivenAs (S.NoFile e) = Readable text ew × NoFileFirst (alike text) (Elements text) (e .0)
-  GivenAs (S.NameDiffers e) = Readable text ew × NameFirst (alike text) (Elements text) (e .0)
-  GivenAs (S.TooDeep e) = Readable text ew × DepthFirst (alike text) (Elements text) (e .0)
+  GivenAs (S.NoFile e) = Readable text ew × NoFileFirst (sameNameIn text) (Elements text) (e .0)
+  GivenAs (S.NameDiffers e) = Readable text ew × NameFirst (sameNameIn text) (Elements text) (e .0)
+  GivenAs (S.TooDeep e) = Readable text ew × DepthFirst (sameNameIn text) (Elements text) (e .0)
   GivenAs (S.TreeShort rows) = Readable text ew × (rows ≡ tw / 5) × ((l : List forms.Row) × (File text l × (tw < 5 * length l)))
 
   -- and by the numbers of 01's table
   abbrev At : ℕ → ℕ → Type 0
   At n k =
       cond (eqb n 2) (Taken text ew × FirstUnreadable (elements.rowsOf text) k)
-      (cond (eqb n 5) (Readable text ew × NoFileFirst (alike text) (Elements text) k)
-      (cond (eqb n 6) (Readable text ew × NameFirst (alike text) (Elements text) k)
-      (cond (eqb n 7) (Readable text ew × DepthFirst (alike text) (Elements text) k)
+      (cond (eqb n 5) (Readable text ew × NoFileFirst (sameNameIn text) (Elements text) k)
+      (cond (eqb n 6) (Readable text ew × NameFirst (sameNameIn text) (Elements text) k)
+      (cond (eqb n 7) (Readable text ew × DepthFirst (sameNameIn text) (Elements text) k)
       (cond (eqb n 8) (Readable text ew × (k ≡ tw / 5) × ((l : List forms.Row) × (File text l × (tw < 5 * length l)))) (given.Given text ew n k)))))
 
   numbered : {n k : ℕ} → Given text ew tw n k → At n k
@@ -175,23 +175,23 @@ module _ (text : List ℕ) (ew tw : ℕ) where
   Says (Refused r) = GivenAs r
 
   -- a reading of the text's elements is a file's, and a file has one
-  is-file : (s : State) → frames.Reading (alike text) (Elements text) s → File text (rowsOf s)
-  is-file = reading-file (alike text) (Elements text)
+  is-file : (s : State) → frames.Reading (sameNameIn text) (Elements text) s → File text (stateRows s)
+  is-file = reading-file (sameNameIn text) (Elements text)
 
-  is-read : (l : List forms.Row) → File text l → (s : State) × (frames.Reading (alike text) (Elements text) s × (rowsOf s ≡ l))
-  is-read = file-reading (alike text) (Elements text)
+  is-read : (l : List forms.Row) → File text l → (s : State) × (frames.Reading (sameNameIn text) (Elements text) s × (stateRows s ≡ l))
+  is-read = file-reading (sameNameIn text) (Elements text)
 
   file-says : Readable text ew → Says (fileOf text (tableOf text ew) (elementCount text) tw)
-  file-says r = go (Answered text (tableOf text ew) (elementCount text) tw) refl
+  file-says r = go (treeAnswer text (tableOf text ew) (elementCount text) tw) refl
     where
-      says : (a : Answer) → Answered text (tableOf text ew) (elementCount text) tw ≡ a → Says (byAnswer a (treeTable text (tableOf text ew) (elementCount text) tw)) → Says (fileOf text (tableOf text ew) (elementCount text) tw)
+      says : (a : Answer) → treeAnswer text (tableOf text ew) (elementCount text) tw ≡ a → Says (byAnswer a (treeTable text (tableOf text ew) (elementCount text) tw)) → Says (fileOf text (tableOf text ew) (elementCount text) tw)
       says a e x = subst Says (sym (answered-as (r .0) a e)) x
 
-      go : (a : Answer) → Answered text (tableOf text ew) (elementCount text) tw ≡ a → Says (fileOf text (tableOf text ew) (elementCount text) tw)
+      go : (a : Answer) → treeAnswer text (tableOf text ew) (elementCount text) tw ≡ a → Says (fileOf text (tableOf text ew) (elementCount text) tw)
       go (A.Tree rows) e =
           let f = accepts text (tableOf text ew) (elementCount text) tw rows .0 e in
           says (A.Tree rows) e
-          (rowsOf (f .0), (r, is-file (f .0) (of-text text ew (r .0) (λ a w. frames.Reading a w (f .0)) (f .1 .0)), f .1 .1, f .1 .2, verdict-as (r .0) (f .0) (f .1 .0) rows (f .1 .1) (f .1 .2) (verdictOf (treeTable text (tableOf text ew) (elementCount text) tw) rows) .0 refl))
+          (stateRows (f .0), (r, is-file (f .0) (of-text text ew (r .0) (λ a w. frames.Reading a w (f .0)) (f .1 .0)), f .1 .1, f .1 .2, verdict-as (r .0) (f .0) (f .1 .0) rows (f .1 .1) (f .1 .2) (verdictOf (treeTable text (tableOf text ew) (elementCount text) tw) rows) .0 refl))
       go (A.Refused (S.Elements x)) e = clash (sym (none-elsewhere tw (readingIn text (tableOf text ew) (elementCount text))) ∙ ap elsewhere e)
       go (A.Refused (S.Unreadable x)) e = clash (sym (none-elsewhere tw (readingIn text (tableOf text ew) (elementCount text))) ∙ ap elsewhere e)
       go (A.Refused (S.NoFile x)) e = says (noFile (x .0)) e (r, of-text text ew (r .0) (λ a w. NoFileFirst a w (x .0)) (no-file-exactly text (tableOf text ew) (elementCount text) tw (x .0) .0 e))
@@ -200,7 +200,7 @@ module _ (text : List ℕ) (ew tw : ℕ) where
       go (A.Refused (S.TreeShort k)) e =
           let f = is-short text (tableOf text ew) (elementCount text) tw k .0 e in
           let l = f .1 .1 .1 in
-          says (tableShort k) e (r, f .0, (rowsOf (f .1 .0), (is-file (f .1 .0) (of-text text ew (r .0) (λ a w. frames.Reading a w (f .1 .0)) (f .1 .1 .0)), omega arith)))
+          says (tableShort k) e (r, f .0, (stateRows (f .1 .0), (is-file (f .1 .0) (of-text text ew (r .0) (λ a w. frames.Reading a w (f .1 .0)) (f .1 .1 .0)), omega arith)))
 
   elements-say : Taken text ew → (f : Unread) → unreadableFrom 0 (kindsOf (elementCount text) (tableOf text ew)) ≡ f → UnreadSays (elements.rowsOf text) f → Says (elementsAs text (tableOf text ew) (elementCount text) tw)
   elements-say t (U.At k) e u = subst Says (sym (all-by text (tableOf text ew) (elementCount text) tw (U.At k) e)) (t, u)
@@ -220,7 +220,7 @@ module _ (text : List ℕ) (ew tw : ℕ) where
       let x = is-read l f in
       let s = x .0 in
       let h = of-table text ew (r .0) (λ a w. frames.Reading a w (x .0)) (x .1 .0) in
-      let n : length (rowsOf (x .0)) ≡ rows = ap length (x .1 .1) ∙ c in
+      let n : length (stateRows (x .0)) ≡ rows = ap length (x .1 .1) ∙ c in
       readable-as r
       ∙ answered-as (r .0) (A.Tree rows) (accepts text (tableOf text ew) (elementCount text) tw rows .1 (x .0, (h, n, m)))
       ∙ ap (Read rows) (verdict-as (r .0) (x .0) h rows n m v .1 (subst (λ (y : List forms.Row). Judged text (cells (elements.rowsOf text)) y v) (sym (x .1 .1)) w))
@@ -245,42 +245,42 @@ module _ (text : List ℕ) (ew tw : ℕ) where
   refused-by (S.TreeShort rows) g =
       let x = is-read (g .2 .0) (g .2 .1 .0) in
       let l = g .2 .1 .1 in
-      let m : length (rowsOf (x .0)) ≡ length (g .2 .0) = ap length (x .1 .1) in
+      let m : length (stateRows (x .0)) ≡ length (g .2 .0) = ap length (x .1 .1) in
       readable-as (g .0)
       ∙ answered-as (g .0 .0) (tableShort rows)
       (is-short text (tableOf text ew) (elementCount text) tw rows .1 (g .1, (x .0, (of-table text ew (g .0 .0) (λ a w. frames.Reading a w (x .0)) (x .1 .0), omega arith))))
 
 -- what the tables hold when a text is read
 module _ (text : List ℕ) (ew tw rows : ℕ) (v : Verdict) (l : List forms.Row) (b : ReadAs text ew tw rows v l) where
-  elements-hold : elementsAfter text ew tw ≡ cells (elements.rowsOf text) ++ replicate (ew - rowWords * elementCount text) 0
-  unfolding elementsAfter
+  elements-hold : elementsAfterStrict text ew tw ≡ cells (elements.rowsOf text) ++ replicate (ew - rowWords * elementCount text) 0
+  unfolding elementsAfterStrict
   elements-hold =
-      ap (λ (x : Strict). kept x (tableOf text ew)) (read-by text ew tw rows v (l, b)) ∙ table-read text ew (taken-read text ew (b .0 .0))
+      ap (λ (x : Strict). keptByStrict x (tableOf text ew)) (read-by text ew tw rows v (l, b)) ∙ table-read text ew (taken-read text ew (b .0 .0))
 
   tree-holds : treeAfter text ew tw ≡ wordsOf l ++ replicate (tw - 5 * rows) 0
   tree-holds =
       let x = is-read text ew tw l (b .1) in
       let s = x .0 in
       let h = of-table text ew (b .0 .0) (λ a w. frames.Reading a w (x .0)) (x .1 .0) in
-      let c : length (rowsOf (x .0)) ≡ rows = ap length (x .1 .1) ∙ b .2 in
+      let c : length (stateRows (x .0)) ≡ rows = ap length (x .1 .1) ∙ b .2 in
       let m = b .3 in
       after-by text ew tw (R.Read (record { 0 = elementCount text })) (taken-read text ew (b .0 .0))
       ∙ tree-by text (tableOf text ew) (elementCount text) tw U.Nothing (none-unread text ew (b .0 .0) (b .0 .1))
       ∙ tree-rows text ew tw (b .0 .0) (x .0) h (omega arith)
-      ∙ ap (λ (n : ℕ). wordsOf (rowsOf (x .0)) ++ replicate (tw - 5 * n) 0) c
+      ∙ ap (λ (n : ℕ). wordsOf (stateRows (x .0)) ++ replicate (tw - 5 * n) 0) c
       ∙ ap (λ (y : List forms.Row). wordsOf y ++ replicate (tw - 5 * rows) 0) (x .1 .1)
 
 -- what the code comes to is permitted
-pub is-permitted : (text : List ℕ) (ew tw : ℕ) → Permitted text ew tw (strictOf text ew tw) (elementsAfter text ew tw) (treeAfter text ew tw)
+pub is-permitted : (text : List ℕ) (ew tw : ℕ) → Permitted text ew tw (strictOf text ew tw) (elementsAfterStrict text ew tw) (treeAfter text ew tw)
 is-permitted text ew tw = go (strictOf text ew tw) refl (strict-says text ew tw)
   where
-    go : (r : Strict) → strictOf text ew tw ≡ r → Says text ew tw r → Permitted text ew tw r (elementsAfter text ew tw) (treeAfter text ew tw)
+    go : (r : Strict) → strictOf text ew tw ≡ r → Says text ew tw r → Permitted text ew tw r (elementsAfterStrict text ew tw) (treeAfter text ew tw)
     go (Read rows v) e h = (h .0, (h .1, elements-hold text ew tw rows v (h .0) (h .1), tree-holds text ew tw rows v (h .0) (h .1)))
     go (Refused r) e h = let z = zeros-on-refusal text ew tw r e in (as-given text ew tw r h, z .0, z .1)
 
 -- and nothing else is
 pub permitted-is : (text : List ℕ) (ew tw : ℕ) (r : Strict) (e t : List ℕ) → Permitted text ew tw r e t
-    → (r ≡ strictOf text ew tw) × ((e ≡ elementsAfter text ew tw) × (t ≡ treeAfter text ew tw))
+    → (r ≡ strictOf text ew tw) × ((e ≡ elementsAfterStrict text ew tw) × (t ≡ treeAfter text ew tw))
 permitted-is text ew tw (Read rows v) e t (l, (b, p, q)) =
     (sym (read-by text ew tw rows v (l, b)), (p ∙ sym (elements-hold text ew tw rows v l b), q ∙ sym (tree-holds text ew tw rows v l b)))
 permitted-is text ew tw (Refused r) e t (g, p, q) =
@@ -289,7 +289,7 @@ permitted-is text ew tw (Refused r) e t (g, p, q) =
     (sym d, (p ∙ sym (z .0), q ∙ sym (z .1)))
 
 -- an answer with its tables, as the code comes to them
-pub permitted-by : (text : List ℕ) (ew tw : ℕ) (r : Strict) (e t : List ℕ) → (r ≡ strictOf text ew tw) × ((e ≡ elementsAfter text ew tw) × (t ≡ treeAfter text ew tw))
+pub permitted-by : (text : List ℕ) (ew tw : ℕ) (r : Strict) (e t : List ℕ) → (r ≡ strictOf text ew tw) × ((e ≡ elementsAfterStrict text ew tw) × (t ≡ treeAfter text ew tw))
     → Permitted text ew tw r e t
 permitted-by text ew tw r e t (p, (q, s)) = rw (p, q, s) (is-permitted text ew tw)
 
@@ -300,7 +300,7 @@ no-choice text ew tw r r′ e e′ t t′ p p′ =
     (a .0 ∙ sym (b .0), a .1 .0 ∙ sym (b .1 .0), a .1 .1 ∙ sym (b .1 .1))
 
 pub some-answer : SomeAnswer
-some-answer text ew tw = (strictOf text ew tw, (elementsAfter text ew tw, (treeAfter text ew tw, is-permitted text ew tw)))
+some-answer text ew tw = (strictOf text ew tw, (elementsAfterStrict text ew tw, (treeAfter text ew tw, is-permitted text ew tw)))
 
 pub accepted : Accepted
 accepted text ew tw r e t p rows v =
@@ -315,16 +315,16 @@ refused-exactly text ew tw r e t p x =
     )
 
 -- the rows in the tree table are those of the tree
-rows-of : (text : List ℕ) (ew tw n : ℕ) (v : Verdict) (t : List ℕ) (l : List forms.Row) → ReadAs text ew tw n v l → t ≡ wordsOf l ++ replicate (tw - 5 * n) 0 → rowsIn n t ≡ l
-rows-of text ew tw n v t l b q = ap (rowsIn n) q ∙ ap (λ (m : ℕ). rowsIn m (wordsOf l ++ replicate (tw - 5 * n) 0)) (sym (b .2)) ∙ rows-in l (replicate (tw - 5 * n) 0)
+rows-of : (text : List ℕ) (ew tw n : ℕ) (v : Verdict) (t : List ℕ) (l : List forms.Row) → ReadAs text ew tw n v l → t ≡ wordsOf l ++ replicate (tw - 5 * n) 0 → treeRowsIn n t ≡ l
+rows-of text ew tw n v t l b q = ap (treeRowsIn n) q ∙ ap (λ (m : ℕ). treeRowsIn m (wordsOf l ++ replicate (tw - 5 * n) 0)) (sym (b .2)) ∙ rows-in l (replicate (tw - 5 * n) 0)
 
 -- what holds of the rows of every reading of a text holds of the rows in the tree table
 pub of-rows : (P : List forms.Row → Type 0) (text : List ℕ) (ew tw n : ℕ) (v : Verdict) (e t : List ℕ) → Permitted text ew tw (Read n v) e t
-    → ((s : State) → frames.Reading (alike text) (Elements text) s → P (rowsOf s)) → P (rowsIn n t)
+    → ((s : State) → frames.Reading (sameNameIn text) (Elements text) s → P (stateRows s)) → P (treeRowsIn n t)
 of-rows P text ew tw n v e t (l, (b, p, q)) h =
     let x = is-read text ew tw l (b .1) in
     subst P (x .1 .1 ∙ sym (rows-of text ew tw n v t l b q)) (h (x .0) (x .1 .0))
 
 -- and the verdict is that on them
-pub verdict-of-rows : (text : List ℕ) (ew tw n : ℕ) (v : Verdict) (e t : List ℕ) → Permitted text ew tw (Read n v) e t → Judged text (cells (elements.rowsOf text)) (rowsIn n t) v
+pub verdict-of-rows : (text : List ℕ) (ew tw n : ℕ) (v : Verdict) (e t : List ℕ) → Permitted text ew tw (Read n v) e t → Judged text (cells (elements.rowsOf text)) (treeRowsIn n t) v
 verdict-of-rows text ew tw n v e t (l, (b, p, q)) = subst (λ (rows : List forms.Row). Judged text (cells (elements.rowsOf text)) rows v) (sym (rows-of text ew tw n v t l b q)) (b .4)

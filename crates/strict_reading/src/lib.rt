@@ -9,7 +9,7 @@ ghost use Prim.Native.Nat.{_+_, _*_, _≤_};
 ghost use lib.ListN.{length};
 ghost use Rattle.places.specs.Places.{rowWords, kindsOf};
 ghost use Rattle.strict_reading.specs.Permitted.{Permitted};
-ghost use Rattle.strict_reading.specs.code.Strict.{unreadableFrom, elementsAs, fileOf, treeTable, kept, treeAs};
+ghost use Rattle.strict_reading.specs.code.Strict.{unreadableFrom, elementsAs, fileOf, treeTable, keptByStrict, treeAs};
 
 pub enum Unread {
     At(usize),
@@ -40,7 +40,7 @@ fn first_unreadable(elements: &[u64], count: usize) -> Unread
 // Elements that are all readable, as a file.
 fn read_file(text: &[u8], elements: &mut [u64], count: usize, tree: &mut [u64]) -> Strict
     ensures { λ r. ⌜ r ≡ fileOf (now (text .entry)) (now (elements .entry)) count (length (now (tree .entry))) ⌝ }
-    ensures { λ r. ⌜ now (elements .exit) ≡ kept (fileOf (now (text .entry)) (now (elements .entry)) count (length (now (tree .entry)))) (now (elements .entry)) ⌝ }
+    ensures { λ r. ⌜ now (elements .exit) ≡ keptByStrict (fileOf (now (text .entry)) (now (elements .entry)) count (length (now (tree .entry)))) (now (elements .entry)) ⌝ }
     ensures { λ r. ⌜ now (tree .exit) ≡ treeTable (now (text .entry)) (now (elements .entry)) count (length (now (tree .entry))) ⌝ }
 {
     match tree::read_tree(text, elements, count, tree) {
@@ -56,7 +56,7 @@ fn read_file(text: &[u8], elements: &mut [u64], count: usize, tree: &mut [u64]) 
 fn read_all(text: &[u8], elements: &mut [u64], count: usize, tree: &mut [u64]) -> Strict
     requires { ⌜ rowWords * count ≤ length (now elements) ⌝ }
     ensures { λ r. ⌜ r ≡ elementsAs (now (text .entry)) (now (elements .entry)) count (length (now (tree .entry))) ⌝ }
-    ensures { λ r. ⌜ now (elements .exit) ≡ kept (elementsAs (now (text .entry)) (now (elements .entry)) count (length (now (tree .entry)))) (now (elements .entry)) ⌝ }
+    ensures { λ r. ⌜ now (elements .exit) ≡ keptByStrict (elementsAs (now (text .entry)) (now (elements .entry)) count (length (now (tree .entry)))) (now (elements .entry)) ⌝ }
     ensures { λ r. ⌜ now (tree .exit) ≡ treeAs (now (text .entry)) (now (elements .entry)) count (length (now (tree .entry))) ⌝ }
 {
     match first_unreadable(elements, count) {

@@ -22,7 +22,8 @@ use Rattle.pieces.specs.declared.Recording.the-variants as M
 use Rattle.names.specs.code.Names.{sharedPair}
 use Rattle.names.specs.code.Links.{recordsIn, linksTable, ownsTable, twinsTable, anyTwin}
 use Rattle.names.proofs.Promises.{first-shared, none-shared}
-use Rattle.meaning.specs.Elements.{Piece, piecesOf}
+use Rattle.meaning.specs.Elements.{Piece}
+use Rattle.meaning.specs.Pieces.{piecesOf}
 use Rattle.meaning.proofs.Cutting.{kindsEach}
 use Rattle.meaning.proofs.Frames.{pieces-are}
 use Rattle.meaning.specs.Records.{recordsFrom}
@@ -31,9 +32,9 @@ use Rattle.meaning.proofs.Places.{tableOf}
 use Rattle.meaning.proofs.Stages.{completed-all}
 use Rattle.pieces.specs.Columns.{recordWords}
 use Rattle.survey_reading.proofs.Told.{told-all, pairs-same}
-use Rattle.survey_reading.specs.code.Tables.{pairBy, itemsCompleted, itemsSurvey, piecesSurvey, piecesItems, kept}
+use Rattle.survey_reading.specs.code.Tables.{pairBy, itemsCompleted, itemsSurvey, piecesSurvey, piecesItems, keptBySurvey}
 use Rattle.survey_reading.specs.code.Tables as tables
-use Rattle.survey_reading.specs.code.Survey.{itemTable, summary, left, surveyOf, elementsAfter, itemsAfter, refusedBy, summedOf}
+use Rattle.survey_reading.specs.code.Survey.{itemTable, summary, left, surveyOf, elementsAfterSurvey, itemsAfter, refusedBy, summedOf}
 use Rattle.survey_reading.specs.code.Survey as survey
 use Rattle.survey_reading.specs.declared.Survey.{Survey}
 use Rattle.survey_reading.specs.declared.Ended.{Ended}
@@ -123,8 +124,8 @@ module _ (s : List ℕ) (z : ℕ) where
       survey-is a b = rw (completed-is a, pair-is a b)
 
       by-marking : (m : Recording) → recording (length ps) words ≡ m
-          → (tables.byRecording m s t n (recordTable (piecesIn t n) words) ≡ survey.byRecording m s t n (itemTable s words))
-          × (tables.itemsByMarking m s t n (recordTable (piecesIn t n) words) ≡ left (survey.byRecording m s t n (itemTable s words) .outcome) words (itemTable s words))
+          → (tables.itemsByRecording m s t n (recordTable (piecesIn t n) words) ≡ survey.surveyByRecording m s t n (itemTable s words))
+          × (tables.itemsByMarking m s t n (recordTable (piecesIn t n) words) ≡ left (survey.surveyByRecording m s t n (itemTable s words) .outcome) words (itemTable s words))
       unfolding summary summedOf
       by-marking (M.Recorded k) e =
           let r = marked-room (length ps) words k e in
@@ -133,8 +134,8 @@ module _ (s : List ℕ) (z : ℕ) where
       by-marking M.TooMany e = (refl, zeros-many e)
       by-marking (M.TableShort k) e = (refl, zeros-short k e)
 
-      pub joined : (piecesSurvey s t n words ≡ survey.byRecording (recording (length ps) words) s t n (itemTable s words))
-          × (piecesItems s t n words ≡ left (survey.byRecording (recording (length ps) words) s t n (itemTable s words) .outcome) words (itemTable s words))
+      pub joined : (piecesSurvey s t n words ≡ survey.surveyByRecording (recording (length ps) words) s t n (itemTable s words))
+          × (piecesItems s t n words ≡ left (survey.surveyByRecording (recording (length ps) words) s t n (itemTable s words) .outcome) words (itemTable s words))
       unfolding piecesSurvey piecesItems
       joined = rw marking-is (by-marking (recording (length ps) words) refl)
 
@@ -153,8 +154,8 @@ module _ (s : List ℕ) (w words : ℕ) (r : Reading) (c : ElementNumber) (table
   count-is : c .0 ≡ length (rowsOf s)
   count-is = read-count s w c read-is
 
-  steps : (piecesSurvey s table (c .0) words ≡ survey.byRecording (recording (length (piecesOf s)) words) s (tableOf s z) (length (rowsOf s)) (itemTable s words))
-      × (piecesItems s table (c .0) words ≡ left (survey.byRecording (recording (length (piecesOf s)) words) s (tableOf s z) (length (rowsOf s)) (itemTable s words) .outcome) words (itemTable s words))
+  steps : (piecesSurvey s table (c .0) words ≡ survey.surveyByRecording (recording (length (piecesOf s)) words) s (tableOf s z) (length (rowsOf s)) (itemTable s words))
+      × (piecesItems s table (c .0) words ≡ left (survey.surveyByRecording (recording (length (piecesOf s)) words) s (tableOf s z) (length (rowsOf s)) (itemTable s words) .outcome) words (itemTable s words))
   steps =
       let j = joined s z words (read-few s w c read-is) in (
         ap₂ (λ (u : List ℕ) (k : ℕ). piecesSurvey s u k words) table-is count-is ∙ j .0,
@@ -163,11 +164,11 @@ module _ (s : List ℕ) (w words : ℕ) (r : Reading) (c : ElementNumber) (table
 
   whole : surveyOf s w words ≡ piecesSurvey s table (c .0) words
   unfolding surveyOf
-  whole = rw (read-is) (ap (λ (t : List ℕ). survey.byRecording (recording (length (piecesOf s)) words) s t (length (rowsOf s)) (itemTable s words)) (sym f ∙ table-is) ∙ sym (steps .0))
+  whole = rw (read-is) (ap (λ (t : List ℕ). survey.surveyByRecording (recording (length (piecesOf s)) words) s t (length (rowsOf s)) (itemTable s words)) (sym f ∙ table-is) ∙ sym (steps .0))
 
-  pub way-read : (x : Survey) (table′ items′ : List ℕ) → x ≡ piecesSurvey s table (c .0) words → table′ ≡ kept (piecesSurvey s table (c .0) words) table → items′ ≡ piecesItems s table (c .0) words
-      → (x ≡ surveyOf s w words) × ((table′ ≡ elementsAfter s w words) × (items′ ≡ itemsAfter s w words))
-  unfolding elementsAfter itemsAfter
+  pub way-read : (x : Survey) (table′ items′ : List ℕ) → x ≡ piecesSurvey s table (c .0) words → table′ ≡ keptBySurvey (piecesSurvey s table (c .0) words) table → items′ ≡ piecesItems s table (c .0) words
+      → (x ≡ surveyOf s w words) × ((table′ ≡ elementsAfterSurvey s w words) × (items′ ≡ itemsAfter s w words))
+  unfolding elementsAfterSurvey itemsAfter
   way-read x table′ items′ p q h = (
     p ∙ sym whole,
     (
@@ -181,8 +182,8 @@ module _ (s : List ℕ) (w words : ℕ) (r : Reading) (c : ElementNumber) (table
       kept-left (Refused y) = ap (λ (k : ℕ). replicate k 0) (ap length f ∙ table-length s w)
 
 pub way-refused : (s : List ℕ) (w words : ℕ) (r : Reading) (y : Refusal) (table items′ : List ℕ) (x : Survey) → r ≡ readingOf s w → table ≡ elements.tableOf s w → r ≡ R.Refused y
-    → items′ ≡ replicate words 0 → x ≡ refusedBy (Elements y) → (x ≡ surveyOf s w words) × ((table ≡ elementsAfter s w words) × (items′ ≡ itemsAfter s w words))
-unfolding surveyOf elementsAfter itemsAfter
+    → items′ ≡ replicate words 0 → x ≡ refusedBy (Elements y) → (x ≡ surveyOf s w words) × ((table ≡ elementsAfterSurvey s w words) × (items′ ≡ itemsAfter s w words))
+unfolding surveyOf elementsAfterSurvey itemsAfter
 way-refused s w words r y table items′ x e f g h p =
     let z : readingOf s w ≡ R.Refused y = sym e ∙ g in
     (rw z p, (rw z (f ∙ table-refused s w z), rw z h))

@@ -16,7 +16,7 @@ use Rattle.pairs.specs.declared.Pair.the-variants.{Neither}
 use Rattle.names.specs.code.Links.{linksTable, ownsTable, twinsTable, anyTwin}
 use Rattle.tree.specs.code.PieceRows.{itemRows}
 use Rattle.items.specs.code.Items.{completed}
-use Rattle.survey_reading.specs.code.Tables.{pairBy, itemsCompleted, itemsSurvey, piecesSurvey, piecesItems, kept}
+use Rattle.survey_reading.specs.code.Tables.{pairBy, itemsCompleted, itemsSurvey, piecesSurvey, piecesItems, keptBySurvey}
 use Rattle.survey_reading.specs.code.Survey.{refusedBy, summedOf}
 use Rattle.survey_reading.specs.declared.Survey.{Survey}
 use Rattle.survey_reading.specs.declared.Ended.the-variants.{Done}
@@ -53,16 +53,16 @@ module _ (text table items : List ℕ) (count words : ℕ) (m : Recording) (p : 
   marks-done n e = (rw (← p, e, ← q), rw (← p, e, ← q))
 
   pub way-done : (n : ℕ) (items′ : List ℕ) (r : Survey) → m ≡ M.Recorded n → r ≡ itemsSurvey text table count items n → items′ ≡ itemsCompleted text table count items n
-      → (r ≡ piecesSurvey text table count words) × ((table ≡ kept (piecesSurvey text table count words) table) × (items′ ≡ piecesItems text table count words))
+      → (r ≡ piecesSurvey text table count words) × ((table ≡ keptBySurvey (piecesSurvey text table count words) table) × (items′ ≡ piecesItems text table count words))
   unfolding itemsSurvey summedOf
   way-done n items′ r e y z = let o = marks-done n e in (y ∙ sym (o .0), (rw (o .0), z ∙ sym (o .1)))
 
   pub way-many : (table′ : List ℕ) (r : Survey) → m ≡ M.TooMany → table′ ≡ replicate (length table) 0 → r ≡ refusedBy TooMany
-      → (r ≡ piecesSurvey text table count words) × ((table′ ≡ kept (piecesSurvey text table count words) table) × (items ≡ piecesItems text table count words))
+      → (r ≡ piecesSurvey text table count words) × ((table′ ≡ keptBySurvey (piecesSurvey text table count words) table) × (items ≡ piecesItems text table count words))
   unfolding piecesSurvey piecesItems
   way-many table′ r e y z = (rw (← p, e) z, (rw (← p, e) y, rw (← p, e) q))
 
   pub way-short : (rows : ℕ) (table′ : List ℕ) (r : Survey) → m ≡ M.TableShort rows → table′ ≡ replicate (length table) 0 → r ≡ refusedBy (ItemsShort rows)
-      → (r ≡ piecesSurvey text table count words) × ((table′ ≡ kept (piecesSurvey text table count words) table) × (items ≡ piecesItems text table count words))
+      → (r ≡ piecesSurvey text table count words) × ((table′ ≡ keptBySurvey (piecesSurvey text table count words) table) × (items ≡ piecesItems text table count words))
   unfolding piecesSurvey piecesItems
   way-short rows table′ r e y z = (rw (← p, e) z, (rw (← p, e) y, rw (← p, e) q))

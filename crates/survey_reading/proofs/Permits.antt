@@ -23,7 +23,8 @@ use Rattle.element_reading.specs.declared.Reading.the-variants as R
 use Rattle.element_reading.specs.Given.{Taken}
 use Rattle.element_reading.proofs.Answers.{taken-read, table-read}
 use Rattle.refusals.specs.declared.SurveyRefusal.{SurveyRefusal}
-use Rattle.meaning.specs.Elements.{Piece, piecesOf}
+use Rattle.meaning.specs.Elements.{Piece}
+use Rattle.meaning.specs.Pieces.{piecesOf}
 use Rattle.meaning.specs.Names.{Done}
 use Rattle.meaning.specs.Meaning.{Come}
 use Rattle.meaning.specs.code.PieceValues.{valueOf, doneOf, donesFrom, donesOf, recordsOf}
@@ -38,16 +39,16 @@ use Rattle.meaning.proofs.Comes.{come-exactly}
 use Rattle.meaning.proofs.Together.{Known, state-count, folds-none, none-folds, one-pair, pair-is}
 use Rattle.meaning.proofs.Frames.{frame-is}
 use Rattle.pieces.specs.Columns.{recordWords}
-use Rattle.survey_reading.specs.code.Survey.{itemTable, summary, summedOf, byRecording, byReading, surveyOf, elementsAfter, itemsAfter, refusedBy}
+use Rattle.survey_reading.specs.code.Survey.{itemTable, summary, summedOf, surveyByRecording, surveyByReading, surveyOf, elementsAfterSurvey, itemsAfter, refusedBy}
 use Rattle.survey_reading.specs.Given.{Given}
-use Rattle.survey_reading.specs.Permitted.{Finished, PermittedBy, Permitted, Leaves}
+use Rattle.survey_reading.specs.Permitted.{Finished, PermittedBy, Permitted, LeavesTables}
 use Rattle.survey_reading.specs.code.Promises.{NoChoice}
 use Rattle.survey_reading.specs.declared.Ended.{Ended}
 use Rattle.survey_reading.specs.declared.Ended.the-variants as answer
 use Rattle.survey_reading.specs.declared.Summary.{Summary}
 use Rattle.survey_reading.specs.declared.Survey.{Survey}
 use Rattle.survey_reading.proofs.Told.{dones-pieces}
-use Rattle.survey_reading.proofs.Promises.{zeros-on-refusal, surveyed, refused-exactly, says-of-records}
+use Rattle.survey_reading.proofs.Promises.{zeros-on-refusal, surveyed-exactly, refused-exactly, says-of-records}
 
 -- ---- the eleven counts
 
@@ -56,13 +57,13 @@ unfolding countsFrom
 counts-eleven items n k zero = refl
 counts-eleven items n k (suc m) = ap suc (counts-eleven items n (suc k) m)
 
-eleven-marked : (m : Recording) (s table : List ℕ) (count : ℕ) (items : List ℕ) → length (byRecording m s table count items .tally .counts) ≡ 11
+eleven-marked : (m : Recording) (s table : List ℕ) (count : ℕ) (items : List ℕ) → length (surveyByRecording m s table count items .tally .counts) ≡ 11
 unfolding summary summedOf tallyOf
 eleven-marked (M.Recorded n) s table count items = counts-eleven items n 0 11
 eleven-marked M.TooMany s table count items = refl
 eleven-marked (M.TableShort n) s table count items = refl
 
-eleven-read : (r : Reading) (s table : List ℕ) (words : ℕ) → length (byReading r s table words .tally .counts) ≡ 11
+eleven-read : (r : Reading) (s table : List ℕ) (words : ℕ) → length (surveyByReading r s table words .tally .counts) ≡ 11
 eleven-read (R.Refused r) s table words = refl
 eleven-read (R.Read n) s table words = eleven-marked (recording (length (piecesOf s)) words) s table (length (rowsOf s)) (itemTable s words)
 
@@ -84,7 +85,7 @@ module _ (s : List ℕ) (e i : ℕ) (y : Summary) (h : surveyOf s e i .outcome �
   ps = piecesOf s
 
   room : Taken s e × (length (piecesOf s) ≤ 1024) × (recordWords * length (piecesOf s) ≤ i)
-  room = surveyed s e i .0 (y, h)
+  room = surveyed-exactly s e i .0 (y, h)
 
   abbrev ds : List Done
   ds = donesOf (piecesOf s)
@@ -124,7 +125,7 @@ module _ (s : List ℕ) (e i : ℕ) (y : Summary) (h : surveyOf s e i .outcome �
         λ a. w .1 (frame .1 (a .0), λ k l m. counted k m ∙ folds-none ds (a .1) k l),
       )
 
-  finished : Finished s e i y (surveyOf s e i .tally) (elementsAfter s e i) (itemsAfter s e i)
+  finished : Finished s e i y (surveyOf s e i .tally) (elementsAfterSurvey s e i) (itemsAfter s e i)
   unfolding donesOf
   finished =
       let r = says-of-records s e i y h in
@@ -144,16 +145,16 @@ module _ (s : List ℕ) (e i : ℕ) (y : Summary) (h : surveyOf s e i .outcome �
         whole = whole;
       }
 
-pub permits : (s : List ℕ) (e i : ℕ) → Permitted s e i (surveyOf s e i) (elementsAfter s e i) (itemsAfter s e i)
+pub permits : (s : List ℕ) (e i : ℕ) → Permitted s e i (surveyOf s e i) (elementsAfterSurvey s e i) (itemsAfter s e i)
 permits s e i = go (surveyOf s e i .outcome) refl
   where
-    go : (o : Ended) → surveyOf s e i .outcome ≡ o → PermittedBy s e i o (surveyOf s e i .tally) (elementsAfter s e i) (itemsAfter s e i)
+    go : (o : Ended) → surveyOf s e i .outcome ≡ o → PermittedBy s e i o (surveyOf s e i .tally) (elementsAfterSurvey s e i) (itemsAfter s e i)
     go (answer.Done y) h = finished s e i y h
     go (answer.Refused r) h = let q = zeros-on-refusal s e i r h in (refused-exactly s e i r .0 h, ap (λ (x : Survey). x .tally .counts) (q .2), q .0, q .1)
 
-pub permits-these : (s : List ℕ) (e i : ℕ) (x : Survey) (t u : List ℕ) → (x ≡ surveyOf s e i) × ((t ≡ elementsAfter s e i) × (u ≡ itemsAfter s e i)) → Permitted s e i x t u
+pub permits-these : (s : List ℕ) (e i : ℕ) (x : Survey) (t u : List ℕ) → (x ≡ surveyOf s e i) × ((t ≡ elementsAfterSurvey s e i) × (u ≡ itemsAfter s e i)) → Permitted s e i x t u
 permits-these s e i x t u (p, (q, r)) =
-    subst (λ (v : Survey). Permitted s e i v t u) (sym p) (subst (λ (v : List ℕ). Permitted s e i (surveyOf s e i) v u) (sym q) (subst (Permitted s e i (surveyOf s e i) (elementsAfter s e i)) (sym r) (permits s e i)))
+    subst (λ (v : Survey). Permitted s e i v t u) (sym p) (subst (λ (v : List ℕ). Permitted s e i (surveyOf s e i) v u) (sym q) (subst (Permitted s e i (surveyOf s e i) (elementsAfterSurvey s e i)) (sym r) (permits s e i)))
 
 -- ---- any two answers that are permitted coincide
 
@@ -184,7 +185,7 @@ module _ (s : List ℕ) (e i : ℕ) where
       )
 
   not-both : (r : SurveyRefusal) (y : Summary) (l : Tally) (t u : List ℕ) → surveyOf s e i .outcome ≡ answer.Refused r → Finished s e i y l t u → ⊥
-  not-both r y l t u h a = let d = surveyed s e i .1 (a .taken, a .few, a .room) in let q = d .1 in let z : _≡_ {A = ℕ} 0 1 = cc in clash z
+  not-both r y l t u h a = let d = surveyed-exactly s e i .1 (a .taken, a .few, a .room) in let q = d .1 in let z : _≡_ {A = ℕ} 0 1 = cc in clash z
 
   same-by : (o o′ : Ended) (l l′ : Tally) (t t′ u u′ : List ℕ) → PermittedBy s e i o l t u → PermittedBy s e i o′ l′ t′ u′ → Same o o′ l l′ t t′ u u′
   same-by (answer.Done y) (answer.Done y′) l l′ t t′ u u′ a b = same-finished y y′ l l′ t t′ u u′ a b
@@ -203,8 +204,8 @@ module _ (s : List ℕ) (e i : ℕ) where
       (ap₂ (λ (o : Ended) (l : Tally). record { outcome = o; tally = l }) (q .0) (q .1), q .2, q .3)
 
   -- the equalities that callers use
-  pub permitted-is : (x : Survey) (t u : List ℕ) → Permitted s e i x t u → (x ≡ surveyOf s e i) × (t ≡ elementsAfter s e i) × (u ≡ itemsAfter s e i)
-  permitted-is x t u a = one-permitted x (surveyOf s e i) t (elementsAfter s e i) u (itemsAfter s e i) a (permits s e i)
+  pub permitted-is : (x : Survey) (t u : List ℕ) → Permitted s e i x t u → (x ≡ surveyOf s e i) × (t ≡ elementsAfterSurvey s e i) × (u ≡ itemsAfter s e i)
+  permitted-is x t u a = one-permitted x (surveyOf s e i) t (elementsAfterSurvey s e i) u (itemsAfter s e i) a (permits s e i)
 
 pub no-choice : NoChoice
 no-choice s e i x x′ t t′ u u′ a b = one-permitted s e i x x′ t t′ u u′ a b
@@ -215,14 +216,14 @@ pub record Left (s t u : List ℕ) : Type 0 where
   pub itemWords : ℕ
   pub summary : Summary
   pub done : surveyOf s elementWords itemWords .outcome ≡ answer.Done summary
-  pub elements-are : t ≡ elementsAfter s elementWords itemWords
+  pub elements-are : t ≡ elementsAfterSurvey s elementWords itemWords
   pub items-are : u ≡ itemsAfter s elementWords itemWords
 
-pub left-so : (s t u : List ℕ) → Leaves s t u → Left s t u
+pub left-so : (s t u : List ℕ) → LeavesTables s t u → Left s t u
 left-so s t u (e, i, y, l, p) =
     let q = permitted-is s e i (record { outcome = answer.Done y; tally = l }) t u p in
     record { elementWords = e; itemWords = i; summary = y; done = ap (λ (x : Survey). x .outcome) (sym (q .0)); elements-are = q .1; items-are = q .2 }
 
 -- and such a survey is done for every text and every two tables that 01 does not refuse
-pub leaves-so : (s : List ℕ) (e i : ℕ) (y : Summary) → surveyOf s e i .outcome ≡ answer.Done y → Leaves s (elementsAfter s e i) (itemsAfter s e i)
-leaves-so s e i y h = (e, i, y, surveyOf s e i .tally, subst (λ (o : Ended). PermittedBy s e i o (surveyOf s e i .tally) (elementsAfter s e i) (itemsAfter s e i)) h (permits s e i))
+pub leaves-so : (s : List ℕ) (e i : ℕ) (y : Summary) → surveyOf s e i .outcome ≡ answer.Done y → LeavesTables s (elementsAfterSurvey s e i) (itemsAfter s e i)
+leaves-so s e i y h = (e, i, y, surveyOf s e i .tally, subst (λ (o : Ended). PermittedBy s e i o (surveyOf s e i .tally) (elementsAfterSurvey s e i) (itemsAfter s e i)) h (permits s e i))

@@ -22,17 +22,17 @@ use Rattle.element_reading.specs.Reading.{readingOf}
 use Rattle.element_reading.specs.Reading as elements
 use Rattle.element_reading.specs.declared.Reading.{Reading}
 use Rattle.element_reading.specs.declared.Reading.the-variants as R
-use Rattle.meaning.specs.Elements.{piecesOf}
+use Rattle.meaning.specs.Pieces.{piecesOf}
 use Rattle.places.specs.Sizes.{mostPieces}
 use Rattle.pieces.specs.Records.{recordWords, recording}
 use Rattle.pieces.specs.Columns.{recordWords}
-use Rattle.survey_reading.specs.code.Survey.{itemTable, summary, byRecording, byReading, surveyOf, elementsAfter, itemsAfter, refusedBy, summedOf}
+use Rattle.survey_reading.specs.code.Survey.{itemTable, summary, surveyByRecording, surveyByReading, surveyOf, elementsAfterSurvey, itemsAfter, refusedBy, summedOf}
 use Rattle.element_reading.specs.Given.{Taken}
 use Rattle.element_reading.specs.Given as given
 use Rattle.element_reading.proofs.Answers as reading
 use Rattle.element_reading.proofs.Answers.{ReadingSays, reading-says, taken-read, refused-reading}
 use Rattle.survey_reading.specs.Given.{Given, of-elements, too-many, items-short}
-use Rattle.survey_reading.specs.code.Promises.{ZerosOnRefusal, Surveyed, RefusedExactly, SaysOfRecords}
+use Rattle.survey_reading.specs.code.Promises.{ZerosOnRefusal, SurveyedExactly, RefusedExactly, SaysOfRecords}
 use Rattle.survey_reading.specs.declared.Survey.{Survey}
 use Rattle.survey_reading.specs.declared.Summary.{Summary}
 use Rattle.refusals.specs.Refusals.{surveyNumber, surveyPlace}
@@ -43,7 +43,7 @@ use Rattle.survey_reading.specs.declared.Ended.{Ended}
 use Rattle.survey_reading.specs.declared.Ended.the-variants.{Done, Refused}
 use Rattle.survey_reading.proofs.Joined.{marked-room}
 
-by-marking-refused : (m : Recording) (s table : List ℕ) (count : ℕ) (items : List ℕ) (r : SurveyRefusal) → byRecording m s table count items .outcome ≡ Refused r → byRecording m s table count items ≡ refusedBy r
+by-marking-refused : (m : Recording) (s table : List ℕ) (count : ℕ) (items : List ℕ) (r : SurveyRefusal) → surveyByRecording m s table count items .outcome ≡ Refused r → surveyByRecording m s table count items ≡ refusedBy r
 unfolding summary summedOf
 by-marking-refused (M.Recorded n) s table count items r h = let z : _≡_ {A = ℕ} 0 1 = cc in clash z
 by-marking-refused M.TooMany s table count items r h = let z = refused-same _ r h in ap refusedBy z
@@ -55,7 +55,7 @@ by-marking-refused (M.TableShort n) s table count items r h = let z = refused-sa
     refused-same : (a b : SurveyRefusal) → Refused a ≡ Refused b → a ≡ b
     refused-same a b e = cc
 
-by-reading-refused : (x : Reading) (s table : List ℕ) (words : ℕ) (r : SurveyRefusal) → byReading x s table words .outcome ≡ Refused r → byReading x s table words ≡ refusedBy r
+by-reading-refused : (x : Reading) (s table : List ℕ) (words : ℕ) (r : SurveyRefusal) → surveyByReading x s table words .outcome ≡ Refused r → surveyByReading x s table words ≡ refusedBy r
 by-reading-refused (R.Refused y) s table words r h = let z = refused-same _ r h in ap refusedBy z
   where
     refused-same : (a b : SurveyRefusal) → Refused a ≡ Refused b → a ≡ b
@@ -63,7 +63,7 @@ by-reading-refused (R.Refused y) s table words r h = let z = refused-same _ r h 
 by-reading-refused (R.Read n) s table words r h = by-marking-refused (recording (length (piecesOf s)) words) s table (length (rowsOf s)) (itemTable s words) r h
 
 pub zeros-on-refusal : ZerosOnRefusal
-unfolding elementsAfter itemsAfter surveyOf
+unfolding elementsAfterSurvey itemsAfter surveyOf
 zeros-on-refusal s e i r h = (rw h, rw h, by-reading-refused (readingOf s e) s (elements.tableOf s e) i r h)
 
 -- what each outcome says of the text and the tables
@@ -73,14 +73,14 @@ Said s e i (Refused (Elements r)) = reading.GivenAs s e r
 Said s e i (Refused TooMany) = Taken s e × (1024 < length (piecesOf s))
 Said s e i (Refused (ItemsShort k)) = Taken s e × (length (piecesOf s) ≤ 1024) × (i / recordWords < length (piecesOf s)) × (k ≡ i / recordWords)
 
-said-marked : (s table : List ℕ) (e i : ℕ) → Taken s e → Said s e i (byRecording (recording (length (piecesOf s)) i) s table (length (rowsOf s)) (itemTable s i) .outcome)
+said-marked : (s table : List ℕ) (e i : ℕ) → Taken s e → Said s e i (surveyByRecording (recording (length (piecesOf s)) i) s table (length (rowsOf s)) (itemTable s i) .outcome)
 unfolding recording summary summedOf
 said-marked s table e i t = go (ltb 1024 n) (ltb (i / recordWords) n) refl refl
   where
     n : ℕ
     n = length (piecesOf s)
 
-    go : (a b : Bool) → ltb 1024 n ≡ a → ltb (i / recordWords) n ≡ b → Said s e i (byRecording (cond a M.TooMany (cond b (M.TableShort (i / recordWords)) (M.Recorded n))) s table (length (rowsOf s)) (itemTable s i) .outcome)
+    go : (a b : Bool) → ltb 1024 n ≡ a → ltb (i / recordWords) n ≡ b → Said s e i (surveyByRecording (cond a M.TooMany (cond b (M.TableShort (i / recordWords)) (M.Recorded n))) s table (length (rowsOf s)) (itemTable s i) .outcome)
     go true b p q = (t, ltb-true 1024 n p)
     go false true p q = (t, ltb-false 1024 n p, ltb-true (i / recordWords) n q, refl)
     go false false p q = (t, ltb-false 1024 n p, omega (arith, ltb-false (i / recordWords) n q))
@@ -89,13 +89,13 @@ said : (s : List ℕ) (e i : ℕ) (o : Ended) → surveyOf s e i .outcome ≡ o 
 unfolding surveyOf
 said s e i o h = subst (Said s e i) h (go (readingOf s e) refl)
   where
-    go : (x : Reading) → readingOf s e ≡ x → Said s e i (byReading x s (elements.tableOf s e) i .outcome)
+    go : (x : Reading) → readingOf s e ≡ x → Said s e i (surveyByReading x s (elements.tableOf s e) i .outcome)
     go (R.Refused r) q = subst (ReadingSays s e) q (reading-says s e)
     go (R.Read n) q = said-marked s (elements.tableOf s e) e i (subst (ReadingSays s e) q (reading-says s e) .1)
 
-pub surveyed : Surveyed
+pub surveyed-exactly : SurveyedExactly
 unfolding surveyOf recording summary summedOf
-surveyed s e i = (
+surveyed-exactly s e i = (
   (λ d. said s e i (Done (d .0)) (d .1)),
   λ x.
       let few = x .1 in
@@ -149,14 +149,14 @@ Says s table count items n y x =
 same-done : (a b : Summary) → Done a ≡ Done b → a ≡ b
 same-done a b e = cc
 
-by-marking-done : (m : Recording) (s table : List ℕ) (count : ℕ) (items : List ℕ) (n words : ℕ) (y : Summary) → recording n words ≡ m → byRecording m s table count items .outcome ≡ Done y
-    → Says s table count items n y (byRecording m s table count items)
+by-marking-done : (m : Recording) (s table : List ℕ) (count : ℕ) (items : List ℕ) (n words : ℕ) (y : Summary) → recording n words ≡ m → surveyByRecording m s table count items .outcome ≡ Done y
+    → Says s table count items n y (surveyByRecording m s table count items)
 unfolding summary summedOf tallyOf
 by-marking-done (M.Recorded k) s table count items n words y e h =
     let r = marked-room n words k e in
     let z = same-done _ y h in
     let c : (j : ℕ) → j ≤ 10 → getD (countsFrom items k 0 11) j 0 ≡ inState j items 0 k = λ j l. counts-at items k 0 11 j (omega arith) ∙ ap (λ (x : ℕ). inState x items 0 k) (zero-add j) in
-    subst (λ (x : ℕ). Says s table count items x y (byRecording (M.Recorded k) s table count items)) (r .0) (
+    subst (λ (x : ℕ). Says s table count items x y (surveyByRecording (M.Recorded k) s table count items)) (r .0) (
       ap (λ (x : Summary). x .pieces) (sym z),
       ap (λ (x : Summary). x .frame) (sym z),
       ap (λ (x : Summary). x .pair) (sym z),
@@ -169,12 +169,12 @@ by-marking-done (M.Recorded k) s table count items n words y e h =
 by-marking-done M.TooMany s table count items n words y e h = let z : _≡_ {A = ℕ} 0 1 = cc in clash z
 by-marking-done (M.TableShort k) s table count items n words y e h = let z : _≡_ {A = ℕ} 0 1 = cc in clash z
 
-by-reading-done : (x : Reading) (s table : List ℕ) (words : ℕ) (y : Summary) → byReading x s table words .outcome ≡ Done y → Says s table (length (rowsOf s)) (itemTable s words) (length (piecesOf s)) y (byReading x s table words)
+by-reading-done : (x : Reading) (s table : List ℕ) (words : ℕ) (y : Summary) → surveyByReading x s table words .outcome ≡ Done y → Says s table (length (rowsOf s)) (itemTable s words) (length (piecesOf s)) y (surveyByReading x s table words)
 by-reading-done (R.Refused r) s table words y h = let z : _≡_ {A = ℕ} 0 1 = cc in clash z
 by-reading-done (R.Read n) s table words y h = by-marking-done (recording (length (piecesOf s)) words) s table (length (rowsOf s)) (itemTable s words) (length (piecesOf s)) words y refl h
 
 pub says-of-records : SaysOfRecords
-unfolding elementsAfter itemsAfter surveyOf
+unfolding elementsAfterSurvey itemsAfter surveyOf
 says-of-records s e i y h =
     let r = by-reading-done (readingOf s e) s (elements.tableOf s e) i y h in
     (rw h, rw h, r .0, r .1, r .2, r .3, r .4)

@@ -7,23 +7,25 @@ use mathlib.Core.List.{List, [], _∷_, _++_, append-nil, append-assoc}
 use native.Mathlib.Omega.{arith}
 use lib.ListN.{length, getD, take, replicate}
 use Rattle.laws.proofs.Laws.{clash}
-use Rattle.records.specs.Records.{wordAt, isItem, state, kind, low, high}
+use Rattle.records.specs.Records.{wordAt, isItem}
+use Rattle.pieces.specs.Columns as column
 use Rattle.records.specs.Tallies.{inState}
 use Rattle.records.specs.declared.Tally.{Tally}
 use Rattle.states.specs.States as states
 use Rattle.values.specs.Words.{stateOf, valueKind, lowOf, highOf, valueWords}
 use Rattle.values.specs.declared.Value.{Value}
 use Rattle.values.specs.declared.Value.the-variants.{Number, Truth, Range, Truths, Without}
-use Rattle.meaning.specs.Elements.{Piece, piecesOf}
-use Rattle.meaning.specs.Names.{classOf, ownDoubled, Done, useOf}
-use Rattle.meaning.specs.Forms.{Item, HasForm}
+use Rattle.meaning.specs.Elements.{Piece}
+use Rattle.meaning.specs.Pieces.{piecesOf, classOf}
+use Rattle.meaning.specs.Names.{ownDoubled, Done, useOf}
+use Rattle.meaning.specs.Forms.{ItemForm, HasForm}
 use Rattle.meaning.specs.States.{Met, Least, NoneMet}
 use Rattle.meaning.specs.Values.{Gives}
 use Rattle.meaning.specs.Meaning.{Comes, stands, gives}
 use Rattle.meaning.specs.code.PieceValues.{valueOf, doneOf, donesFrom}
 use Rattle.meaning.specs.Records.{itemValueWords}
 use Rattle.meaning.specs.Together.{pieceAt, GoodFrame, AllFold}
-use Rattle.meaning.specs.Forms.{Fits}
+use Rattle.meaning.specs.Items.{FitsAForm}
 use Rattle.meaning.proofs.Records.{pieces-length, piecesDone}
 use Rattle.meaning.proofs.Words as held
 use Rattle.meaning.proofs.Words.{doneAt, pieces-at, class-at, value-word}
@@ -93,14 +95,14 @@ module _ (all : List Piece) (above : List Done) (p : Piece) where
   pub by-least : (s : ℕ) → 1 ≤ s → s ≤ states.kind → (stateOf v ≡ s) ↔ Least (Met all above p) s
   by-least s a b = ((λ e. least-to s v a b e comes), λ l. ap stateOf (sym (is (Without s) (stands l))))
 
-  pub by-broken : (stateOf v ≡ states.broken) ↔ (Fits p → ⊥)
+  pub by-broken : (stateOf v ≡ states.broken) ↔ (FitsAForm p → ⊥)
   by-broken = ((λ e. broken-exactly all above p .0 (without v 1 (omega arith) e)), λ n. ap stateOf (broken-exactly all above p .1 n))
 
-  pub by-doubled : (stateOf v ≡ states.doubled) ↔ (Fits p × (ownDoubled all p ≡ true))
+  pub by-doubled : (stateOf v ≡ states.doubled) ↔ (FitsAForm p × (ownDoubled all p ≡ true))
   by-doubled = ((λ e. doubled-exactly all above p .0 (without v 2 (omega arith) e)), λ n. ap stateOf (doubled-exactly all above p .1 n))
 
   abbrev Ends : ℕ → Type 0
-  Ends s = NoneMet (Met all above p) × ((i : Item) × (HasForm p i × Gives (useOf all above) i (Without s)))
+  Ends s = NoneMet (Met all above p) × ((i : ItemForm) × (HasForm p i × Gives (useOf all above) i (Without s)))
 
   later-to : (s : ℕ) (u : Value) → states.divisor ≤ s → stateOf u ≡ s → Comes all above p u → Ends s
   later-to s u a e (stands l) = let h = least-small all above p l in absurd (omega arith)
@@ -118,7 +120,7 @@ module _ (all : List Piece) (above : List Done) (p : Piece) where
 
   -- a value with its number
   pub record Folds : Type 0 where
-    pub form : Item
+    pub form : ItemForm
     pub value : Value
     pub fits : HasForm p form
     pub none-met : NoneMet (Met all above p)
@@ -133,7 +135,7 @@ module _ (all : List Piece) (above : List Done) (p : Piece) where
   pub by-number : stateOf v ≡ 0 → Folds
   by-number e = folds-to v e refl comes
 
-  pub number-is : (i : Item) (u : Value) → NoneMet (Met all above p) → HasForm p i → Gives (useOf all above) i u → u ≡ v
+  pub number-is : (i : ItemForm) (u : Value) → NoneMet (Met all above p) → HasForm p i → Gives (useOf all above) i u → u ≡ v
   number-is i u n f g = is u (gives n f g)
 
 -- ---- a survey that is done
@@ -178,22 +180,22 @@ module _ (text : List ℕ) (e i : ℕ) (y : Summary) (tally : Tally) (elements i
     word-is : (k : ℕ) → k < 4 → wordAt items j (4 + k) ≡ getD (valueWords (valueOf ps above p)) k 0
     word-is k l = item-word j (a .there) (a .item) k l ∙ ap (λ (v : Value). getD (valueWords v) k 0) value-is
 
-    state-word : wordAt items j state ≡ stateOf (valueOf ps above p)
+    state-word : wordAt items j column.state ≡ stateOf (valueOf ps above p)
     state-word = word-is 0 (omega arith)
 
-    kind-word : wordAt items j kind ≡ valueKind (valueOf ps above p)
+    kind-word : wordAt items j column.kind ≡ valueKind (valueOf ps above p)
     kind-word = word-is 1 (omega arith)
 
-    low-word : wordAt items j low ≡ lowOf (valueOf ps above p)
+    low-word : wordAt items j column.low ≡ lowOf (valueOf ps above p)
     low-word = word-is 2 (omega arith)
 
-    high-word : wordAt items j high ≡ highOf (valueOf ps above p)
+    high-word : wordAt items j column.high ≡ highOf (valueOf ps above p)
     high-word = word-is 3 (omega arith)
 
-  whole-to : AllFold ds → (j : ℕ) → j < length ps → isItem (classOf (pieceAt ps j)) ≡ true → wordAt items j state ≡ 0
+  whole-to : AllFold ds → (j : ℕ) → j < length ps → isItem (classOf (pieceAt ps j)) ≡ true → wordAt items j column.state ≡ 0
   whole-to a j h t = item-word j h t 0 (omega arith) ∙ fold-at ds a j (omega (arith, size)) (ap (λ (p : Piece). isItem (classOf p)) (piece-is j) ∙ t)
 
-  whole-from : ((j : ℕ) → j < length ps → isItem (classOf (pieceAt ps j)) ≡ true → wordAt items j state ≡ 0) → AllFold ds
+  whole-from : ((j : ℕ) → j < length ps → isItem (classOf (pieceAt ps j)) ≡ true → wordAt items j column.state ≡ 0) → AllFold ds
   whole-from g =
       folds ds
       (λ j h t.
@@ -205,10 +207,10 @@ module _ (text : List ℕ) (e i : ℕ) (y : Summary) (tally : Tally) (elements i
 
 -- the words of a record from its state on hold a value
 pub record Held (v : Value) (word : ℕ → ℕ) : Type 0 where
-  pub state-is : word state ≡ stateOf v
-  pub kind-is : word kind ≡ valueKind v
-  pub low-is : word low ≡ lowOf v
-  pub high-is : word high ≡ highOf v
+  pub state-is : word column.state ≡ stateOf v
+  pub kind-is : word column.kind ≡ valueKind v
+  pub low-is : word column.low ≡ lowOf v
+  pub high-is : word column.high ≡ highOf v
 
 pub of-items : (P : List Piece → List Done → Piece → (ℕ → ℕ) → Type 0)
     → ((all : List Piece) (above : List Done) (p : Piece) (word : ℕ → ℕ) → Held (valueOf all above p) word → P all above p word) → OfItems P
@@ -223,10 +225,10 @@ of-items P h text e i y tally elements items f j above a =
 
 module _ (all : List Piece) (above : List Done) (p : Piece) (word : ℕ → ℕ) (h : Held (valueOf all above p) word) where
   -- a state that the word has is the one that the piece comes to
-  pub state-held : {P : Type 0} (s : ℕ) → (stateOf (valueOf all above p) ≡ s) ↔ P → (word state ≡ s) ↔ P
+  pub state-held : {P : Type 0} (s : ℕ) → (stateOf (valueOf all above p) ≡ s) ↔ P → (word column.state ≡ s) ↔ P
   state-held s q = ((λ e. q .0 (sym (h .state-is) ∙ e)), λ x. h .state-is ∙ q .1 x)
 
-  numbered : word state ≡ 0 → Numbered all above p word
+  numbered : word column.state ≡ 0 → Numbered all above p word
   numbered z =
       let n = by-number all above p (sym (h .state-is) ∙ z) in
       record {
@@ -241,10 +243,10 @@ module _ (all : List Piece) (above : List Done) (p : Piece) (word : ℕ → ℕ)
         high-is = h .high-is ∙ ap highOf (sym (n .same));
       }
 
-  pub number-held : (word state ≡ 0) ↔ Numbered all above p word
+  pub number-held : (word column.state ≡ 0) ↔ Numbered all above p word
   number-held = (numbered, λ n. h .state-is ∙ ap stateOf (sym (number-is all above p (n .form) (n .value) (n .none-met) (n .fits) (n .given))) ∙ n .folded)
 
-  pub none-held : (word state ≡ 0 → ⊥) → (word kind ≡ 0) × (word low ≡ 0) × (word high ≡ 0)
+  pub none-held : (word column.state ≡ 0 → ⊥) → (word column.kind ≡ 0) × (word column.low ≡ 0) × (word column.high ≡ 0)
   none-held g = let n = no-number (valueOf all above p) (λ z. g (h .state-is ∙ z)) in (h .kind-is ∙ n .0, h .low-is ∙ n .1, h .high-is ∙ n .2)
 
 module _ (text : List ℕ) (e i : ℕ) (y : Summary) (tally : Tally) (elements items : List ℕ) (f : Finished text e i y tally elements items) where
@@ -255,7 +257,7 @@ module _ (text : List ℕ) (e i : ℕ) (y : Summary) (tally : Tally) (elements i
       ∙ ap₂ (λ (t : List ℕ) (n : ℕ). inState k t 0 n) (sym (f .items-are)) (size text e i y tally elements items f ∙ sym (f .pieces))
 
   pub whole-held : (y .whole ≡ true)
-      ↔ (GoodFrame (piecesOf text) × ((j : ℕ) → j < length (piecesOf text) → isItem (classOf (pieceAt (piecesOf text) j)) ≡ true → wordAt items j state ≡ 0))
+      ↔ (GoodFrame (piecesOf text) × ((j : ℕ) → j < length (piecesOf text) → isItem (classOf (pieceAt (piecesOf text) j)) ≡ true → wordAt items j column.state ≡ 0))
   whole-held = (
     (λ w. let x = f .whole .0 w in (x .0, whole-to text e i y tally elements items f (x .1))),
     λ x. f .whole .1 (x .0, whole-from text e i y tally elements items f (x .1)),

@@ -7,7 +7,8 @@ use lib.ListN.{length, replicate}
 use Rattle.element_reading.specs.Rows.{rowsOf}
 use Rattle.names.specs.code.Names.{sharedPair}
 use Rattle.names.specs.code.Links.{linksTable, twinsTable}
-use Rattle.meaning.specs.Elements.{Piece, piecesOf}
+use Rattle.meaning.specs.Elements.{Piece}
+use Rattle.meaning.specs.Pieces.{piecesOf}
 use Rattle.meaning.specs.Names.{Done, ownDoubled}
 use Rattle.meaning.specs.code.PieceValues.{doneOf, donesFrom, donesOf, recordsOf}
 use Rattle.meaning.proofs.Records.{pendings, piecesDone, pieces-pending, pieces-length}

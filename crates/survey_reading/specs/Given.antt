@@ -7,7 +7,7 @@ use Rattle.places.specs.Sizes.{mostPieces}
 use Rattle.element_reading.specs.Given.{Taken}
 use Rattle.element_reading.specs.Given as elements
 use Rattle.pieces.specs.Records.{recordWords}
-use Rattle.meaning.specs.Elements.{piecesOf}
+use Rattle.meaning.specs.Pieces.{piecesOf}
 
 -- 01's table of refusals, a line to each: its number, when it is given, and its place; 1, 3, 4 as the element reader gives them
 pub data Given (text : List ℕ) (elementWords itemWords : ℕ) : ℕ → ℕ → Type 0 where

@@ -6,7 +6,8 @@ use mathlib.Core.Logic.{_↔_}
 use mathlib.Core.Bool.{true}
 use mathlib.Core.List.{List, [], _++_}
 use lib.ListN.{length, getD, replicate}
-use Rattle.states.specs.States.{range, states}
+use Rattle.states.specs.States.{states}
+use Rattle.states.specs.States as state
 use Rattle.places.specs.Sizes.{mostPieces}
 use Rattle.places.specs.Places.{rowWords}
 use Rattle.pieces.specs.Records.{recordWords}
@@ -15,7 +16,7 @@ use Rattle.element_reading.specs.Rows.{rowsOf}
 use Rattle.element_reading.specs.Table.{cells}
 use Rattle.element_reading.specs.Given.{elementCount, Taken}
 use Rattle.refusals.specs.Refusals.{surveyNumber, surveyPlace}
-use Rattle.meaning.specs.Elements.{piecesOf}
+use Rattle.meaning.specs.Pieces.{piecesOf}
 use Rattle.meaning.specs.Names.{Done}
 use Rattle.meaning.specs.Meaning.{Come}
 use Rattle.meaning.specs.Records.{recordsFrom}
@@ -41,7 +42,7 @@ pub record Finished (text : List ℕ) (elementWords itemWords : ℕ) (y : Summar
   pub pair : FirstPair (piecesOf text) (y .pair)
   -- "a tally of items by state, eleven counts", "each equal to the number of items in that state"
   pub eleven : length (tally .counts) ≡ states
-  pub counts : (k : ℕ) → k ≤ range → getD (tally .counts) k 0 ≡ countIn k dones
+  pub counts : (k : ℕ) → k ≤ state.range → getD (tally .counts) k 0 ≡ countIn k dones
   pub whole : (y .whole ≡ true) ↔ IsWhole (piecesOf text) dones
 
 -- a refusal, with its number and its place in 01's table: "On refusal every lent table is all zeros."
@@ -54,6 +55,6 @@ abbrev pub Permitted : List ℕ → ℕ → ℕ → Survey → List ℕ → List
 Permitted text elementWords itemWords x elements items = PermittedBy text elementWords itemWords (x .outcome) (x .tally) elements items
 
 -- the survey of a text is done and leaves these two tables, whatever it answers and whatever sizes the tables have
-abbrev pub Leaves : List ℕ → List ℕ → List ℕ → Type 0
-Leaves text elements items =
+abbrev pub LeavesTables : List ℕ → List ℕ → List ℕ → Type 0
+LeavesTables text elements items =
     (elementWords : ℕ) × (itemWords : ℕ) × (y : Summary) × (tally : Tally) × Permitted text elementWords itemWords (record { outcome = answer.Done y; tally = tally }) elements items

@@ -4,13 +4,15 @@ use Prim.Native.Nat.{ℕ, _<_}
 use mathlib.Core.Path.{_≡_}
 use mathlib.Core.Bool.{true}
 use mathlib.Core.List.{List, []}
-use Rattle.records.specs.Records.{wordAt, isItem, kind, low, high}
+use Rattle.records.specs.Records.{wordAt, isItem}
+use Rattle.pieces.specs.Columns as column
 use Rattle.records.specs.declared.Tally.{Tally}
 use Rattle.values.specs.Words.{stateOf, valueKind, lowOf, highOf}
 use Rattle.values.specs.declared.Value.{Value}
-use Rattle.meaning.specs.Elements.{Piece, piecesOf}
-use Rattle.meaning.specs.Names.{classOf, Done, useOf}
-use Rattle.meaning.specs.Forms.{Item, HasForm}
+use Rattle.meaning.specs.Elements.{Piece}
+use Rattle.meaning.specs.Pieces.{piecesOf, classOf}
+use Rattle.meaning.specs.Names.{Done, useOf}
+use Rattle.meaning.specs.Forms.{ItemForm, HasForm}
 use Rattle.meaning.specs.States.{Met, NoneMet}
 use Rattle.meaning.specs.Values.{Gives}
 use Rattle.meaning.specs.Meaning.{Come}
@@ -38,12 +40,12 @@ OfItems P =
 
 -- what an item comes to that meets none of 1 to 6 and ends in none of 7 to 10, as its record holds it: kind and two numbers
 pub record Numbered (all : List Piece) (above : List Done) (p : Piece) (word : ℕ → ℕ) : Type 0 where
-  pub form : Item
+  pub form : ItemForm
   pub value : Value
   pub fits : HasForm p form
   pub none-met : NoneMet (Met all above p)
   pub given : Gives (useOf all above) form value
   pub folded : stateOf value ≡ 0
-  pub kind-is : word kind ≡ valueKind value
-  pub low-is : word low ≡ lowOf value
-  pub high-is : word high ≡ highOf value
+  pub kind-is : word column.kind ≡ valueKind value
+  pub low-is : word column.low ≡ lowOf value
+  pub high-is : word column.high ≡ highOf value

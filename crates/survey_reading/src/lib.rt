@@ -10,7 +10,7 @@ use refusals::SurveyRefusal;
 use states::STATES;
 ghost use mathlib.Core.Path.{_≡_};
 ghost use lib.ListN.{length};
-ghost use Rattle.survey_reading.specs.code.Tables.{pairBy, itemsSurvey, itemsCompleted, kept, piecesSurvey, piecesItems};
+ghost use Rattle.survey_reading.specs.code.Tables.{pairBy, itemsSurvey, itemsCompleted, keptBySurvey, piecesSurvey, piecesItems};
 ghost use Rattle.survey_reading.specs.code.Survey.{refusedBy, summedOf};
 ghost use Rattle.survey_reading.specs.Permitted.{Permitted};
 
@@ -105,7 +105,7 @@ fn survey_items(text: &[u8], elements: &[u64], count: usize, items: &mut [u64], 
 // The pieces of a text's elements.
 fn survey_pieces(text: &[u8], elements: &mut [u64], count: usize, items: &mut [u64]) -> Survey
     ensures { λ r. ⌜ r ≡ piecesSurvey (now (text .entry)) (now (elements .entry)) count (length (now (items .entry))) ⌝ }
-    ensures { λ r. ⌜ now (elements .exit) ≡ kept (piecesSurvey (now (text .entry)) (now (elements .entry)) count (length (now (items .entry)))) (now (elements .entry)) ⌝ }
+    ensures { λ r. ⌜ now (elements .exit) ≡ keptBySurvey (piecesSurvey (now (text .entry)) (now (elements .entry)) count (length (now (items .entry)))) (now (elements .entry)) ⌝ }
     ensures { λ r. ⌜ now (items .exit) ≡ piecesItems (now (text .entry)) (now (elements .entry)) count (length (now (items .entry))) ⌝ }
 {
     match pieces::record_pieces(elements, count, items) {

@@ -8,14 +8,14 @@ use lib.ListN.{length, getD, drop, set, length-set, length-drop}
 use lib.Seq.{drop-drop, drop-set-add, getD-drop, getD-set-same, getD-set-other, sets}
 use borrow.Author.Tests.{lt-ltb, le-ltb, le-leb}
 use Rattle.grammars.specs.code.Actions.{Step, go, stop}
-use Rattle.forms.specs.code.Frames.{State, Refusal, name-differs, fresh, top, onTop, joined, marked, named, rowed, isNamed, does}
+use Rattle.forms.specs.code.Frames.{State, Refusal, name-differs, fresh, top, onTop, joined, marked, named, rowed, frameIsNamed, does}
 use Rattle.forms.proofs.Nesting.{top-size, joined-less, joined-few}
 use Rattle.places.specs.declared.ElementNumber.{ElementNumber}
 use Rattle.refusals.specs.declared.StrictRefusal.the-variants as refusal
 use Rattle.tree.specs.declared.Did.{Did}
 use Rattle.tree.specs.declared.Did.the-variants.{Went, Stopped}
 use Rattle.forms.specs.Words.{rowAt}
-use Rattle.tree.specs.code.Held.{Frames, Held, Done, usedAfter, pickUsed}
+use Rattle.tree.specs.code.Held.{Frames, Held, ActionDone, usedAfter, pickUsed}
 use Rattle.tree.proofs.Lists.{four-pushed}
 use Rattle.tree.proofs.Holding as holding
 
@@ -61,16 +61,16 @@ by-seven : (a : ℕ) → 7 ≤ a → a ≡ suc (suc (suc (suc (suc (suc (suc (a 
 by-seven a h = omega arith
 
 -- the innermost frame's name
-pub nameless : (alike : ℕ → ℕ → Bool) (n k : ℕ) → n ≡ 0 → false ≡ isNamed alike n (k - 1)
-nameless alike n k e = sym (ap (λ (x : ℕ). isNamed alike x (k - 1)) e)
+pub nameless : (alike : ℕ → ℕ → Bool) (n k : ℕ) → n ≡ 0 → false ≡ frameIsNamed alike n (k - 1)
+nameless alike n k e = sym (ap (λ (x : ℕ). frameIsNamed alike x (k - 1)) e)
 
-pub named-by : (alike : ℕ → ℕ → Bool) (n k j : ℕ) (b : Bool) → (n ≡ 0 → ⊥) → j ≡ k - 1 → b ≡ alike (n - 1) j → b ≡ isNamed alike n (k - 1)
+pub named-by : (alike : ℕ → ℕ → Bool) (n k j : ℕ) (b : Bool) → (n ≡ 0 → ⊥) → j ≡ k - 1 → b ≡ alike (n - 1) j → b ≡ frameIsNamed alike n (k - 1)
 named-by alike zero k j b d q e = absurd (d refl)
 named-by alike (suc n) k j b d q e = let z : suc n - 1 ≡ n = omega arith in e ∙ ap₂ alike z q
 
 module _ (frames cells next heads : List ℕ) (fp used depth k : ℕ) (alike : ℕ → ℕ → Bool) (s : State) (held : Held frames cells next heads fp used (s .frames)) (deep : s .depth ≡ depth) where
   abbrev pub After : Did → List ℕ → List ℕ → List ℕ → List ℕ → ℕ → Type 0
-  After r f c n h a = Done r f c n h (usedAfter a used) k (does alike a k s)
+  After r f c n h a = ActionDone r f c n h (usedAfter a used) k (does alike a k s)
 
   pub act-opens : (a : ℕ) (F : List ℕ) → a ≡ 0 → 4 ≤ fp → fp ≤ length frames → F ≡ set (set (set (set frames (fp - 4) k) (fp - 4 + 1) k) (fp - 4 + 2) used) (fp - 4 + 3) 0
       → After (Went (record { fp = fp - 4; depth = depth; used = used })) F cells next heads a
@@ -155,24 +155,24 @@ module _ (frames cells next heads : List ℕ) (fp used depth k : ℕ) (alike : �
       )
 
   -- by the name of the innermost frame
-  judged : (b : Bool) → b ≡ isNamed alike (getD frames (fp + 3) 0) (k - 1) → does alike 4 k s ≡ cond b (go s) (stop name-differs)
+  judged : (b : Bool) → b ≡ frameIsNamed alike (getD frames (fp + 3) 0) (k - 1) → does alike 4 k s ≡ cond b (go s) (stop name-differs)
   unfolding does
   judged b q =
       let e : top (s .frames) .name ≡ getD frames (fp + 3) 0 = sym (holding.top-name (held .framed)) ∙ getD-drop fp frames 3 0 in
-      ap (λ (x : Bool). cond x (go s) (stop name-differs)) (ap (λ (x : ℕ). isNamed alike x (k - 1)) e ∙ sym q)
+      ap (λ (x : Bool). cond x (go s) (stop name-differs)) (ap (λ (x : ℕ). frameIsNamed alike x (k - 1)) e ∙ sym q)
 
-  pub act-same : (a : ℕ) (b : Bool) → a ≡ 4 → b ≡ isNamed alike (getD frames (fp + 3) 0) (k - 1) → b ≡ true
+  pub act-same : (a : ℕ) (b : Bool) → a ≡ 4 → b ≡ frameIsNamed alike (getD frames (fp + 3) 0) (k - 1) → b ≡ true
       → After (Went (record { fp = fp; depth = depth; used = used })) frames cells next heads a
   act-same a b z q h =
       subst (After (Went (record { fp = fp; depth = depth; used = used })) frames cells next heads) (sym z)
-      (subst (λ (x : Step State Refusal). Done (Went (record { fp = fp; depth = depth; used = used })) frames cells next heads (usedAfter 4 used) k x) (sym (judged true (sym h ∙ q)))
+      (subst (λ (x : Step State Refusal). ActionDone (Went (record { fp = fp; depth = depth; used = used })) frames cells next heads (usedAfter 4 used) k x) (sym (judged true (sym h ∙ q)))
       (held, deep, refl))
 
-  pub act-differs : (a : ℕ) (b : Bool) (e : ElementNumber) → a ≡ 4 → b ≡ isNamed alike (getD frames (fp + 3) 0) (k - 1) → b ≡ false → e .0 ≡ k - 1
+  pub act-differs : (a : ℕ) (b : Bool) (e : ElementNumber) → a ≡ 4 → b ≡ frameIsNamed alike (getD frames (fp + 3) 0) (k - 1) → b ≡ false → e .0 ≡ k - 1
       → After (Stopped (refusal.NameDiffers e)) frames cells next heads a
   act-differs a b e z q h i =
       subst (After (Stopped (refusal.NameDiffers e)) frames cells next heads) (sym z)
-      (subst (λ (x : Step State Refusal). Done (Stopped (refusal.NameDiffers e)) frames cells next heads (usedAfter 4 used) k x) (sym (judged false (sym h ∙ q)))
+      (subst (λ (x : Step State Refusal). ActionDone (Stopped (refusal.NameDiffers e)) frames cells next heads (usedAfter 4 used) k x) (sym (judged false (sym h ∙ q)))
       (ap (λ (x : ℕ). refusal.NameDiffers (record { 0 = x })) i))
 
   pub act-deeper : (a : ℕ) → a ≡ 5 → depth < 32 → After (Went (record { fp = fp; depth = depth + 1; used = used })) frames cells next heads a

@@ -9,12 +9,12 @@ use lib.Seq.{sets, sets-eq}
 use borrow.Author.Tests.{le-leb, lt-leb}
 use Rattle.grammars.specs.code.Actions.{End, read, bad, stopped, spent}
 use Rattle.forms.specs.Tree.{Row}
-use Rattle.forms.specs.code.Frames.{State, Refusal, rowsOf}
+use Rattle.forms.specs.code.Frames.{State, Refusal, stateRows}
 use Rattle.refusals.specs.declared.StrictRefusal.{StrictRefusal}
 use Rattle.tree.specs.declared.Answer.{Answer}
 use Rattle.tree.specs.declared.Answer.the-variants.{Tree, Refused}
 use Rattle.forms.specs.Words.{wordsOf}
-use Rattle.tree.specs.code.Answers.{answerOf, tableOf, tableShort, elementsIn, readingIn}
+use Rattle.tree.specs.code.Answers.{treeAnswerOf, treeTableOf, tableShort, elementsCounted, readingIn}
 use Rattle.tree.specs.code.Held.{Spans, Tells}
 use Rattle.tree.specs.code.PieceRows.{rowsRead}
 use Rattle.tree.proofs.Zeros.{zeros, drop-zeros}
@@ -28,11 +28,11 @@ filled room rows h =
     ∙ ap (λ (l : List ℕ). wordsOf rows ++ l) (ap (λ (x : ℕ). drop (0 + length (wordsOf rows)) (zeros x)) z ∙ drop-zeros (0 + length (wordsOf rows)) (room - 5 * length rows))
 
 abbrev pub Says : Answer → List ℕ → ℕ → End State Refusal → Type 0
-Says r tab room o = (r ≡ answerOf room o) × (tab ≡ tableOf room o)
+Says r tab room o = (r ≡ treeAnswerOf room o) × (tab ≡ treeTableOf room o)
 
 -- what is not read whole: its refusal is the answer, the tree table holds zeros, and there are no rows
 pub unread : (x : StrictRefusal) (cells next heads : List ℕ) (o : End State Refusal) → Tells (Refused x) cells next heads o
-    → (room : ℕ) → (_≡_ {A = Answer} (Refused x) (answerOf room o)) × (zeros room ≡ tableOf room o) × (rowsRead o ≡ [])
+    → (room : ℕ) → (_≡_ {A = Answer} (Refused x) (treeAnswerOf room o)) × (zeros room ≡ treeTableOf room o) × (rowsRead o ≡ [])
 unread x cells next heads (read s) t room = absurd t
 unread x cells next heads (bad j) t room = (ap Refused t, refl, refl)
 unread x cells next heads (stopped j y) t room = (ap Refused t, refl, refl)
@@ -48,7 +48,7 @@ module _ (cells next heads : List ℕ) (r : Answer) (o : End State Refusal) (tel
   whole-asks used e = go o (whole used e)
     where
       go : (o : End State Refusal) → Tells (Tree used) cells next heads o → ((rows : List Row) × (Spans cells next heads used 0 rows × (length rows ≡ used))) × (used ≤ 8192) × ((i : ℕ) → i ≤ used → getD heads i 0 ≤ used)
-      go (read s) t = ((rowsOf s, (t .0, t .1)), t .2, t .3)
+      go (read s) t = ((stateRows s, (t .0, t .1)), t .2, t .3)
       go (bad j) t = absurd t
       go (stopped j x) t = absurd t
       go spent t = absurd t
@@ -59,14 +59,14 @@ module _ (cells next heads : List ℕ) (r : Answer) (o : End State Refusal) (tel
     where
       go : (o : End State Refusal) → Tells (Tree used) cells next heads o → Says (Tree used) tab room o
       go (read s) t =
-          let n : length (rowsOf s) ≡ used = t .1 in
-          let m : 5 * length (rowsOf s) ≤ room = omega arith in
-          let b = le-leb (5 * length (rowsOf s)) room m in (
-            ap Tree (sym n) ∙ sym (ap (λ (x : Bool). cond x (Tree (length (rowsOf s))) (tableShort (room / 5))) b),
-            w (rowsOf s) (t .0)
-                ∙ ap (λ (l : List ℕ). sets l 0 (wordsOf (rowsOf s))) z
-                ∙ filled room (rowsOf s) m
-                ∙ sym (ap (λ (x : Bool). cond x (wordsOf (rowsOf s) ++ zeros (room - 5 * length (rowsOf s))) (zeros room)) b),
+          let n : length (stateRows s) ≡ used = t .1 in
+          let m : 5 * length (stateRows s) ≤ room = omega arith in
+          let b = le-leb (5 * length (stateRows s)) room m in (
+            ap Tree (sym n) ∙ sym (ap (λ (x : Bool). cond x (Tree (length (stateRows s))) (tableShort (room / 5))) b),
+            w (stateRows s) (t .0)
+                ∙ ap (λ (l : List ℕ). sets l 0 (wordsOf (stateRows s))) z
+                ∙ filled room (stateRows s) m
+                ∙ sym (ap (λ (x : Bool). cond x (wordsOf (stateRows s) ++ zeros (room - 5 * length (stateRows s))) (zeros room)) b),
           )
       go (bad j) t = absurd t
       go (stopped j x) t = absurd t
@@ -77,10 +77,10 @@ module _ (cells next heads : List ℕ) (r : Answer) (o : End State Refusal) (tel
     where
       go : (o : End State Refusal) → Tells (Tree used) cells next heads o → Says (tableShort (room / 5)) tab room o
       go (read s) t =
-          let n : length (rowsOf s) ≡ used = t .1 in
-          let b = lt-leb (5 * length (rowsOf s)) room (omega arith) in (
-            sym (ap (λ (x : Bool). cond x (Tree (length (rowsOf s))) (tableShort (room / 5))) b),
-            z ∙ sym (ap (λ (x : Bool). cond x (wordsOf (rowsOf s) ++ zeros (room - 5 * length (rowsOf s))) (zeros room)) b),
+          let n : length (stateRows s) ≡ used = t .1 in
+          let b = lt-leb (5 * length (stateRows s)) room (omega arith) in (
+            sym (ap (λ (x : Bool). cond x (Tree (length (stateRows s))) (tableShort (room / 5))) b),
+            z ∙ sym (ap (λ (x : Bool). cond x (wordsOf (stateRows s) ++ zeros (room - 5 * length (stateRows s))) (zeros room)) b),
           )
       go (bad j) t = absurd t
       go (stopped j x) t = absurd t
@@ -89,15 +89,15 @@ module _ (cells next heads : List ℕ) (r : Answer) (o : End State Refusal) (tel
   pub says-unread : (x : StrictRefusal) (room : ℕ) (tab : List ℕ) → r ≡ Refused x → tab ≡ zeros room → Says r tab room o
   says-unread x room tab e z = let u = unread x cells next heads o (subst (λ (y : Answer). Tells y cells next heads o) e tells) room in (e ∙ u .0, z ∙ u .1)
 
-pub in-table : (elements : List ℕ) (count n : ℕ) → n ≡ elementsIn elements count → 3 * n ≤ length elements
+pub in-table : (elements : List ℕ) (count n : ℕ) → n ≡ elementsCounted elements count → 3 * n ≤ length elements
 in-table elements count n e = omega arith
 
-pub in-size : (elements : List ℕ) (count n : ℕ) → n ≡ elementsIn elements count → n ≤ 8192
+pub in-size : (elements : List ℕ) (count n : ℕ) → n ≡ elementsCounted elements count → n ≤ 8192
 in-size elements count n e = omega arith
 
 pub rooms : (r : Answer) (tab : List ℕ) (room room′ : ℕ) (o : End State Refusal) → room ≡ room′ → Says r tab room o → Says r tab room′ o
 rooms r tab room room′ o e s = subst (λ (x : ℕ). Says r tab x o) e s
 
-pub told : (r : Answer) (cells next heads text elements : List ℕ) (n count : ℕ) → n ≡ elementsIn elements count → Tells r cells next heads (readingIn text elements n)
-    → Tells r cells next heads (readingIn text elements (elementsIn elements count))
+pub told : (r : Answer) (cells next heads text elements : List ℕ) (n count : ℕ) → n ≡ elementsCounted elements count → Tells r cells next heads (readingIn text elements n)
+    → Tells r cells next heads (readingIn text elements (elementsCounted elements count))
 told r cells next heads text elements n count e t = subst (λ (x : ℕ). Tells r cells next heads (readingIn text elements x)) e t

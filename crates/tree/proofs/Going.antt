@@ -29,7 +29,7 @@ use Rattle.tree.specs.declared.Did.the-variants.{Went, Stopped}
 use Rattle.tree.specs.declared.Answer.the-variants.{Tree, Refused}
 use Rattle.refusals.specs.declared.StrictRefusal.{StrictRefusal}
 use Rattle.tree.specs.code.Answers.{terminalsOf, noFile}
-use Rattle.tree.specs.code.Held.{Frames, Held, Done, Tells, usedAfter, pickUsed}
+use Rattle.tree.specs.code.Held.{Frames, Held, ActionDone, Tells, usedAfter, pickUsed}
 use Rattle.tree.proofs.Lists.{terminals-size, look-at}
 use Rattle.tree.proofs.Holding as holding
 
@@ -199,7 +199,7 @@ module _ (text elements : List ℕ) (n : ℕ) (goal : End State Refusal) where
           by false q e = subst (λ (x : ℕ). spare.Fewer tests.isRow tests.spare x at α) (flip e) (spare.fewer-other tests.isRow tests.spare used at a α (g .fewer))
 
       went : (fp′ depth′ used′ : ℕ) (frames′ cells′ next′ heads′ : List ℕ) → (x : Step State Refusal) → does alike a at (g .state) ≡ x
-          → Done (Went (record { fp = fp′; depth = depth′; used = used′ })) frames′ cells′ next′ heads′ (usedAfter a used) at x → Going α frames′ cells′ next′ heads′ fp′ depth′ used′ at
+          → ActionDone (Went (record { fp = fp′; depth = depth′; used = used′ })) frames′ cells′ next′ heads′ (usedAfter a used) at x → Going α frames′ cells′ next′ heads′ fp′ depth′ used′ at
       unfolding runs
       went fp′ depth′ used′ frames′ cells′ next′ heads′ (go t) e h =
           let p = g .paid in
@@ -218,24 +218,24 @@ module _ (text elements : List ℕ) (n : ℕ) (goal : End State Refusal) where
       went fp′ depth′ used′ frames′ cells′ next′ heads′ (stop r) e h = absurd h
 
       pub goes-on : (fp′ depth′ used′ : ℕ) (frames′ cells′ next′ heads′ : List ℕ)
-          → Done (Went (record { fp = fp′; depth = depth′; used = used′ })) frames′ cells′ next′ heads′ (usedAfter a used) at (does alike a at (g .state)) → Going α frames′ cells′ next′ heads′ fp′ depth′ used′ at
+          → ActionDone (Went (record { fp = fp′; depth = depth′; used = used′ })) frames′ cells′ next′ heads′ (usedAfter a used) at (does alike a at (g .state)) → Going α frames′ cells′ next′ heads′ fp′ depth′ used′ at
       goes-on fp′ depth′ used′ frames′ cells′ next′ heads′ h = went fp′ depth′ used′ frames′ cells′ next′ heads′ (does alike a at (g .state)) refl h
 
-      pub goes-by : (r : Did) (m : Moved) (frames′ cells′ next′ heads′ : List ℕ) → r ≡ Went m → Done r frames′ cells′ next′ heads′ (usedAfter a used) at (does alike a at (g .state))
+      pub goes-by : (r : Did) (m : Moved) (frames′ cells′ next′ heads′ : List ℕ) → r ≡ Went m → ActionDone r frames′ cells′ next′ heads′ (usedAfter a used) at (does alike a at (g .state))
           → Going α frames′ cells′ next′ heads′ (m .fp) (m .depth) (m .used) at
       goes-by r m frames′ cells′ next′ heads′ e d =
-          goes-on (m .fp) (m .depth) (m .used) frames′ cells′ next′ heads′ (subst (λ (x : Did). Done x frames′ cells′ next′ heads′ (usedAfter a used) at (does alike a at (g .state))) e d)
+          goes-on (m .fp) (m .depth) (m .used) frames′ cells′ next′ heads′ (subst (λ (x : Did). ActionDone x frames′ cells′ next′ heads′ (usedAfter a used) at (does alike a at (g .state))) e d)
 
-      stops : (r : StrictRefusal) (f c k h c′ k′ h′ : List ℕ) (x : Step State Refusal) → does alike a at (g .state) ≡ x → Done (Stopped r) f c k h (usedAfter a used) at x
+      stops : (r : StrictRefusal) (f c k h c′ k′ h′ : List ℕ) (x : Step State Refusal) → does alike a at (g .state) ≡ x → ActionDone (Stopped r) f c k h (usedAfter a used) at x
           → Tells (Refused r) c′ k′ h′ goal
       unfolding runs
       stops r f c k h c′ k′ h′ (stop x) e d = subst (Tells (Refused r) c′ k′ h′) (flip (turns g (drop at kinds) refl)) (rw e d)
       stops r f c k h c′ k′ h′ (go t) e d = absurd d
 
-      pub stops-here : (r : Did) (x : StrictRefusal) (f c k h c′ k′ h′ : List ℕ) → r ≡ Stopped x → Done r f c k h (usedAfter a used) at (does alike a at (g .state))
+      pub stops-here : (r : Did) (x : StrictRefusal) (f c k h c′ k′ h′ : List ℕ) → r ≡ Stopped x → ActionDone r f c k h (usedAfter a used) at (does alike a at (g .state))
           → Tells (Refused x) c′ k′ h′ goal
       stops-here r x f c k h c′ k′ h′ e d =
-          stops x f c k h c′ k′ h′ (does alike a at (g .state)) refl (subst (λ (y : Did). Done y f c k h (usedAfter a used) at (does alike a at (g .state))) e d)
+          stops x f c k h c′ k′ h′ (does alike a at (g .state)) refl (subst (λ (y : Did). ActionDone y f c k h (usedAfter a used) at (does alike a at (g .state))) e d)
 
   -- at the start, from a name that lies low enough, has no row to spare and costs less than an element pays for
   pub begins : (m : ℕ) → tests.height m ≤ 63 → tests.spare m ≡ 0 → tests.weight m < 128 → goal ≡ readingFrom (nt m) alike kinds

@@ -14,12 +14,11 @@ use Rattle.laws.proofs.Laws.{clash}
 use Rattle.grammars.specs.code.Grammar.{Sym, nt}
 use Rattle.grammars.specs.code.Actions.{End, read, bad, stopped, spent}
 use Rattle.forms.specs.code.Names.{constant, subtype, nameNumber}
-use Rattle.forms.specs.Tree.{Row}
-use Rattle.forms.specs.code.Frames.{State, Refusal, rowsOf}
+use Rattle.forms.specs.Tree.{Row, Forest, bare}
+use Rattle.forms.specs.code.Frames.{State, Refusal, stateRows}
 use Rattle.forms.specs.code.Reading.{readingFrom}
 use Rattle.forms.specs.code.ItemReading.{IsItem, ItemReading, itemRow, markRow}
 use Rattle.forms.proofs.Items.{reads-items, kinds-alone}
-use Rattle.forms.specs.Forest.{Forest, bare}
 use Rattle.forms.proofs.Shapes.{begin-with-mark}
 use Rattle.forms.proofs.Growing.{forest-from}
 use Rattle.pieces.specs.Cutting.{cut, joined, putFront}
@@ -28,7 +27,7 @@ use Rattle.places.specs.Places.{kindsOf}
 use Rattle.places.proofs.Laws.{kinds-length}
 use Rattle.tree.specs.code.Answers.{terminalsIn}
 use Rattle.forms.specs.Words.{wordsOf}
-use Rattle.tree.specs.code.PieceRows.{unlike, readingOfPiece, rowsRead, rowsOfPiece, pieceWords, piecesWords, itemsIn, itemRows}
+use Rattle.tree.specs.code.PieceRows.{unlike, readingOfPiece, rowsRead, rowsOfPiece, pieceWords, piecesWords, elementsForItems, itemRows}
 use Rattle.tree.proofs.Zeros.{zeros, zeros-size}
 use Rattle.forms.proofs.Words.{words-size}
 use Rattle.tree.proofs.Lists.{terminals-length}
@@ -82,29 +81,29 @@ items-at before after p rest =
 
 module _ (table : List ℕ) (count words : ℕ) where
   -- all elements count where the row table and the size allow it
-  pub all-count : min count (length table / 3) ≤ 8192 → 5 * min count (length table / 3) ≤ words → itemsIn table count words ≡ min count (length table / 3)
+  pub all-count : min count (length table / 3) ≤ 8192 → 5 * min count (length table / 3) ≤ words → elementsForItems table count words ≡ min count (length table / 3)
   all-count h k = omega arith
 
   -- the rows of a piece in the row table
-  pub item-rows-at : (before after : List (List ℕ)) (p : List ℕ) → kindPieces (kindsOf (itemsIn table count words) table) ≡ before ++ (p ∷ after)
+  pub item-rows-at : (before after : List (List ℕ)) (p : List ℕ) → kindPieces (kindsOf (elementsForItems table count words) table) ≡ before ++ (p ∷ after)
       → take (5 * length p) (drop (5 * total before) (itemRows table count words)) ≡ pieceWords p
   unfolding itemRows
   item-rows-at before after p e =
-      ap (λ (ps : List (List ℕ)). take (5 * length p) (drop (5 * total before) (piecesWords ps ++ zeros (words - 5 * itemsIn table count words)))) e
-      ∙ items-at before after p (zeros (words - 5 * itemsIn table count words))
+      ap (λ (ps : List (List ℕ)). take (5 * length p) (drop (5 * total before) (piecesWords ps ++ zeros (words - 5 * elementsForItems table count words)))) e
+      ∙ items-at before after p (zeros (words - 5 * elementsForItems table count words))
 
   pub item-rows-size : length (itemRows table count words) ≡ words
   unfolding itemRows
   item-rows-size =
-      let n = itemsIn table count words in
+      let n = elementsForItems table count words in
       let ps = kindPieces (kindsOf n table) in
       omega (arith, length-append (piecesWords ps) (zeros (words - 5 * n)), items-size ps, total-pieces (kindsOf n table), kinds-length n table, zeros-size (words - 5 * n))
 
 -- what the rows of a piece are, from a symbol and its form
 module _ (from : Sym) (form : ℕ) (item : IsItem from) (p : List ℕ) (is : readingOfPiece p ≡ readingFrom from unlike (terminalsIn p))
-    (shape : (s : State) → ItemReading from unlike (terminalsIn p) s → (m : List Row) × (rowsOf s ≡ itemRow form (length (terminalsIn p)) m ∷ (markRow ∷ m))) where
+    (shape : (s : State) → ItemReading from unlike (terminalsIn p) s → (m : List Row) × (stateRows s ≡ itemRow form (length (terminalsIn p)) m ∷ (markRow ∷ m))) where
   -- a reading by the forms, however names compare, gives the rows
-  rows-given : (alike : ℕ → ℕ → Bool) (s : State) → ItemReading from alike (terminalsIn p) s → rowsOfPiece p ≡ rowsOf s
+  rows-given : (alike : ℕ → ℕ → Bool) (s : State) → ItemReading from alike (terminalsIn p) s → rowsOfPiece p ≡ stateRows s
   unfolding rowsOfPiece
   rows-given alike s r =
       let e = reads-items from item alike (terminalsIn p) s .1 r in
@@ -113,7 +112,7 @@ module _ (from : Sym) (form : ℕ) (item : IsItem from) (p : List ℕ) (is : rea
   -- none, because no form fits; or those of a reading, its own first and its type mark's second
   rows-known : (o : End State Refusal) → readingOfPiece p ≡ o
       → ((rowsRead o ≡ []) × ((alike : ℕ → ℕ → Bool) (s : State) → ItemReading from alike (terminalsIn p) s → ⊥))
-      ⊎ ((m : List Row) × ((rowsRead o ≡ itemRow form (length p) m ∷ (markRow ∷ m)) × ((s : State) × (ItemReading from unlike (terminalsIn p) s × (rowsRead o ≡ rowsOf s)))))
+      ⊎ ((m : List Row) × ((rowsRead o ≡ itemRow form (length p) m ∷ (markRow ∷ m)) × ((s : State) × (ItemReading from unlike (terminalsIn p) s × (rowsRead o ≡ stateRows s)))))
   rows-known (read s) e =
       let r = reads-items from item unlike (terminalsIn p) s .0 (sym is ∙ e) in
       let h = shape s r in
@@ -126,7 +125,7 @@ module _ (from : Sym) (form : ℕ) (item : IsItem from) (p : List ℕ) (is : rea
 abbrev pub Rows : Sym → ℕ → List ℕ → Type 0
 Rows from form p =
     ((rowsOfPiece p ≡ []) × ((alike : ℕ → ℕ → Bool) (s : State) → ItemReading from alike (terminalsIn p) s → ⊥))
-    ⊎ ((m : List Row) × ((rowsOfPiece p ≡ itemRow form (length p) m ∷ (markRow ∷ m)) × ((s : State) × (ItemReading from unlike (terminalsIn p) s × (rowsOfPiece p ≡ rowsOf s)))))
+    ⊎ ((m : List Row) × ((rowsOfPiece p ≡ itemRow form (length p) m ∷ (markRow ∷ m)) × ((s : State) × (ItemReading from unlike (terminalsIn p) s × (rowsOfPiece p ≡ stateRows s)))))
 
 by-constant : (p : List ℕ) → getD p 0 0 ≡ 53 → readingOfPiece p ≡ readingFrom constant unlike (terminalsIn p)
 unfolding readingOfPiece
@@ -144,10 +143,10 @@ pub subtype-rows : (p : List ℕ) → getD p 0 0 ≡ 129 → Rows subtype 5 p
 unfolding rowsOfPiece
 subtype-rows p e = rows-known subtype 5 (inr refl) p (by-subtype p e) (begin-with-mark .1 unlike (terminalsIn p)) (readingOfPiece p) refl
 
-pub constant-read : (p : List ℕ) → getD p 0 0 ≡ 53 → (alike : ℕ → ℕ → Bool) (s : State) → ItemReading constant alike (terminalsIn p) s → rowsOfPiece p ≡ rowsOf s
+pub constant-read : (p : List ℕ) → getD p 0 0 ≡ 53 → (alike : ℕ → ℕ → Bool) (s : State) → ItemReading constant alike (terminalsIn p) s → rowsOfPiece p ≡ stateRows s
 constant-read p e = rows-given constant 4 (inl refl) p (by-constant p e) (begin-with-mark .0 unlike (terminalsIn p))
 
-pub subtype-read : (p : List ℕ) → getD p 0 0 ≡ 129 → (alike : ℕ → ℕ → Bool) (s : State) → ItemReading subtype alike (terminalsIn p) s → rowsOfPiece p ≡ rowsOf s
+pub subtype-read : (p : List ℕ) → getD p 0 0 ≡ 129 → (alike : ℕ → ℕ → Bool) (s : State) → ItemReading subtype alike (terminalsIn p) s → rowsOfPiece p ≡ stateRows s
 subtype-read p e = rows-given subtype 5 (inr refl) p (by-subtype p e) (begin-with-mark .1 unlike (terminalsIn p))
 
 -- any other piece has none
@@ -162,7 +161,7 @@ piece-forest p = go (eqb (getD p 0 0) 53) (eqb (getD p 0 0) 129) refl refl
     none : rowsOfPiece p ≡ [] → Forest 0 (length p) (rowsOfPiece p)
     none e = subst (Forest 0 (length p)) (sym e) (bare (omega arith))
 
-    some : (m : ℕ) (s : State) → ItemReading (nt m) unlike (terminalsIn p) s → rowsOfPiece p ≡ rowsOf s → Forest 0 (length p) (rowsOfPiece p)
+    some : (m : ℕ) (s : State) → ItemReading (nt m) unlike (terminalsIn p) s → rowsOfPiece p ≡ stateRows s → Forest 0 (length p) (rowsOfPiece p)
     some m s r e = subst (λ (n : ℕ). Forest 0 n (rowsOfPiece p)) (terminals-length p) (subst (Forest 0 (length (terminalsIn p))) (sym e) (forest-from m unlike (terminalsIn p) s r))
 
     go : (a b : Bool) → eqb (getD p 0 0) 53 ≡ a → eqb (getD p 0 0) 129 ≡ b → Forest 0 (length p) (rowsOfPiece p)

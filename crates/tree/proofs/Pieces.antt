@@ -14,7 +14,7 @@ use Rattle.grammars.specs.code.Actions.{End, read, bad, stopped, spent}
 use Rattle.same_names.specs.Alike.{sameName}
 use Rattle.forms.specs.code.Names.{constant, subtype}
 use Rattle.forms.specs.Tree.{Row}
-use Rattle.forms.specs.code.Frames.{State, Refusal, rowsOf}
+use Rattle.forms.specs.code.Frames.{State, Refusal, stateRows}
 use Rattle.forms.specs.code.Reading.{readingFrom}
 use Rattle.forms.specs.code.ItemReading.{IsItem}
 use Rattle.forms.proofs.Items.{reads-items, kinds-alone, fewer-rows}
@@ -28,26 +28,26 @@ use Rattle.tree.specs.declared.Answer.{Answer}
 use Rattle.tree.specs.declared.Answer.the-variants.{Tree, Refused}
 use Rattle.tree.specs.code.Answers.{terminalsIn, terminalsOf}
 use Rattle.forms.specs.Words.{wordsOf}
-use Rattle.tree.specs.code.Held.{Spans, Starts, Tells}
-use Rattle.tree.specs.code.PieceRows.{unlike, readingBy, readingOfPiece, rowsRead, rowsOfPiece, startOf}
+use Rattle.tree.specs.code.Held.{Spans, ScanStarts, Tells}
+use Rattle.tree.specs.code.PieceRows.{unlike, readingBy, readingOfPiece, rowsRead, rowsOfPiece, scanStartOf}
 use Rattle.tree.proofs.Lists.{terminals-length}
 use Rattle.tree.proofs.Final.{unread}
 
 -- the answers of `start_of`
-pub start-constant : (k : ℕ) → k ≡ word-constant → _≡_ {A = ℕ} (encode constant) (startOf k)
+pub start-constant : (k : ℕ) → k ≡ word-constant → _≡_ {A = ℕ} (encode constant) (scanStartOf k)
 start-constant k h = rw (eq-eqb k word-constant h)
 
-pub start-subtype : (k : ℕ) → (k ≡ word-constant → ⊥) → k ≡ word-subtype → _≡_ {A = ℕ} (encode subtype) (startOf k)
+pub start-subtype : (k : ℕ) → (k ≡ word-constant → ⊥) → k ≡ word-subtype → _≡_ {A = ℕ} (encode subtype) (scanStartOf k)
 start-subtype k d h = rw (ne-eqb k word-constant d, eq-eqb k word-subtype h)
 
-pub start-none : (k : ℕ) → (k ≡ word-constant → ⊥) → (k ≡ word-subtype → ⊥) → _≡_ {A = ℕ} 0 (startOf k)
+pub start-none : (k : ℕ) → (k ≡ word-constant → ⊥) → (k ≡ word-subtype → ⊥) → _≡_ {A = ℕ} 0 (scanStartOf k)
 start-none k d e = rw (ne-eqb k word-constant d, ne-eqb k word-subtype e)
 
 -- not read, or read from an item's symbol
 abbrev Known : ℕ → (List ℕ → End State Refusal) → Type 0
-Known from by = ((from ≡ 0) × ((w : List ℕ) → by w ≡ bad 0)) ⊎ (Starts from × IsItem (symOf from) × ((w : List ℕ) → readingFrom (symOf from) unlike w ≡ by w))
+Known from by = ((from ≡ 0) × ((w : List ℕ) → by w ≡ bad 0)) ⊎ (ScanStarts from × IsItem (symOf from) × ((w : List ℕ) → readingFrom (symOf from) unlike w ≡ by w))
 
-known : (k from : ℕ) → from ≡ startOf k → Known from (readingBy k)
+known : (k from : ℕ) → from ≡ scanStartOf k → Known from (readingBy k)
 known k from e = go (eqb k word-constant) (eqb k word-subtype) e
   where
     go : (a b : Bool) → from ≡ cond a (encode constant) (cond b (encode subtype) 0) → Known from (λ w. cond a (readingFrom constant unlike w) (cond b (readingFrom subtype unlike w) (bad 0)))
@@ -67,12 +67,12 @@ first-kind (suc n) t h = refl
 -- there are no more rows than elements
 few : (p : List ℕ) (o : End State Refusal) → readingOfPiece p ≡ o → length (rowsRead o) ≤ length p
 unfolding readingOfPiece
-few p (read s) e = ⊎-elim (λ h. let z : _≡_ {A = ℕ} 0 1 = cc (h .1 (terminalsIn p)) in clash z) here (known (getD p 0 0) (startOf (getD p 0 0)) refl)
+few p (read s) e = ⊎-elim (λ h. let z : _≡_ {A = ℕ} 0 1 = cc (h .1 (terminalsIn p)) in clash z) here (known (getD p 0 0) (scanStartOf (getD p 0 0)) refl)
   where
-    here : Starts (startOf (getD p 0 0)) × IsItem (symOf (startOf (getD p 0 0))) × ((w : List ℕ) → readingFrom (symOf (startOf (getD p 0 0))) unlike w ≡ readingBy (getD p 0 0) w)
-        → length (rowsOf s) ≤ length p
+    here : ScanStarts (scanStartOf (getD p 0 0)) × IsItem (symOf (scanStartOf (getD p 0 0))) × ((w : List ℕ) → readingFrom (symOf (scanStartOf (getD p 0 0))) unlike w ≡ readingBy (getD p 0 0) w)
+        → length (stateRows s) ≤ length p
     here h =
-        let f : ℕ = startOf (getD p 0 0) in
+        let f : ℕ = scanStartOf (getD p 0 0) in
         let r = reads-items (symOf f) (h .1) unlike (terminalsIn p) s .0 (h .2 (terminalsIn p) ∙ e) in
         omega (arith, fewer-rows (symOf f) (h .1) unlike (terminalsIn p) s r, terminals-length p)
 few p (bad k) e = omega arith
@@ -84,10 +84,10 @@ unfolding rowsOfPiece
 rows-few p = few p (readingOfPiece p) refl
 
 -- the start by the first row's kind
-pub start-of-first : (t : List ℕ) (from k : ℕ) → 1 ≤ length t / 3 → from ≡ startOf k → k ≡ cellAt t 0 0 → from ≡ startOf (getD t 0 0)
-start-of-first t from k h e q = e ∙ ap startOf (q ∙ sym (cell-in t 0 0 h))
+pub start-of-first : (t : List ℕ) (from k : ℕ) → 1 ≤ length t / 3 → from ≡ scanStartOf k → k ≡ cellAt t 0 0 → from ≡ scanStartOf (getD t 0 0)
+start-of-first t from k h e q = e ∙ ap scanStartOf (q ∙ sym (cell-in t 0 0 h))
 
-module _ (size from : ℕ) (t : List ℕ) (some : 1 ≤ size) (e : from ≡ startOf (getD t 0 0)) where
+module _ (size from : ℕ) (t : List ℕ) (some : 1 ≤ size) (e : from ≡ scanStartOf (getD t 0 0)) where
   told-by : Known from (readingBy (getD t 0 0))
   told-by = known (getD t 0 0) from e
 
@@ -95,7 +95,7 @@ module _ (size from : ℕ) (t : List ℕ) (some : 1 ≤ size) (e : from ≡ star
   unfolding readingOfPiece
   is-piece = rw (first-kind size t some, terminals-kinds size t)
 
-  pub starts : (from ≡ 0 → ⊥) → Starts from
+  pub starts : (from ≡ 0 → ⊥) → ScanStarts from
   starts d = ⊎-elim (λ h. absurd (d (h .0))) (λ h. h .0) told-by
 
   -- no rows, none written
@@ -107,7 +107,7 @@ module _ (size from : ℕ) (t : List ℕ) (some : 1 ≤ size) (e : from ≡ star
       nothing (inl h) = h .1 (terminalsOf size t)
       nothing (inr h) = absurd (none (h .0))
         where
-          none : Starts from → ⊥
+          none : ScanStarts from → ⊥
           none (inl x) = omega arith
           none (inr (inl x)) = omega arith
           none (inr (inr x)) = omega arith
@@ -128,7 +128,7 @@ module _ (size from : ℕ) (t : List ℕ) (some : 1 ≤ size) (e : from ≡ star
       where
         go : (o : End State Refusal) → readingOfPiece (kindsOf size t) ≡ o → Tells (Tree used) cells next heads o
             → ((rows : List Row) × (Spans cells next heads used 0 rows × (length rows ≡ used))) × (used ≤ size) × ((i : ℕ) → i ≤ used → getD heads i 0 ≤ used)
-        go (read s) f h = ((rowsOf s, (h .0, h .1)), omega (arith, h .1, few (kindsOf size t) (read s) f, kinds-length size t), h .3)
+        go (read s) f h = ((stateRows s, (h .0, h .1)), omega (arith, h .1, few (kindsOf size t) (read s) f, kinds-length size t), h .3)
         go (bad j) f h = absurd h
         go (stopped j x) f h = absurd h
         go spent f h = absurd h
@@ -139,7 +139,7 @@ module _ (size from : ℕ) (t : List ℕ) (some : 1 ≤ size) (e : from ≡ star
     piece-written used rows rows′ q w = go (readingOfPiece (kindsOf size t)) (subst (λ (x : Answer). Tells x cells next heads (readingOfPiece (kindsOf size t))) q tells-piece)
       where
         go : (o : End State Refusal) → Tells (Tree used) cells next heads o → rows′ ≡ sets rows 0 (wordsOf (rowsRead o))
-        go (read s) h = w (rowsOf s) (h .0)
+        go (read s) h = w (stateRows s) (h .0)
         go (bad j) h = absurd h
         go (stopped j x) h = absurd h
         go spent h = absurd h

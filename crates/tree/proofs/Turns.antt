@@ -22,7 +22,7 @@ use Rattle.same_names.specs.Alike.{sameName}
 use Rattle.form_table.specs.code.Symbols.{firstAction, symOf, syms}
 use Rattle.tree.specs.code.Room.{bottom, stackWords, outermost, framesWords, mostRows}
 use Rattle.tree.specs.code.Answers.{terminalsOf}
-use Rattle.tree.specs.code.Held.{Starts}
+use Rattle.tree.specs.code.Held.{ScanStarts}
 use Rattle.tree.proofs.Lists.{length-syms, terminals-size, drop-set-here, four-pushed}
 use Rattle.tree.proofs.Going as going
 use Rattle.tree.proofs.Going.{Going}
@@ -137,7 +137,7 @@ module _ (text elements : List ℕ) (n from : ℕ) (stk frames cells next heads 
       subst (λ (α : List Sym). Going text elements n Goal α frames cells next heads outermost 0 0 0) (flip (stack ∙ ap (λ (x : Sym). x ∷ []) e))
       (going.begins text elements n Goal m low none light (ap (λ (x : Sym). readingFrom x (sameName text elements) (terminalsOf n elements)) e) frames cells next heads size outer empty)
 
-  pub first-turn : Starts from → Going text elements n Goal (syms (drop bottom stk)) frames cells next heads outermost 0 0 0
+  pub first-turn : ScanStarts from → Going text elements n Goal (syms (drop bottom stk)) frames cells next heads outermost 0 0 0
   first-turn (inl e) = first-at (nameNumber file) (ap symOf e) (omega arith) refl (omega arith)
   first-turn (inr (inl e)) = first-at (nameNumber constant) (ap symOf e) (omega arith) refl (omega arith)
   first-turn (inr (inr e)) = first-at (nameNumber subtype) (ap symOf e) (omega arith) refl (omega arith)

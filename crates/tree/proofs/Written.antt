@@ -12,7 +12,7 @@ use Rattle.places.specs.Places.{rowsFrom, kindsOf}
 use Rattle.places.proofs.Laws.{kinds-length, kinds-end}
 use Rattle.pieces.proofs.Laws.{size-some, size-inside, at-less, first-piece}
 use Rattle.forms.specs.Words.{wordsOf}
-use Rattle.tree.specs.code.PieceRows.{rowsOfPiece, pieceWords, piecesWords, itemsIn, itemRows}
+use Rattle.tree.specs.code.PieceRows.{rowsOfPiece, pieceWords, piecesWords, elementsForItems, itemRows}
 use Rattle.tree.proofs.Zeros.{zeros, zeros-size, zeros-append}
 use Rattle.tree.proofs.Final.{filled}
 use Rattle.tree.proofs.Pieces.{rows-few}
@@ -158,5 +158,5 @@ module _ (t : List ℕ) (count n m words room : ℕ) (same : room ≡ words) (a 
   pub all-rows : (rows : List ℕ) → rows ≡ piecesWords (kindPieces (kindsOf n t)) ++ zeros (room - 5 * n) → rows ≡ itemRows t count words
   unfolding itemRows
   all-rows rows e =
-      let z : n ≡ itemsIn t count words = omega arith in
+      let z : n ≡ elementsForItems t count words = omega arith in
       e ∙ ap₂ (λ (k w : ℕ). piecesWords (kindPieces (kindsOf k t)) ++ zeros (w - 5 * k)) z same

@@ -24,20 +24,20 @@ ghost use Rattle.forms.specs.code.Names.{nameCount};
 ghost use Rattle.forms.specs.code.Rules.{body, forms as grammar};
 ghost use Rattle.forms.specs.code.Picks.{predict};
 ghost use Rattle.forms.specs.Words.{rowNumbers};
-ghost use Rattle.forms.specs.code.Frames.{State, isNamed, does};
+ghost use Rattle.forms.specs.code.Frames.{State, frameIsNamed, does};
 ghost use Rattle.forms.specs.Tree.{Row, mostOpen};
 ghost use Rattle.forms.specs.code.Reading.{readingFrom};
 ghost use Rattle.same_names.specs.Alike.{sameName};
 ghost use Rattle.form_table.specs.code.Symbols.{symOf, syms};
 ghost use Rattle.form_table.specs.code.Bytes.{formBytes};
 ghost use Rattle.tree.specs.declared.Did.the-variants.{Went};
-ghost use Rattle.tree.specs.code.Answers.{elementsIn, terminalsOf, readingIn, answerOf, tableOf};
+ghost use Rattle.tree.specs.code.Answers.{elementsCounted, terminalsOf, readingIn, treeAnswerOf, treeTableOf};
 ghost use Rattle.forms.specs.Words.{wordsOf};
 ghost use Rattle.pieces.specs.Kinds.{kindPieces};
 ghost use Rattle.places.specs.Places.{rowWords, kindsOf};
 ghost use Rattle.tree.specs.code.Room.{Room, bottom, stackWords, frameWords, frameOperator, frameBase, frameName, outermost, framesWords, mostRows};
-ghost use Rattle.tree.specs.code.PieceRows.{startOf, rowsOfPiece, piecesWords, itemRows};
-ghost use Rattle.tree.specs.code.Held.{Held, Spans, Done, Tells, Starts, usedAfter};
+ghost use Rattle.tree.specs.code.PieceRows.{scanStartOf, rowsOfPiece, piecesWords, itemRows};
+ghost use Rattle.tree.specs.code.Held.{Held, Spans, ActionDone, Tells, ScanStarts, usedAfter};
 
 // The stack's words, and the last of them; those of a frame, of which the first is its first element; those of the frames, and where the
 // outermost stands; and how many rows there may be.
@@ -134,14 +134,14 @@ fn wide(x: u8) -> u64
 }
 
 // What the next element is to the forms, 0 at the end.
-fn next_kind(forms: &[u8], elements: &[u64], count: usize, at: usize) -> u64
+fn next_kind(forms: &[u8], elements: &[u64], count: usize, e: ElementNumber) -> u64
     requires { ⌜ (now forms ≡ formBytes) × (rowWords * count ≤ length (now elements)) ⌝ }
-    ensures { λ r. ⌜ r ≡ look (drop at (terminalsOf count (now (elements .entry)))) ⌝ }
+    ensures { λ r. ⌜ r ≡ look (drop (e .0) (terminalsOf count (now (elements .entry)))) ⌝ }
 {
-    if count <= at {
+    if count <= e.0 {
         return 0;
     }
-    let kind = places::kind_of(elements, ElementNumber(at));
+    let kind = places::kind_of(elements, e);
     if kind < form_table::ELEMENT_KINDS as u64 {
         return wide(forms[kind as usize]);
     }
@@ -221,7 +221,7 @@ fn open_frame(k: u64, frames: &mut [u64], fp: usize, used: usize)
 // Whether the element just read is the name of the innermost frame.
 fn is_named(text: &[u8], elements: &[u64], frames: &[u64], fp: usize, k: u64) -> bool
     requires { ⌜ fp + frameWords ≤ length (now frames) ⌝ }
-    ensures { λ r. ⌜ r ≡ isNamed (sameName (now (text .entry)) (now (elements .entry))) (getD (now (frames .entry)) (fp + frameName) 0) (k - 1) ⌝ }
+    ensures { λ r. ⌜ r ≡ frameIsNamed (sameName (now (text .entry)) (now (elements .entry))) (getD (now (frames .entry)) (fp + frameName) 0) (k - 1) ⌝ }
 {
     let n = frames[fp + FRAME_NAME];
     if n == 0 {
@@ -284,7 +284,7 @@ fn do_act(
     used: usize,
 ) -> Did
     requires { ⌜ (frameWords ≤ fp) × (fp + frameWords ≤ length (now frames)) × (rowNumbers * used + rowNumbers ≤ length (now cells)) × (used < length (now next)) × (used + 1 < length (now heads)) × (used < mostRows) × (depth ≤ mostOpen) × (getD (now frames) (fp + frameBase) 0 ≤ used) ⌝ }
-    ensures { λ r. ⌜ ((s : State) → Held (now (frames .entry)) (now (cells .entry)) (now (next .entry)) (now (heads .entry)) fp used (s .frames) → s .depth ≡ depth → Done r (now (frames .exit)) (now (cells .exit)) (now (next .exit)) (now (heads .exit)) (usedAfter a used) k (does (sameName (now (text .entry)) (now (elements .entry))) a k s)) ⌝ }
+    ensures { λ r. ⌜ ((s : State) → Held (now (frames .entry)) (now (cells .entry)) (now (next .entry)) (now (heads .entry)) fp used (s .frames) → s .depth ≡ depth → ActionDone r (now (frames .exit)) (now (cells .exit)) (now (next .exit)) (now (heads .exit)) (usedAfter a used) k (does (sameName (now (text .entry)) (now (elements .entry))) a k s)) ⌝ }
 {
     if a == OPENS {
         open_frame(k, frames, fp, used);
@@ -349,7 +349,7 @@ fn scan(
     heads: &mut [u64],
     forms: &[u8],
 ) -> Answer
-    requires { ⌜ (rowWords * count ≤ length (now elements)) × (count ≤ mostElements) × Starts from × Room (now stk) (now frames) (now cells) (now next) (now heads) × (now forms ≡ formBytes) ⌝ }
+    requires { ⌜ (rowWords * count ≤ length (now elements)) × (count ≤ mostElements) × ScanStarts from × Room (now stk) (now frames) (now cells) (now next) (now heads) × (now forms ≡ formBytes) ⌝ }
     ensures { λ r. ⌜ Tells r (now (cells .exit)) (now (next .exit)) (now (heads .exit)) (readingFrom (symOf from) (sameName (now (text .entry)) (now (elements .entry))) (terminalsOf count (now (elements .entry)))) ⌝ }
 {
     begin(from, stk, frames, heads);
@@ -364,14 +364,14 @@ fn scan(
             if count <= at {
                 return Answer::Refused(StrictRefusal::NoFile(ElementNumber(at)));
             }
-            let t = next_kind(forms, elements, count, at);
+            let t = next_kind(forms, elements, count, ElementNumber(at));
             if top != t {
                 return Answer::Refused(StrictRefusal::NoFile(ElementNumber(at)));
             }
             sp += 1;
             at += 1;
         } else if top < FIRST_ACTION {
-            let t = next_kind(forms, elements, count, at);
+            let t = next_kind(forms, elements, count, ElementNumber(at));
             let q = pick(forms, (top - FIRST_NAME) as usize, t);
             if q == 0 {
                 return Answer::Refused(StrictRefusal::NoFile(ElementNumber(at)));
@@ -449,8 +449,8 @@ fn least(a: usize, b: usize, c: usize) -> usize
 // Elements to a tree: the first count elements, as far as the table has them and 01's sizes go, as a file. The rows go into `tree`, and
 // zeros after them; on a refusal it is all zeros.
 pub fn read_tree(text: &[u8], elements: &[u64], count: usize, tree: &mut [u64]) -> Answer
-    ensures { λ r. ⌜ r ≡ answerOf (length (now (tree .entry))) (readingIn (now (text .entry)) (now (elements .entry)) (elementsIn (now (elements .entry)) count)) ⌝ }
-    ensures { λ _. ⌜ now (tree .exit) ≡ tableOf (length (now (tree .entry))) (readingIn (now (text .entry)) (now (elements .entry)) (elementsIn (now (elements .entry)) count)) ⌝ }
+    ensures { λ r. ⌜ r ≡ treeAnswerOf (length (now (tree .entry))) (readingIn (now (text .entry)) (now (elements .entry)) (elementsCounted (now (elements .entry)) count)) ⌝ }
+    ensures { λ _. ⌜ now (tree .exit) ≡ treeTableOf (length (now (tree .entry))) (readingIn (now (text .entry)) (now (elements .entry)) (elementsCounted (now (elements .entry)) count)) ⌝ }
 {
     lent_tables::clear(tree);
     let n = least(count, elements.len() / places::ROW_WORDS, MOST_ELEMENTS);
@@ -485,7 +485,7 @@ pub fn read_tree(text: &[u8], elements: &[u64], count: usize, tree: &mut [u64]) 
 
 // The symbol from which a piece is read that begins with this kind, 0 where it is not read.
 fn start_of(kind: u64) -> u64
-    ensures { λ r. ⌜ r ≡ startOf kind ⌝ }
+    ensures { λ r. ⌜ r ≡ scanStartOf kind ⌝ }
 {
     if kind == pieces::WORD_CONSTANT {
         return CONSTANT;
@@ -551,7 +551,7 @@ fn read_pieces(
 {
     let mut at: usize = 0;
     while at < n {
-        let size = pieces::piece_size(elements, n, at);
+        let size = pieces::piece_size(elements, n, ElementNumber(at));
         let row = ROW_NUMBERS * at;
         read_piece(
             places::rows_from(elements, ElementNumber(at)),

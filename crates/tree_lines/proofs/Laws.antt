@@ -12,7 +12,7 @@ use Rattle.puts.specs.Decimals.{decimalOf, fieldsOf, lineFeed}
 use Rattle.puts.proofs.Laws.{then3, named}
 use Rattle.refused_line.specs.Refused.{refusal, place, counted, refusedOf, linesBy}
 use Rattle.refused_line.proofs.Laws.{given-line, refused-line}
-use Rattle.tree_lines.specs.Lines.{passes, row, failsOf, verdictText, headOf, numbersAt, rowText, listedLine, treeLine, treeLines}
+use Rattle.tree_lines.specs.Lines.{passes, failedRow, failsOf, verdictText, headOf, numbersAt, rowText, listedLine, treeLine, treeLines}
 
 pub fails-put : {t t₁ t₂ t₃ : List ℕ} {a b c d : ℕ} (n : ℕ) → Wrote t a (bytesOf " passes no at ") t₁ b → Wrote t₁ b (decimalOf n) t₂ c
     → Wrote t₂ c (lineFeed ∷ []) t₃ d → Wrote t a (failsOf n) t₃ d
@@ -59,7 +59,7 @@ module _ {t t′ : List ℕ} {at r : ℕ} (tree answer : List ℕ) where
   refused-tree i w x e h d p = refused-line answer (listedLine tree answer) i w x e h d p
 
   pub head-tree : (i w n p x : ℕ) → w ≡ getD answer refusal 0 → w ≡ 0 → i ≡ 0 → n ≡ getD answer counted 0 → p ≡ getD answer passes 0
-      → x ≡ getD answer row 0 → Wrote t at (headOf n p x) t′ r → Wrote t at (treeLine tree answer i) t′ r
+      → x ≡ getD answer failedRow 0 → Wrote t at (headOf n p x) t′ r → Wrote t at (treeLine tree answer i) t′ r
   unfolding treeLine listedLine
   head-tree i w n p x e h z a b c q = given-line answer (listedLine tree answer) i w e h (named (rw (z, ← a, ← b, ← c)) q)
 

@@ -14,8 +14,8 @@ use Rattle.refused_line.specs.Refused.{counted, lineBy, linesBy}
 abbrev pub passes : ℕ
 passes = 3
 
-abbrev pub row : ℕ
-row = 4
+abbrev pub failedRow : ℕ
+failedRow = 4
 
 -- "`rows COUNT passes yes`", or "`rows COUNT passes no at ROW`, the first row that is not supported"
 unfoldable pub failsOf : ℕ → List ℕ
@@ -37,7 +37,7 @@ rowText tree i = decimalOf i ++ (fieldsOf (numbersAt tree i) ++ (lineFeed ∷ []
 
 -- "The head, then one line to each row of the tree, in table order": the lines by their numbers
 unfoldable pub listedLine : List ℕ → List ℕ → ℕ → List ℕ
-listedLine tree answer zero = headOf (getD answer counted 0) (getD answer passes 0) (getD answer row 0)
+listedLine tree answer zero = headOf (getD answer counted 0) (getD answer passes 0) (getD answer failedRow 0)
 listedLine tree answer (suc i) = rowText tree i
 
 -- those of any answer, and how many there are: no more rows are listed than the table has

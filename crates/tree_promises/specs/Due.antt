@@ -10,7 +10,7 @@ use lib.ListN.{length}
 use Rattle.forms.specs.Tree.{Row, mostOpen}
 use Rattle.forms.specs.Open.{openAfter}
 use Rattle.forms.specs.Closing.{Name, named, closesAt, isNamedAs}
-use Rattle.one_tree.specs.Trees.{IsTree, HasTree, Begins}
+use Rattle.one_tree.specs.Files.{IsTree, HasTree, Begins}
 
 -- 5, "elements up to here begin no file; or the text ends early": those before k begin a file, and with the element at k they begin none; or
 -- k is their count, and they are no file

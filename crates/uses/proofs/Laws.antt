@@ -5,7 +5,7 @@ use Prim.Native.Nat.{ℕ, _-_, _≤_, _<_}
 use borrow.Author.Tests.{eq-eqb, ne-eqb, lt-ltb, le-ltb}
 use lib.ListN.{getD}
 use Rattle.records.specs.Records.{wordAt}
-use Rattle.names.specs.Language.{languageOf}
+use Rattle.names.specs.code.Language.{languageOf}
 use Rattle.values.specs.Values.{languageValue}
 use Rattle.values.specs.code.Used.{usedValue}
 use Rattle.values.specs.declared.Value.{Value}

@@ -11,9 +11,9 @@ use mir.Val.{toZ}
 use mir.ValLaws.{toZ-pos}
 use borrow.Author.Tests.{lt-ltb, le-ltb, ltb-true, ne-eqb}
 use Rattle.integers.specs.Numbers.{integerKind, truthKind}
-use Rattle.pieces.specs.Classes.{constant, subtype}
-use Rattle.names.specs.Language.{name-integer, name-natural, name-positive, name-boolean, name-true, name-false}
-use Rattle.states.specs.States.{leans, unknown}
+use Rattle.pieces.specs.Classes as classes
+use Rattle.names.specs.code.Language.{name-integer, name-natural, name-positive, name-boolean, name-true, name-false}
+use Rattle.states.specs.States as states
 use Rattle.values.specs.declared.Value.the-variants.{Without}
 use Rattle.values.specs.Values.{languageValue}
 use Rattle.places.specs.Places.{allWords}
@@ -22,25 +22,32 @@ use Rattle.values.specs.code.Used.{signedHalf, signedNumber, usedConstan
 
 -- ---- the language's names, and records that give nothing
 
-pub language-none : (k : ℕ) → (k ≡ name-integer → ⊥) → (k ≡ name-natural → ⊥) → (k ≡ name-positive → ⊥) → (k ≡ name-boolean → ⊥) → (k ≡ name-true → ⊥) → (k ≡ name-false → ⊥) → Without unknown ≡ languageValue k
+pub language-none : (k : ℕ) → (k ≡ name-integer → ⊥) → (k ≡ name-natural → ⊥) → (k ≡ name-positive → ⊥) → (k ≡ name-boolean → ⊥) → (k ≡ name-true → ⊥) → (k ≡ name-false → ⊥) → Without states.unknown ≡ languageValue k
 unfolding languageValue
-language-none k a b c d e f = rw (ne-eqb k name-integer a, ne-eqb k name-natural b, ne-eqb k name-positive c, ne-eqb k name-boolean d, ne-eqb k name-true e, ne-eqb k name-false f)
+language-none zero a b c d e f = refl
+language-none (suc zero) a b c d e f = absurd (a refl)
+language-none (suc (suc zero)) a b c d e f = absurd (b refl)
+language-none (suc (suc (suc zero))) a b c d e f = absurd (c refl)
+language-none (suc (suc (suc (suc zero)))) a b c d e f = absurd (d refl)
+language-none (suc (suc (suc (suc (suc zero))))) a b c d e f = absurd (e refl)
+language-none (suc (suc (suc (suc (suc (suc zero)))))) a b c d e f = absurd (f refl)
+language-none (suc (suc (suc (suc (suc (suc (suc k))))))) a b c d e f = refl
 
-pub constant-none : (kind low : ℕ) → (kind ≡ integerKind → ⊥) → (kind ≡ truthKind → ⊥) → Without leans ≡ usedConstant kind low
+pub constant-none : (kind low : ℕ) → (kind ≡ integerKind → ⊥) → (kind ≡ truthKind → ⊥) → Without states.leans ≡ usedConstant kind low
 unfolding usedConstant
 constant-none kind low a b = rw (ne-eqb kind integerKind a, ne-eqb kind truthKind b)
 
-pub subtype-none : (kind low high : ℕ) → (kind ≡ integerKind → ⊥) → (kind ≡ truthKind → ⊥) → Without leans ≡ usedSubtype kind low high
+pub subtype-none : (kind low high : ℕ) → (kind ≡ integerKind → ⊥) → (kind ≡ truthKind → ⊥) → Without states.leans ≡ usedSubtype kind low high
 unfolding usedSubtype
 subtype-none kind low high a b = rw (ne-eqb kind integerKind a, ne-eqb kind truthKind b)
 
-pub used-stated : (class state kind low high : ℕ) → (state ≡ 0 → ⊥) → Without leans ≡ usedValue class state kind low high
+pub used-stated : (class state kind low high : ℕ) → (state ≡ 0 → ⊥) → Without states.leans ≡ usedValue class state kind low high
 unfolding usedValue
 used-stated class state kind low high a = rw (ne-eqb state 0 a)
 
-pub used-none : (class state kind low high : ℕ) → state ≡ 0 → (class ≡ constant → ⊥) → (class ≡ subtype → ⊥) → Without leans ≡ usedValue class state kind low high
+pub used-none : (class state kind low high : ℕ) → state ≡ 0 → (class ≡ classes.constant → ⊥) → (class ≡ classes.subtype → ⊥) → Without states.leans ≡ usedValue class state kind low high
 unfolding usedValue
-used-none class state kind low high z a b = rw (z, ne-eqb class constant a, ne-eqb class subtype b)
+used-none class state kind low high z a b = rw (z, ne-eqb class classes.constant a, ne-eqb class classes.subtype b)
 
 -- ---- numbers in words
 

@@ -6,7 +6,6 @@ use mathlib.Core.List.{List, [], _∷_}
 use lib.IntN.{ℤ, pos, negsuc}
 use Rattle.places.specs.Places.{allWords}
 use Rattle.integers.specs.Numbers.{integerKind, truthKind}
-use Rattle.states.specs.States.{leans}
 use Rattle.values.specs.declared.Value.{Value}
 use Rattle.values.specs.declared.Value.the-variants.{Number, Truth, Range, Truths, Without}
 
@@ -62,11 +61,3 @@ highOf (Without s) = 0
 -- the last four words of an item's record
 abbrev pub valueWords : Value → List ℕ
 valueWords v = stateOf v ∷ valueKind v ∷ lowOf v ∷ highOf v ∷ []
-
--- what an item comes to for those that use its name
-abbrev pub leanOf : Value → Value
-leanOf (Number z) = Number z
-leanOf (Truth t) = Truth t
-leanOf (Range low high) = Range low high
-leanOf Truths = Truths
-leanOf (Without s) = Without leans

@@ -11,8 +11,8 @@ use lib.Dec.{T, eqb, eqb→eq}
 use lib.ListN.{length, getD, drop}
 use Rattle.laws.proofs.Laws.{clash}
 use Rattle.forms.specs.Tree.{Row}
-use Rattle.forms.specs.Words.{rowNumbers, rowsIn}
-use Rattle.form_numbers.specs.Forms.{while-loop, bare-loop, next-statement, exit-statement, null-statement, label, guard, block-is}
+use Rattle.forms.specs.Words.{rowNumbers, treeRowsIn}
+use Rattle.form_numbers.specs.Statements as formNumber
 use Rattle.forms.specs.Labels.{EachLeads, LabelsLead}
 use Rattle.verdict.specs.declared.Verdict.{Verdict}
 use Rattle.verdict.specs.declared.Verdict.the-variants.{Passes, NotSupported}
@@ -21,13 +21,13 @@ use Rattle.verdict.specs.code.Judging.{unsupported, verdictFrom, formsIn
 use Rattle.verdict.specs.code.Promises.{rowsHad, JudgedExactly, OneVerdict}
 
 -- what the code asks of a row is what 01 asks
-fails-by : (b n : ℕ) → T (unsupported b n) → FormFails n ⊎ ((n ≡ label) × LabelFails b)
+fails-by : (b n : ℕ) → T (unsupported b n) → FormFails n ⊎ ((n ≡ formNumber.label) × LabelFails b)
 fails-by b n h =
-    go (eqb n while-loop) (eqb n bare-loop) (eqb n guard) (eqb n block-is) (eqb n label) (eqb b next-statement) (eqb b exit-statement) (eqb b null-statement)
-    (eqb→eq n while-loop) (eqb→eq n bare-loop) (eqb→eq n guard) (eqb→eq n block-is) (eqb→eq n label) (eqb→eq b next-statement) (eqb→eq b exit-statement) (eqb→eq b null-statement) h
+    go (eqb n formNumber.while-loop) (eqb n formNumber.bare-loop) (eqb n formNumber.guard) (eqb n formNumber.block-is) (eqb n formNumber.label) (eqb b formNumber.next-statement) (eqb b formNumber.exit-statement) (eqb b formNumber.null-statement)
+    (eqb→eq n formNumber.while-loop) (eqb→eq n formNumber.bare-loop) (eqb→eq n formNumber.guard) (eqb→eq n formNumber.block-is) (eqb→eq n formNumber.label) (eqb→eq b formNumber.next-statement) (eqb→eq b formNumber.exit-statement) (eqb→eq b formNumber.null-statement) h
   where
-    go : (p q r s l x y z : Bool) → (T p → n ≡ while-loop) → (T q → n ≡ bare-loop) → (T r → n ≡ guard) → (T s → n ≡ block-is) → (T l → n ≡ label)
-        → (T x → b ≡ next-statement) → (T y → b ≡ exit-statement) → (T z → b ≡ null-statement) → T (p || q || r || s || l && (x || y || z)) → FormFails n ⊎ ((n ≡ label) × LabelFails b)
+    go : (p q r s l x y z : Bool) → (T p → n ≡ formNumber.while-loop) → (T q → n ≡ formNumber.bare-loop) → (T r → n ≡ formNumber.guard) → (T s → n ≡ formNumber.block-is) → (T l → n ≡ formNumber.label)
+        → (T x → b ≡ formNumber.next-statement) → (T y → b ≡ formNumber.exit-statement) → (T z → b ≡ formNumber.null-statement) → T (p || q || r || s || l && (x || y || z)) → FormFails n ⊎ ((n ≡ formNumber.label) × LabelFails b)
     go true q r s l x y z P Q R S L X Y Z h = inl (subst FormFails (sym (P tt)) while-loops)
     go false true r s l x y z P Q R S L X Y Z h = inl (subst FormFails (sym (Q tt)) bare-loops)
     go false false true s l x y z P Q R S L X Y Z h = inl (subst FormFails (sym (R tt)) guards)
@@ -44,10 +44,10 @@ by-form b n bare-loops = tt
 by-form b n guards = tt
 by-form b n block-is-words = tt
 
-by-label : (b n : ℕ) → n ≡ label → LabelFails b → T (unsupported b n)
+by-label : (b n : ℕ) → n ≡ formNumber.label → LabelFails b → T (unsupported b n)
 by-label b n e f = subst (λ (x : ℕ). T (unsupported b x)) (sym e) (on b f)
   where
-    on : (b : ℕ) → LabelFails b → T (unsupported b label)
+    on : (b : ℕ) → LabelFails b → T (unsupported b formNumber.label)
     on b on-next = tt
     on b on-exit = tt
     on b on-null = tt
@@ -78,7 +78,7 @@ module _ (text table : List ℕ) where
   form-at b (x ∷ l) zero r i f = subst (λ (y : Row). T (unsupported b (y .form))) (sym i) (by-form b (r .form) f)
   form-at b (x ∷ l) (suc j) r i f = form-at (x .form) l j r i f
 
-  label-at : (b : ℕ) (l : List Row) (j : ℕ) (r s : Row) → IsRow l (suc j) r → r .form ≡ label → IsRow l j s → LabelFails (s .form) → FailsFrom b l (suc j)
+  label-at : (b : ℕ) (l : List Row) (j : ℕ) (r s : Row) → IsRow l (suc j) r → r .form ≡ formNumber.label → IsRow l j s → LabelFails (s .form) → FailsFrom b l (suc j)
   label-at b [] j r s i e k f = absurd i
   label-at b (x ∷ []) zero r s i e k f = absurd i
   label-at b (x ∷ y ∷ l) zero r s i e k f =
@@ -94,8 +94,8 @@ abbrev formsOf : List Row → List ℕ
 formsOf [] = []
 formsOf (r ∷ l) = r .form ∷ formsOf l
 
-forms-rows : (n : ℕ) (words : List ℕ) → formsIn n words ≡ formsOf (rowsIn n words)
-unfolding formsIn rowsIn
+forms-rows : (n : ℕ) (words : List ℕ) → formsIn n words ≡ formsOf (treeRowsIn n words)
+unfolding formsIn treeRowsIn
 forms-rows zero words = refl
 forms-rows (suc n) words = ap (λ (l : List ℕ). getD words 0 0 ∷ l) (forms-rows n (drop rowNumbers words))
 

@@ -1,7 +1,7 @@
 -- The invariant: whether the rests are the same is whether the words are. Assumes nothing.
 use borrow.Author.Needs.{needs}
 use Rattle.arguments.proofs.Laws.{same-length, same-end, same-not, same-more}
-use Rattle.arguments.specs.Arguments.{same}
+use Rattle.arguments.specs.Arguments.{sameArgument}
 use lib.ListN.{length, drop}
 use native.Mathlib.Omega.{arith}
 use Prim.Native.Nat.{_-_, _≤_}
@@ -10,7 +10,7 @@ use Rattle.arguments.proofs.same_bytes.Statement.{statement}
 use Rattle.arguments.proofs.same_bytes.Tie as tie
 
 abbrev Inv-loop : tie.InvT-loop
-Inv-loop a b i₀ i = (i ≤ length a) × (same (drop i a) (drop i b) ≡ same a b)
+Inv-loop a b i₀ i = (i ≤ length a) × (sameArgument (drop i a) (drop i b) ≡ sameArgument a b)
 
 abbrev μ-loop : tie.MeasureT-loop
 μ-loop a b i₀ i = length a - i

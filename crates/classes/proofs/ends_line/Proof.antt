@@ -1,5 +1,5 @@
 -- The test is the definition's own. Assumes nothing.
-use Rattle.classes.specs.Bytes.{endsLine}
+use Rattle.classes.specs.Signs.{endsLine}
 use mathlib.Core.Path.{refl}
 use Rattle.classes.proofs.ends_line.Statement.{statement}
 use Rattle.classes.proofs.ends_line.Tie as tie

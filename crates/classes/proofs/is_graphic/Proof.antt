@@ -1,5 +1,5 @@
 -- The test is the definition's own. Assumes nothing.
-use Rattle.classes.specs.Bytes.{isGraphic}
+use Rattle.classes.specs.Signs.{isGraphic}
 use mathlib.Core.Path.{refl}
 use Rattle.classes.proofs.is_graphic.Statement.{statement}
 use Rattle.classes.proofs.is_graphic.Tie as tie

@@ -1,5 +1,5 @@
 -- The test is the definition's own. Assumes nothing.
-use Rattle.classes.specs.Bytes.{separates}
+use Rattle.classes.specs.Signs.{separates}
 use mathlib.Core.Path.{refl}
 use Rattle.classes.proofs.separator.Statement.{statement}
 use Rattle.classes.proofs.separator.Tie as tie

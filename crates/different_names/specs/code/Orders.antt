@@ -19,7 +19,7 @@ orderOf (a ∷ s) [] = Above
 orderOf (a ∷ s) (b ∷ t) = cond (ltb a b) Below (cond (ltb b a) Above (orderOf s t))
 
 -- what is told of the first n names
-abbrev pub Judged : (ℕ → List ℕ) → ℕ → Told → Type 0
-Judged f n Different = distinct (namesFrom f 0 n) ≡ true
-Judged f n Twice = distinct (namesFrom f 0 n) ≡ false
-Judged f n Unsure = Unit
+abbrev pub ToldRight : (ℕ → List ℕ) → ℕ → Told → Type 0
+ToldRight f n Different = distinct (namesFrom f 0 n) ≡ true
+ToldRight f n Twice = distinct (namesFrom f 0 n) ≡ false
+ToldRight f n Unsure = Unit

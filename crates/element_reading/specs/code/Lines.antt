@@ -3,7 +3,7 @@ use Prim.Native.Nat.{ℕ}
 use mathlib.Core.Bool.{Bool, not}
 use mathlib.Core.List.{List}
 use lib.ListN.{getD}
-use Rattle.classes.specs.Bytes.{endsLine}
+use Rattle.classes.specs.Signs.{endsLine}
 
 -- the byte at the front is of the line
 unfoldable pub inLine : List ℕ → Bool

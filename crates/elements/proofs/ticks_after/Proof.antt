@@ -1,5 +1,5 @@
 -- Each kind by its own answer. Assumes nothing.
-use Rattle.elements.specs.Kinds.{ticksAfter}
+use Rattle.elements.specs.Element.{ticksAfter}
 use mathlib.Core.Path.{sym, ap}
 use borrow.Author.Needs.{needs}
 use Rattle.elements.proofs.ticks_after.Statement.{statement}

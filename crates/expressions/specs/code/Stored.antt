@@ -27,12 +27,12 @@ wrongFrom = 2
 abbrev pub byteNumbers : ℕ
 byteNumbers = 256
 
-abbrev pub kindWord : Kind → ℕ
-kindWord Kind.Integer = 0
-kindWord Kind.Truth = 1
+abbrev pub valueKindWord : Kind → ℕ
+valueKindWord Kind.Integer = 0
+valueKindWord Kind.Truth = 1
 
 abbrev pub sortWord : Sort → ℕ
-sortWord (Of k) = kindWord k
+sortWord (Of k) = valueKindWord k
 sortWord (Wrong s) = wrongFrom + s
 
 unfoldable pub sortBy : ℕ → Sort

@@ -4,7 +4,7 @@ use Prim.Native.Nat.{ℕ, zero, suc, _+_}
 use mathlib.Core.List.{List, [], _∷_, _++_}
 use lib.ListN.{length}
 use Rattle.grammars.specs.code.Grammar.{Sym, tok, nt, act}
-use Rattle.forms.specs.code.Kinds.{kinds, numberOf, kindCount}
+use Rattle.forms.specs.code.Kinds.{symbolsByKind, numberOf, kindCount}
 use Rattle.forms.specs.code.Rules.{rules}
 use Rattle.forms.specs.code.Picks.{picks}
 use Rattle.form_table.specs.code.Symbols.{firstAction}
@@ -23,9 +23,9 @@ flatten [] = []
 flatten (r ∷ rs) = r ++ flatten rs
 
 -- the rules' sizes
-abbrev pub sized : List Rule → List ℕ
-sized [] = []
-sized (r ∷ rs) = length (r .1) ∷ sized rs
+abbrev pub ruleSizes : List Rule → List ℕ
+ruleSizes [] = []
+ruleSizes (r ∷ rs) = length (r .1) ∷ ruleSizes rs
 
 -- a symbol: a kind is its number, a name has the number of kinds added, an action that of kinds and names
 abbrev pub encode : Sym → ℕ
@@ -49,13 +49,13 @@ lined (r ∷ rs) = padded lineSymbols (r .1) ∷ lined rs
 
 -- the table's four parts, and the table
 abbrev pub kindBytes : List ℕ
-kindBytes = numbers kinds
+kindBytes = numbers symbolsByKind
 
 abbrev pub pickBytes : List ℕ
 pickBytes = flatten picks
 
 abbrev pub sizeBytes : List ℕ
-sizeBytes = sized rules
+sizeBytes = ruleSizes rules
 
 abbrev pub bodyBytes : List ℕ
 bodyBytes = flatten (lined rules)

@@ -75,16 +75,16 @@ abbrev pub named : ℕ → Frame → Frame
 named k f = record { first = f .first; operator = f .operator; name = k; rows = f .rows }
 
 -- the row of form n that a frame has when k elements were read: over all its rows, parentheses around its operands included
-abbrev pub rowOf : ℕ → ℕ → Frame → Row
-rowOf n k f = record { form = n; first = f .first; count = k - f .first; rows = length (f .rows) + 1; operator = f .operator }
+abbrev pub frameRow : ℕ → ℕ → Frame → Row
+frameRow n k f = record { form = n; first = f .first; count = k - f .first; rows = length (f .rows) + 1; operator = f .operator }
 
 abbrev pub rowed : ℕ → ℕ → Frame → Frame
-rowed n k f = record { first = f .first; operator = f .operator; name = f .name; rows = rowOf n k f ∷ f .rows }
+rowed n k f = record { first = f .first; operator = f .operator; name = f .name; rows = frameRow n k f ∷ f .rows }
 
 -- a frame's name is that of element j
-abbrev pub isNamed : (ℕ → ℕ → Bool) → ℕ → ℕ → Bool
-isNamed alike zero j = false
-isNamed alike (suc n) j = alike n j
+abbrev pub frameIsNamed : (ℕ → ℕ → Bool) → ℕ → ℕ → Bool
+frameIsNamed alike zero j = false
+frameIsNamed alike (suc n) j = alike n j
 
 -- an action when k elements were read, so that k - 1 is the one just read; `alike` tells whether two elements are the same name
 abbrev pub doAction : (ℕ → ℕ → Bool) → Action → ℕ → State → Step State Refusal
@@ -92,7 +92,7 @@ doAction alike opens k s = go (record { frames = fresh k ∷ s .frames; depth = 
 doAction alike closes k s = go (record { frames = joined (s .frames); depth = s .depth })
 doAction alike marks k s = go (record { frames = onTop (marked (k - 1)) (s .frames); depth = s .depth })
 doAction alike names k s = go (record { frames = onTop (named k) (s .frames); depth = s .depth })
-doAction alike same k s = cond (isNamed alike (top (s .frames) .name) (k - 1)) (go s) (stop name-differs)
+doAction alike same k s = cond (frameIsNamed alike (top (s .frames) .name) (k - 1)) (go s) (stop name-differs)
 doAction alike deeper k s = cond (ltb (s .depth) mostOpen) (go (record { frames = s .frames; depth = s .depth + 1 })) (stop too-deep)
 doAction alike shallower k s = go (record { frames = s .frames; depth = s .depth - 1 })
 doAction alike (row n) k s = go (record { frames = onTop (rowed n k) (s .frames); depth = s .depth })
@@ -105,8 +105,8 @@ abbrev pub start : State
 start = record { frames = fresh 0 ∷ []; depth = 0 }
 
 -- the rows of what was read
-abbrev pub rowsOf : State → List Row
-rowsOf s = top (s .frames) .rows
+abbrev pub stateRows : State → List Row
+stateRows s = top (s .frames) .rows
 
 -- The elements, of these kinds, are a file by the forms alone.
 abbrev pub IsFile : List ℕ → Type 0

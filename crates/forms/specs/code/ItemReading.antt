@@ -13,7 +13,7 @@ use Rattle.forms.specs.code.Names.{constant, subtype}
 use Rattle.forms.specs.code.Rules.{forms}
 use Rattle.form_numbers.specs.Forms as form
 use Rattle.forms.specs.Tree.{Row}
-use Rattle.forms.specs.code.Frames.{State, Refusal, does, start, rowsOf}
+use Rattle.forms.specs.code.Frames.{State, Refusal, does, start, stateRows}
 use Rattle.forms.specs.code.Reading.{readingFrom}
 
 -- what a package declares
@@ -43,7 +43,7 @@ OneItem =
 
 -- there are fewer rows than elements
 abbrev pub FewerRows : Type 0
-FewerRows = (from : Sym) → IsItem from → (alike : ℕ → ℕ → Bool) (w : List ℕ) (s : State) → ItemReading from alike w s → length (rowsOf s) < length w
+FewerRows = (from : Sym) → IsItem from → (alike : ℕ → ℕ → Bool) (w : List ℕ) (s : State) → ItemReading from alike w s → length (stateRows s) < length w
 
 -- the row of an item of form f and n elements, before its mark's row and the rows m after that
 abbrev pub ownAndMark : ℕ
@@ -62,5 +62,5 @@ markRow = record { form = form.mark; first = markAt; count = 1; rows = 1; operat
 -- the rows begin with the item's own, of form 4 for a constant and 5 for a subtype, and its type mark's
 abbrev pub BeginWithMark : Type 0
 BeginWithMark =
-    ((alike : ℕ → ℕ → Bool) (w : List ℕ) (s : State) → ItemReading constant alike w s → (m : List Row) × (rowsOf s ≡ itemRow form.constant (length w) m ∷ (markRow ∷ m)))
-    × ((alike : ℕ → ℕ → Bool) (w : List ℕ) (s : State) → ItemReading subtype alike w s → (m : List Row) × (rowsOf s ≡ itemRow form.subtype (length w) m ∷ (markRow ∷ m)))
+    ((alike : ℕ → ℕ → Bool) (w : List ℕ) (s : State) → ItemReading constant alike w s → (m : List Row) × (stateRows s ≡ itemRow form.constant (length w) m ∷ (markRow ∷ m)))
+    × ((alike : ℕ → ℕ → Bool) (w : List ℕ) (s : State) → ItemReading subtype alike w s → (m : List Row) × (stateRows s ≡ itemRow form.subtype (length w) m ∷ (markRow ∷ m)))

@@ -212,8 +212,8 @@ abbrev pub other : Sym
 other = tok 67
 
 -- by the number of an element's kind, what it is to the forms
-abbrev pub kinds : List Sym
-kinds =
+abbrev pub symbolsByKind : List Sym
+symbolsByKind =
     other ∷ identifier ∷ identifier ∷ integer ∷ real ∷ character ∷ string ∷ other ∷
     other ∷ double-star ∷ becomes ∷ not-equal ∷ at-least ∷ at-most ∷ other ∷ ampersand ∷ tick ∷ left-paren ∷ right-paren ∷ star ∷
     plus ∷ comma ∷ minus ∷ other ∷ slash ∷ colon ∷ semicolon ∷ less ∷ equal ∷ greater ∷ other ∷ other ∷ other ∷
@@ -242,4 +242,4 @@ kindCount = suc (numberOf other)
 
 -- the kind of the forms that an element of kind k is
 unfoldable pub terminalOf : ℕ → ℕ
-terminalOf k = numberOf (getD kinds k other)
+terminalOf k = numberOf (getD symbolsByKind k other)

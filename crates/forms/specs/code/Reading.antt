@@ -22,31 +22,31 @@ unfoldable pub readingFrom : Sym → (ℕ → ℕ → Bool) → List ℕ → End
 readingFrom from alike w = runs body predict (does alike) (steps (length w)) (from ∷ []) w 0 start
 
 -- reading them as a file
-abbrev pub readingOf : (ℕ → ℕ → Bool) → List ℕ → End State Refusal
-readingOf = readingFrom file
+abbrev pub fileReading : (ℕ → ℕ → Bool) → List ℕ → End State Refusal
+fileReading = readingFrom file
 
 -- the first j elements begin some file
-abbrev pub Begins : List ℕ → ℕ → Type 0
-Begins w j = (v : List ℕ) × IsFile (take j w ++ v)
+abbrev pub BeginsFile : List ℕ → ℕ → Type 0
+BeginsFile w j = (v : List ℕ) × IsFile (take j w ++ v)
 
 -- what is read is what a reading by the forms gives, and all of it
 abbrev pub ReadsFiles : Type 0
-ReadsFiles = (alike : ℕ → ℕ → Bool) (w : List ℕ) (s : State) → (readingOf alike w ≡ read s) ↔ Reading alike w s
+ReadsFiles = (alike : ℕ → ℕ → Bool) (w : List ℕ) (s : State) → (fileReading alike w ≡ read s) ↔ Reading alike w s
 
 -- two readings of the same elements give the same
-abbrev pub OneReading : Type 0
-OneReading = (alike : ℕ → ℕ → Bool) (w : List ℕ) (s t : State) → Reading alike w s → Reading alike w t → s ≡ t
+abbrev pub OneFileReading : Type 0
+OneFileReading = (alike : ℕ → ℕ → Bool) (w : List ℕ) (s t : State) → Reading alike w s → Reading alike w t → s ≡ t
 
 -- refusal 5 at j: the first j elements begin a file, and with the element at j, if there is one, they begin none
 abbrev pub FirstWrong : Type 0
 FirstWrong =
-    (alike : ℕ → ℕ → Bool) (w : List ℕ) (j : ℕ) → readingOf alike w ≡ bad j
-    → (j ≤ length w) × Begins w j × (j < length w → Begins w (suc j) → ⊥) × (j ≡ length w → IsFile w → ⊥)
+    (alike : ℕ → ℕ → Bool) (w : List ℕ) (j : ℕ) → fileReading alike w ≡ bad j
+    → (j ≤ length w) × BeginsFile w j × (j < length w → BeginsFile w (suc j) → ⊥) × (j ≡ length w → IsFile w → ⊥)
 
 -- refusals 6 and 7, when j elements were read: they begin a file
 abbrev pub StillBegins : Type 0
-StillBegins = (alike : ℕ → ℕ → Bool) (w : List ℕ) (j : ℕ) (r : Refusal) → readingOf alike w ≡ stopped j r → Begins w j
+StillBegins = (alike : ℕ → ℕ → Bool) (w : List ℕ) (j : ℕ) (r : Refusal) → fileReading alike w ≡ stopped j r → BeginsFile w j
 
 -- the steps never run out
 abbrev pub AlwaysAnswers : Type 0
-AlwaysAnswers = (alike : ℕ → ℕ → Bool) (w : List ℕ) → readingOf alike w ≡ spent → ⊥
+AlwaysAnswers = (alike : ℕ → ℕ → Bool) (w : List ℕ) → fileReading alike w ≡ spent → ⊥

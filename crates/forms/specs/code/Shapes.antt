@@ -6,19 +6,19 @@ use Rattle.grammars.specs.code.Grammar.{Sym}
 use Rattle.forms.specs.code.Kinds.{numberOf}
 use Rattle.forms.specs.Lines.{Pattern, one, sort}
 
-abbrev pub kindsOf : List Sym → List ℕ
-kindsOf [] = []
-kindsOf (s ∷ l) = numberOf s ∷ kindsOf l
+abbrev pub symbolKinds : List Sym → List ℕ
+symbolKinds [] = []
+symbolKinds (s ∷ l) = numberOf s ∷ symbolKinds l
 
-abbrev pub with : ℕ → List Sym → List ℕ
-with f [] = []
-with f (s ∷ l) = sort f (numberOf s) ∷ with f l
+abbrev pub withSymbols : ℕ → List Sym → List ℕ
+withSymbols f [] = []
+withSymbols f (s ∷ l) = sort f (numberOf s) ∷ withSymbols f l
 
-abbrev pub e : Sym → Pattern
-e k = one 0 (numberOf k ∷ [])
+abbrev pub symbol : Sym → Pattern
+symbol k = one 0 (numberOf k ∷ [])
 
-abbrev pub oneOf : List Sym → Pattern
-oneOf l = one 0 (kindsOf l)
+abbrev pub oneOfSymbols : List Sym → Pattern
+oneOfSymbols l = one 0 (symbolKinds l)
 
-abbrev pub branch : Sym → Pattern
-branch k = one 2 (with 17 (k ∷ []))
+abbrev pub branchOfSymbol : Sym → Pattern
+branchOfSymbol k = one 2 (withSymbols 17 (k ∷ []))

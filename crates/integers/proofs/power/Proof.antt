@@ -7,7 +7,7 @@ use lib.Dec.{T}
 use mir.Syntax.{w32, w64}
 use mir.Val.{toZ, ofZ}
 use mir.ValLaws.{toZ-ofZ}
-use Rattle.states.specs.States.{exponent}
+use Rattle.states.specs.States as state
 use Rattle.integers.specs.Integers.{sizedOf, powerOf}
 use Rattle.integers.proofs.Ints.{neg-of, pos-of, wide, wide-fits, abs-half}
 use Rattle.integers.proofs.power.Statement.{statement}
@@ -15,9 +15,9 @@ use Rattle.integers.proofs.power.Tie as tie
 use mir.Facts.{fits-natAbs}
 use Rattle.integers.specs.declared.Folded.the-variants.{Stopped}
 
-stops : (a e : ℤ) → ltZ e (pos 0) ≡ true → Stopped exponent ≡ powerOf a e
+stops : (a e : ℤ) → ltZ e (pos 0) ≡ true → Stopped state.exponent ≡ powerOf a e
 unfolding powerOf
-stops a e p = neg-of e p (λ e. Stopped exponent ≡ powerOf a e) (λ n. refl)
+stops a e p = neg-of e p (λ e. Stopped state.exponent ≡ powerOf a e) (λ n. refl)
 
 goes : (a e : ℤ) → ltZ e (pos 0) ≡ false → sizedOf (pow a (natAbs e)) ≡ powerOf a e
 unfolding powerOf

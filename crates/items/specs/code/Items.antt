@@ -10,7 +10,7 @@ use Rattle.places.specs.Places.{rowsIn, kindsOf}
 use Rattle.pieces.specs.Kinds.{anyDown}
 use Rattle.pieces.specs.Records.{recordWords}
 use Rattle.records.specs.Records.{wordAt, isItem, isClaim}
-use Rattle.names.specs.Language.{languageOf}
+use Rattle.names.specs.code.Language.{languageOf}
 use Rattle.folding.specs.declared.Outcome.{Outcome}
 use Rattle.expressions.specs.Folds.{nameValue, foldOf}
 use Rattle.marks.specs.code.Marks.{constantOf, subtypeOf, rangedOf}

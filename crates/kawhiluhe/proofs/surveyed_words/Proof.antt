@@ -1,11 +1,20 @@
 -- The words in their order. Assumes nothing.
-use mathlib.Core.Path.{refl}
+use Prim.Native.Nat.{ℕ}
+use mathlib.Core.Path.{_≡_}
+use mathlib.Core.List.{List, _∷_}
+use Rattle.kawhiluhe.specs.declared.Surveyed.{Surveyed}
 use Rattle.kawhiluhe.specs.Words.{surveyedWords, countsOf}
 use borrow.Author.Needs.{needs}
 use Rattle.kawhiluhe.proofs.surveyed_words.Statement.{statement}
 use Rattle.kawhiluhe.proofs.surveyed_words.Tie as tie
 use Rattle.kawhiluhe.proofs.surveyed_words.Reads as reads
 use Rattle.kawhiluhe.proofs.surveyed_words.Lts as lts
+
+-- Word by word, so that a wrong one is told by its place.
+told : (x : Surveyed) (a b c d e f g h : ℕ) (k : List ℕ) → a ≡ x .refusal → b ≡ x .place → c ≡ x .pieces → d ≡ x .frame → e ≡ x .whole → f ≡ x .pair → g ≡ x .earlier → h ≡ x .later
+    → k ≡ countsOf (x .tally) → a ∷ b ∷ c ∷ d ∷ e ∷ f ∷ g ∷ h ∷ k ≡ surveyedWords x
+unfolding surveyedWords
+told x a b c d e f g h k p q r s t u v w y = rw (p, q, r, s, t, u, v, w, y)
 
 array-read-t5 : tie.Need-array-read-t5
 array-read-t5 c = search needs
@@ -101,8 +110,8 @@ array-read-t55 : tie.Need-array-read-t55
 array-read-t55 c = search needs
 
 returns : tie.Need-returns
-unfolding surveyedWords countsOf
-returns c = refl
+unfolding countsOf
+returns c = search told
 
 pub surveyed-words-spec : {M : Type 1} → statement M
 surveyed-words-spec =

@@ -2,16 +2,16 @@
 use borrow.Author.Needs.{needs}
 use native.Mathlib.Omega.{arith}
 use Rattle.numbers.proofs.Spelled.{value-turn, value-end}
-use Rattle.numbers.specs.Numbers.{spelled}
+use Rattle.numbers.specs.Digits.{valueSpelled}
 use lib.ListN.{length, drop}
 use Prim.Native.Nat.{_-_, _≤_, min}
 use mathlib.Core.Path.{_≡_, refl}
-use Rattle.integers.specs.Integers.{beyond}
+use Rattle.integers.specs.Numbers.{beyond}
 use Rattle.literals.proofs.capped.Statement.{statement}
 use Rattle.literals.proofs.capped.Tie as tie
 
 abbrev Inv-loop : tie.InvT-loop
-Inv-loop base s v₀ i₀ v i = (v ≤ beyond) × (min beyond (spelled base v (drop i s)) ≡ min beyond (spelled base 0 s))
+Inv-loop base s v₀ i₀ v i = (v ≤ beyond) × (min beyond (valueSpelled base v (drop i s)) ≡ min beyond (valueSpelled base 0 s))
 
 abbrev μ-loop : tie.MeasureT-loop
 μ-loop base s v₀ i₀ v i = length s - i

@@ -13,8 +13,9 @@ use Rattle.values.specs.declared.Value.{Value}
 use Rattle.values.specs.declared.Value.the-variants.{Without}
 use Rattle.states.specs.States as state
 use Rattle.pieces.specs.Classes as class
-use Rattle.meaning.specs.Elements.{Element, Piece, at, kinds, piecesOf}
-use Rattle.meaning.specs.Names.{classOf, ownDoubled, Done, useOf}
+use Rattle.meaning.specs.Elements.{Element, Piece, at}
+use Rattle.meaning.specs.Pieces.{kindsInPiece, piecesOf, classOf}
+use Rattle.meaning.specs.Names.{ownDoubled, Done, useOf}
 use Rattle.forms.specs.Tree.{behind}
 use Rattle.expressions.specs.code.Expressions.{outcomeOf}
 use Rattle.meaning.specs.Records.{recordsFrom}
@@ -28,7 +29,7 @@ module _ (p : Piece) (used : Element → Value) where
   -- [range 10]: the two bounds
   abbrev pub bounded : Value → List Row → Value
   bounded mark [] = subtypeOf mark
-  bounded mark (range ∷ rs) = rangedOf mark (valued rs) (valued (behind rs)) (anyDown (kinds p))
+  bounded mark (range ∷ rs) = rangedOf mark (valued rs) (valued (behind rs)) (anyDown (kindsInPiece p))
 
   -- constant N : mark := expression; subtype N is mark [range 10]
   abbrev pub marked : Value → List Row → Value
@@ -48,7 +49,7 @@ unlessDoubled false (r ∷ rs) v = v
 
 -- what a piece comes to, below `above` in the text `all`: "The smallest of 1 to 6 wins"
 unfoldable pub valueOf : List Piece → List Done → Piece → Value
-valueOf all above p = unlessDoubled (ownDoubled all p) (rowsOfPiece (kinds p)) (formed p (useOf all above) (rowsOfPiece (kinds p)))
+valueOf all above p = unlessDoubled (ownDoubled all p) (rowsOfPiece (kindsInPiece p)) (formed p (useOf all above) (rowsOfPiece (kindsInPiece p)))
 
 abbrev pub doneOf : List Piece → List Done → Piece → Done
 doneOf all above p = record { piece = p; value = valueOf all above p }

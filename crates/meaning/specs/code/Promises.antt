@@ -8,12 +8,15 @@ use lib.ListN.{length}
 use Rattle.states.specs.States as state
 use Rattle.pieces.specs.Classes as class
 use Rattle.records.specs.Records.{isItem}
-use Rattle.records.specs.Tallies.{oneIf, tallyOf}
+use Rattle.records.specs.Tallies.{tallyOf}
+use Rattle.records.specs.Counting.{oneIf}
 use Rattle.values.specs.declared.Value.{Value}
 use Rattle.values.specs.declared.Value.the-variants.{Without}
-use Rattle.meaning.specs.Elements.{Piece, piecesOf}
-use Rattle.meaning.specs.Names.{classOf, ownDoubled, Done}
-use Rattle.meaning.specs.Forms.{Fits, Item, constant, subtype, ranged, HasForm}
+use Rattle.meaning.specs.Elements.{Piece}
+use Rattle.meaning.specs.Pieces.{piecesOf, classOf}
+use Rattle.meaning.specs.Names.{ownDoubled, Done}
+use Rattle.meaning.specs.Forms.{ItemForm, constant, subtype, ranged, HasForm}
+use Rattle.meaning.specs.Items.{FitsAForm}
 use Rattle.meaning.specs.Meaning.{Comes, Come}
 use Rattle.meaning.specs.code.PieceValues.{valueOf, donesFrom, recordsOf}
 
@@ -25,26 +28,26 @@ abbrev pub ComeExactly : Type 0
 ComeExactly = (all : List Piece) (above : List Done) (ps : List Piece) (ds : List Done) → Come all above ps ds ↔ (ds ≡ donesFrom all above ps)
 
 -- A piece has a form by its class: a constant's is of class 3, a subtype's of class 4.
-abbrev pub formClass : Item → ℕ
-formClass (constant m x) = class.constant
-formClass (subtype m) = class.subtype
-formClass (ranged m x down y) = class.subtype
+abbrev pub itemFormClass : ItemForm → ℕ
+itemFormClass (constant m x) = class.constant
+itemFormClass (subtype m) = class.subtype
+itemFormClass (ranged m x down y) = class.subtype
 
 abbrev pub ClassByForm : Type 0
-ClassByForm = (p : Piece) (i : Item) → HasForm p i → classOf p ≡ formClass i
+ClassByForm = (p : Piece) (i : ItemForm) → HasForm p i → classOf p ≡ itemFormClass i
 
 -- State 1: a piece is broken exactly when "no form fits", whatever stands around it.
 abbrev pub BrokenExactly : Type 0
-BrokenExactly = (all : List Piece) (above : List Done) (p : Piece) → (valueOf all above p ≡ Without state.broken) ↔ (Fits p → ⊥)
+BrokenExactly = (all : List Piece) (above : List Done) (p : Piece) → (valueOf all above p ≡ Without state.broken) ↔ (FitsAForm p → ⊥)
 
 -- State 2: a piece is doubled exactly when a form fits and "its name has another claim anywhere, the language's included".
 abbrev pub DoubledExactly : Type 0
-DoubledExactly = (all : List Piece) (above : List Done) (p : Piece) → (valueOf all above p ≡ Without state.doubled) ↔ (Fits p × (ownDoubled all p ≡ true))
+DoubledExactly = (all : List Piece) (above : List Done) (p : Piece) → (valueOf all above p ≡ Without state.doubled) ↔ (FitsAForm p × (ownDoubled all p ≡ true))
 
 -- Where a form fits and the name has no other claim, what has no number is in one of the states 3 to 10.
 abbrev pub LaterElse : Type 0
 LaterElse =
-    (all : List Piece) (above : List Done) (p : Piece) (s : ℕ) → Fits p → ownDoubled all p ≡ false → valueOf all above p ≡ Without s → (state.unfolded ≤ s) × (s ≤ state.range)
+    (all : List Piece) (above : List Done) (p : Piece) (s : ℕ) → FitsAForm p → ownDoubled all p ≡ false → valueOf all above p ≡ Without s → (state.unfolded ≤ s) × (s ≤ state.range)
 
 -- A piece without a number is in one of the states 1 to 10.
 abbrev pub StatesKnown : Type 0

@@ -6,13 +6,13 @@ use mathlib.Core.Bool.{Bool, true, cond, _&&_}
 use mathlib.Core.List.{List}
 use lib.Dec.{eqb}
 use lib.ListN.{getD}
-use Rattle.same_names.specs.Alike.{counts}
+use Rattle.same_names.specs.Spelling.{counts}
 use Rattle.places.specs.Places.{kindColumn, firstColumn, sizeColumn, cellAt, within}
 use Rattle.records.specs.Records.{wordAt, isClaim}
 use Rattle.pieces.specs.Columns as column
-use Rattle.places.specs.Kinds.{identifier}
+use Rattle.places.specs.Kinds.{identifierKind}
 use Rattle.names.specs.code.Links.{firstFrom}
-use Rattle.names.specs.Language.{integerName, naturalName, booleanName, name-integer, name-natural, name-boolean}
+use Rattle.names.specs.code.Language.{integerName, naturalName, booleanName, name-integer, name-natural, name-boolean}
 
 -- how many hashes there are, what one is multiplied by, how many chains, and how many hashes to a chain
 abbrev pub hashes : ℕ
@@ -43,7 +43,7 @@ chainOf h = h / perChain
 -- which chain element e's name is of
 unfoldable pub bucketOf : List ℕ → List ℕ → ℕ → ℕ
 bucketOf s table e =
-    cond (within s (cellAt table e firstColumn) (cellAt table e sizeColumn)) (chainOf (hashFrom (eqb (cellAt table e kindColumn) identifier) s (cellAt table e firstColumn) (cellAt table e sizeColumn) 0)) 0
+    cond (within s (cellAt table e firstColumn) (cellAt table e sizeColumn)) (chainOf (hashFrom (eqb (cellAt table e kindColumn) identifierKind) s (cellAt table e firstColumn) (cellAt table e sizeColumn) 0)) 0
 
 -- record j claims a name of chain b
 unfoldable pub inBucket : List ℕ → List ℕ → List ℕ → ℕ → ℕ → Bool

@@ -11,7 +11,7 @@ use Rattle.same_names.specs.Alike.{sameName}
 use Rattle.pieces.specs.Columns.{recordWords}
 use Rattle.pieces.specs.Columns as column
 use Rattle.records.specs.Records.{wordAt, isClaim}
-use Rattle.records.specs.Tallies.{oneIf}
+use Rattle.records.specs.Counting.{oneIf}
 use Rattle.names.specs.code.Names.{share}
 
 -- how many records there are, "a survey at most 1,024 pieces"

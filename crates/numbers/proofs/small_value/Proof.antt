@@ -1,7 +1,7 @@
 -- The invariant: the value, with the rest of the digits after it, is the value of the whole, each capped at 17. Assumes nothing.
 use borrow.Author.Needs.{needs}
 use Rattle.numbers.proofs.Spelled.{value-turn, value-end}
-use Rattle.numbers.specs.Numbers.{spelled}
+use Rattle.numbers.specs.Digits.{valueSpelled}
 use lib.ListN.{length, drop}
 use native.Mathlib.Omega.{arith}
 use Prim.Native.Nat.{_-_, _≤_, min}
@@ -10,7 +10,7 @@ use Rattle.numbers.proofs.small_value.Statement.{statement}
 use Rattle.numbers.proofs.small_value.Tie as tie
 
 abbrev Inv-loop : tie.InvT-loop
-Inv-loop s v₀ i₀ v i = (v ≤ 17) × (min 17 (spelled 10 v (drop i s)) ≡ min 17 (spelled 10 0 s))
+Inv-loop s v₀ i₀ v i = (v ≤ 17) × (min 17 (valueSpelled 10 v (drop i s)) ≡ min 17 (valueSpelled 10 0 s))
 
 abbrev μ-loop : tie.MeasureT-loop
 μ-loop s v₀ i₀ v i = length s - i

@@ -13,11 +13,11 @@ use Rattle.pieces.proofs.frame_from.Statement.{statement}
 use Rattle.pieces.proofs.frame_from.Tie as tie
 
 abbrev Inv-loop : tie.InvT-loop
-Inv-loop elements n name from at₀ at =
-    (at ≤ n) × (framedFrom name at (kindPieces (drop at (kindsOf n elements))) ≡ framedFrom name from (kindPieces (drop from (kindsOf n elements))))
+Inv-loop elements n heading at₀ at =
+    (at ≤ n) × (framedFrom (heading .0) at (kindPieces (drop at (kindsOf n elements))) ≡ framedFrom (heading .0) at₀ (kindPieces (drop at₀ (kindsOf n elements))))
 
 abbrev μ-loop : tie.MeasureT-loop
-μ-loop elements n name from at₀ at = n - at
+μ-loop elements n heading at₀ at = n - at
 
 loop-holds : tie.Need-loop-holds Inv-loop μ-loop
 loop-holds c = (search needs, refl)

@@ -28,8 +28,8 @@ loop-holds c = (search needs, search size-start)
 add-loop : tie.Need-add-loop Inv-loop μ-loop
 add-loop c = search needs
 
-add-kind-at : tie.Need-add-kind-at Inv-loop μ-loop
-add-kind-at c = search needs
+add-next : tie.Need-add-next Inv-loop μ-loop
+add-next c = search needs
 
 kind-at-requires-2 : tie.Need-kind-at-requires-2 Inv-loop μ-loop
 kind-at-requires-2 c κs = search needs
@@ -65,7 +65,7 @@ size-at-spec =
     closes-piece-requires
     loop-holds
     add-loop
-    add-kind-at
+    add-next
     kind-at-requires-2
     opens-piece-requires
     returns

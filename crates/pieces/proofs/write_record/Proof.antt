@@ -6,6 +6,9 @@ use borrow.Author.Needs.{needs}
 use Rattle.pieces.proofs.write_record.Statement.{statement}
 use Rattle.pieces.proofs.write_record.Tie as tie
 
+name-element-requires : tie.Need-name-element-requires
+name-element-requires c κs = search needs
+
 mul-items : tie.Need-mul-items
 mul-items c = search needs
 
@@ -29,9 +32,6 @@ mul-items-3 c = search needs
 
 slice-write-items-3 : tie.Need-slice-write-items-3
 slice-write-items-3 c = simp length-set (omega arith)
-
-name-element-requires : tie.Need-name-element-requires
-name-element-requires c κs = search needs
 
 add-items-3 : tie.Need-add-items-3
 add-items-3 c = search needs
@@ -88,6 +88,7 @@ pub write-record-spec : {M : Type 1} → statement M
 write-record-spec =
     tie.close
     (tie.spec
+    name-element-requires
     mul-items
     slice-write-items
     add-items
@@ -96,7 +97,6 @@ write-record-spec =
     add-items-2
     mul-items-3
     slice-write-items-3
-    name-element-requires
     add-items-3
     mul-items-4
     slice-write-items-4

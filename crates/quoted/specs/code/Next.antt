@@ -4,7 +4,7 @@ use mathlib.Core.Bool.{cond}
 use mathlib.Core.List.{List}
 use lib.Dec.{eqb, ltb}
 use lib.ListN.{length, getD}
-use Rattle.classes.specs.Bytes.{isGraphic}
+use Rattle.classes.specs.Signs.{isGraphic}
 use Rattle.quoted.specs.declared.Next.{Next}
 use Rattle.quoted.specs.declared.Next.the-variants.{Doubled, Closes, Inside, Breaks}
 

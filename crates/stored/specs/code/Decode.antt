@@ -8,17 +8,17 @@ use lib.Dec.{leb, ltb, eqb}
 use lib.ListN.{length, getD, take, drop}
 use mir.Val.{toZ}
 use mir.Syntax.{w32}
-use Rattle.integers.specs.Integers.{beyond}
+use Rattle.integers.specs.Numbers.{beyond}
 use Rattle.stored.specs.Fields.{Field, allBytes, endTag}
-use Rattle.stored.specs.Items.{Item, nameTag, numberTag, truthTag, subtypeTag, integerByte, booleanByte, twoBytes, threeBytes, numberSize, subtypeSize, valueSize}
-use Rattle.stored.specs.Stored.{Form, sameBytes, among, distinct, names, mostItems}
+use Rattle.stored.specs.Items.{StoredItem, nameTag, numberTag, truthTag, subtypeTag, integerByte, booleanByte, twoBytes, threeBytes, numberSize, subtypeSize, valueSize}
+use Rattle.stored.specs.Stored.{Form, sameBytes, among, distinct, itemNames, mostItems}
 use Rattle.stored.specs.declared.StoredValue.{StoredValue}
 use Rattle.stored.specs.declared.StoredValue.the-variants.{Number, Truth, Range, Truths}
 use Rattle.stored.specs.declared.Held.{Held}
 use Rattle.stored.specs.declared.Held.the-variants.{Nothing, Holds}
 
-abbrev pub fieldOf : ℕ → List ℕ → Field
-fieldOf t b = record { tag = t; body = b }
+abbrev pub taggedField : ℕ → List ℕ → Field
+taggedField t b = record { tag = t; body = b }
 
 -- a length, behind its tag, and how many bytes it has
 abbrev pub lengthSize : ℕ
@@ -43,7 +43,7 @@ fieldsFrom (suc k) (b ∷ s) = fieldsFrom k s
 fieldsFrom zero (t ∷ s) =
     elim (eqb t endTag) [
       | true ↦ ending s
-      | false ↦ before (fieldOf t (take (lengthIn s) (drop lengthSize s))) (fieldsFrom (suc (suc (lengthIn s))) s)
+      | false ↦ before (taggedField t (take (lengthIn s) (drop lengthSize s))) (fieldsFrom (suc (suc (lengthIn s))) s)
     ]
 
 -- the places of a word's third and fourth byte
@@ -61,11 +61,11 @@ wordIn s k = getD s k 0 * threeBytes + getD s (k + 1) 0 * twoBytes + getD s (k +
 abbrev pub tooLarge : ℕ → Bool
 tooLarge n = eqb n beyond
 
-unfoldable pub numberIn : List ℕ → Held
-numberIn s = cond (tooLarge (wordIn s 0)) Nothing (Holds (Number (toZ w32 (wordIn s 0))))
+unfoldable pub heldNumber : List ℕ → Held
+heldNumber s = cond (tooLarge (wordIn s 0)) Nothing (Holds (Number (toZ w32 (wordIn s 0))))
 
-unfoldable pub truthIn : List ℕ → Held
-truthIn s = cond (eqb (getD s 0 0) 0) (Holds (Truth false)) (cond (eqb (getD s 0 0) 1) (Holds (Truth true)) Nothing)
+unfoldable pub heldTruth : List ℕ → Held
+heldTruth s = cond (eqb (getD s 0 0) 0) (Holds (Truth false)) (cond (eqb (getD s 0 0) 1) (Holds (Truth true)) Nothing)
 
 -- where a subtype's ends stand
 abbrev pub lowPlace : ℕ
@@ -74,64 +74,64 @@ lowPlace = 1
 abbrev pub highPlace : ℕ
 highPlace = 5
 
-unfoldable pub rangeIn : List ℕ → Held
-rangeIn s =
+unfoldable pub heldRange : List ℕ → Held
+heldRange s =
     cond (tooLarge (wordIn s lowPlace)) Nothing
     (cond (tooLarge (wordIn s highPlace)) Nothing
     (Holds (Range (toZ w32 (wordIn s lowPlace)) (toZ w32 (wordIn s highPlace)))))
 
-unfoldable pub truthsIn : List ℕ → Held
-truthsIn s = cond (eqb (wordIn s lowPlace) 0) (cond (eqb (wordIn s highPlace) 1) (Holds Truths) Nothing) Nothing
+unfoldable pub heldTruths : List ℕ → Held
+heldTruths s = cond (eqb (wordIn s lowPlace) 0) (cond (eqb (wordIn s highPlace) 1) (Holds Truths) Nothing) Nothing
 
-unfoldable pub subtypeIn : List ℕ → Held
-subtypeIn s = cond (eqb (getD s 0 0) integerByte) (rangeIn s) (cond (eqb (getD s 0 0) booleanByte) (truthsIn s) Nothing)
+unfoldable pub heldSubtype : List ℕ → Held
+heldSubtype s = cond (eqb (getD s 0 0) integerByte) (heldRange s) (cond (eqb (getD s 0 0) booleanByte) (heldTruths s) Nothing)
 
 -- what contents begin with, by their tag
-unfoldable pub valueIn : ℕ → List ℕ → Held
-valueIn t s =
-    cond (eqb t numberTag) (cond (ltb (length s) numberSize) Nothing (numberIn s))
-    (cond (eqb t truthTag) (cond (ltb (length s) 1) Nothing (truthIn s))
-    (cond (eqb t subtypeTag) (cond (ltb (length s) subtypeSize) Nothing (subtypeIn s))
+unfoldable pub heldValue : ℕ → List ℕ → Held
+heldValue t s =
+    cond (eqb t numberTag) (cond (ltb (length s) numberSize) Nothing (heldNumber s))
+    (cond (eqb t truthTag) (cond (ltb (length s) 1) Nothing (heldTruth s))
+    (cond (eqb t subtypeTag) (cond (ltb (length s) subtypeSize) Nothing (heldSubtype s))
     Nothing))
 
 unfoldable pub itemFits : Form → StoredValue → List ℕ → Bool
 itemFits F v n = F .admits v && (F .legal n && not (among n (F .language)))
 
 -- a value whose item is legal
-unfoldable pub kept : Form → Held → List ℕ → Held
-kept F Nothing s = Nothing
-kept F (Holds v) s = cond (itemFits F v (drop (valueSize v) s)) (Holds v) Nothing
+unfoldable pub heldLegal : Form → Held → List ℕ → Held
+heldLegal F Nothing s = Nothing
+heldLegal F (Holds v) s = cond (itemFits F v (drop (valueSize v) s)) (Holds v) Nothing
 
 unfoldable pub keptIn : Form → ℕ → List ℕ → Held
-keptIn F t s = kept F (valueIn t s) s
+keptIn F t s = heldLegal F (heldValue t s) s
 
 -- with the name behind it
-unfoldable pub withName : Held → List ℕ → Option Item
+unfoldable pub withName : Held → List ℕ → Option StoredItem
 withName Nothing s = none
 withName (Holds v) s = some (record { value = v; name = drop (valueSize v) s })
 
-unfoldable pub itemIn : Form → Field → Option Item
+unfoldable pub itemIn : Form → Field → Option StoredItem
 itemIn F f = withName (keptIn F (f .tag) (f .body)) (f .body)
 
-unfoldable pub put : Option Item → Option (List Item) → Option (List Item)
-put none is = none
-put (some i) is = before i is
+unfoldable pub withItem : Option StoredItem → Option (List StoredItem) → Option (List StoredItem)
+withItem none is = none
+withItem (some i) is = before i is
 
-unfoldable pub itemsOf : Form → List Field → Option (List Item)
-itemsOf F [] = some []
-itemsOf F (f ∷ fs) = put (itemIn F f) (itemsOf F fs)
+unfoldable pub itemsInFields : Form → List Field → Option (List StoredItem)
+itemsInFields F [] = some []
+itemsInFields F (f ∷ fs) = withItem (itemIn F f) (itemsInFields F fs)
 
 pub data Table : Type 0 where
   broken : Table
-  table : List ℕ → List Item → Table
+  table : List ℕ → List StoredItem → Table
 
-unfoldable pub checked : List ℕ → Option (List Item) → Table
+unfoldable pub checked : List ℕ → Option (List StoredItem) → Table
 checked n none = broken
-checked n (some is) = cond (leb (length is) mostItems) (cond (distinct (names is)) (table n is) broken) broken
+checked n (some is) = cond (leb (length is) mostItems) (cond (distinct (itemNames is)) (table n is) broken) broken
 
 unfoldable pub titled : Form → List Field → Table
 titled F [] = broken
-titled F (f ∷ fs) = cond (eqb (f .tag) nameTag) (cond (F .legal (f .body)) (checked (f .body) (itemsOf F fs)) broken) broken
+titled F (f ∷ fs) = cond (eqb (f .tag) nameTag) (cond (F .legal (f .body)) (checked (f .body) (itemsInFields F fs)) broken) broken
 
 -- behind the form's head
 unfoldable pub headed : Form → List Field → List Field → Table
@@ -139,9 +139,9 @@ headed F [] fs = titled F fs
 headed F (h ∷ hs) [] = broken
 headed F (h ∷ hs) (f ∷ fs) = cond (eqb (h .tag) (f .tag) && sameBytes (h .body) (f .body)) (headed F hs fs) broken
 
-unfoldable pub whole : Form → Option (List Field) → Table
-whole F none = broken
-whole F (some fs) = headed F (F .head) fs
+unfoldable pub wholeTable : Form → Option (List Field) → Table
+wholeTable F none = broken
+wholeTable F (some fs) = headed F (F .head) fs
 
 unfoldable pub decode : Form → List ℕ → Table
-decode F s = whole F (fieldsFrom 0 s)
+decode F s = wholeTable F (fieldsFrom 0 s)

@@ -7,7 +7,7 @@ use borrow.Author.Needs.{needs}
 use lib.ListN.{length, drop, getD}
 use Rattle.stored.specs.Stored.{formOne}
 use Rattle.stored_reading.proofs.Cases.{count-wrong, count-ends, count-on, count-out, fits-three, fits-next, less-next}
-use Rattle.stored_reading.specs.code.Turns.{itemsAt, tally}
+use Rattle.stored_reading.specs.code.Turns.{itemsAt, countWith}
 use Rattle.stored_reading.proofs.count_from.Statement.{statement}
 use Rattle.stored_reading.proofs.count_from.Tie as tie
 use Rattle.stored_reading.proofs.count_from.Reads as reads
@@ -16,7 +16,7 @@ use Rattle.stored_reading.proofs.turn_of.Reads as turn-of-reads
 use Rattle.stored.proofs.rest.Reads as rest-reads
 
 abbrev Inv-loop : tie.InvT-loop
-Inv-loop s from at₀ n₀ at n = (n ≤ at) × (tally n (itemsAt formOne (drop at s)) ≡ tally 0 (itemsAt formOne (drop from s)))
+Inv-loop s from at₀ n₀ at n = (n ≤ at) × (countWith n (itemsAt formOne (drop at s)) ≡ countWith 0 (itemsAt formOne (drop from s)))
 
 abbrev μ-loop : tie.MeasureT-loop
 μ-loop s from at₀ n₀ at n = length s - at

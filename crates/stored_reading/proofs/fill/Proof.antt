@@ -7,7 +7,7 @@ use borrow.Author.Needs.{needs}
 use lib.ListN.{length, drop, getD}
 use lib.Seq.{sets}
 use Rattle.stored.specs.Stored.{formOne}
-use Rattle.stored_reading.specs.code.Turns.{itemsAt, there, countIn}
+use Rattle.stored_reading.specs.code.Turns.{itemsAt, there, itemsCounted}
 use Rattle.stored_reading.specs.code.Answers.{rowsAt}
 use Rattle.stored_reading.proofs.Cases.{fill-wrong, fill-ends, fill-out, fits-head, fits-place, head-fits, fill-room, fill-word, fits-three, fits-next, less-next, there-next, fill-length, fill-left, fill-on}
 use Rattle.stored_reading.proofs.fill.Statement.{statement}
@@ -20,7 +20,7 @@ use Rattle.stored.proofs.rest.Reads as rest-reads
 use Rattle.stored.proofs.value_size.Reads as value-size-reads
 
 abbrev Inv-loop : tie.InvT-loop
-Inv-loop s from t₀ at₀ w₀ t at w = (there (itemsAt formOne (drop at s)) ≡ true) × ((length t ≡ length t₀) × ((w + 6 * countIn (itemsAt formOne (drop at s)) ≤ length t₀) × (sets t w (rowsAt at (itemsAt formOne (drop at s))) ≡ sets t₀ 0 (rowsAt from (itemsAt formOne (drop from s))))))
+Inv-loop s from t₀ at₀ w₀ t at w = (there (itemsAt formOne (drop at s)) ≡ true) × ((length t ≡ length t₀) × ((w + 6 * itemsCounted (itemsAt formOne (drop at s)) ≤ length t₀) × (sets t w (rowsAt at (itemsAt formOne (drop at s))) ≡ sets t₀ 0 (rowsAt from (itemsAt formOne (drop from s))))))
 
 abbrev μ-loop : tie.MeasureT-loop
 μ-loop s from t₀ at₀ w₀ t at w = length s - at

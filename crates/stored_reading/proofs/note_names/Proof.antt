@@ -7,7 +7,7 @@ use borrow.Author.Needs.{needs}
 use lib.ListN.{length, drop}
 use lib.Seq.{sets}
 use Rattle.stored.specs.Stored.{formOne}
-use Rattle.stored_reading.specs.code.Turns.{itemsAt, there, countIn}
+use Rattle.stored_reading.specs.code.Turns.{itemsAt, there, itemsCounted}
 use Rattle.stored_reading.specs.code.Answers.{firstsAt, sizesAt}
 use Rattle.stored_reading.proofs.Cases.{fits-head, fits-place, head-fits, fits-three, fits-next, less-next, there-next, note-room, note-word, note-cell, note-left, firsts-wrong, firsts-ends, firsts-out, firsts-on, sizes-wrong, sizes-ends, sizes-out, sizes-on}
 use Rattle.stored_reading.proofs.note_names.Statement.{statement}
@@ -19,7 +19,7 @@ use Rattle.stored.proofs.value_size.Reads as value-size-reads
 use Rattle.stored_reading.proofs.turn_of.Reads as turn-of-reads
 
 abbrev Inv-loop : tie.InvT-loop
-Inv-loop s from firsts₀ sizes₀ at₀ w₀ firsts sizes at w = (there (itemsAt formOne (drop at s)) ≡ true) × ((w + countIn (itemsAt formOne (drop at s)) ≤ 1024) × ((sets firsts w (firstsAt at (itemsAt formOne (drop at s))) ≡ sets firsts₀ 0 (firstsAt from (itemsAt formOne (drop from s)))) × (sets sizes w (sizesAt (itemsAt formOne (drop at s))) ≡ sets sizes₀ 0 (sizesAt (itemsAt formOne (drop from s))))))
+Inv-loop s from firsts₀ sizes₀ at₀ w₀ firsts sizes at w = (there (itemsAt formOne (drop at s)) ≡ true) × ((w + itemsCounted (itemsAt formOne (drop at s)) ≤ 1024) × ((sets firsts w (firstsAt at (itemsAt formOne (drop at s))) ≡ sets firsts₀ 0 (firstsAt from (itemsAt formOne (drop from s)))) × (sets sizes w (sizesAt (itemsAt formOne (drop at s))) ≡ sets sizes₀ 0 (sizesAt (itemsAt formOne (drop from s))))))
 
 abbrev μ-loop : tie.MeasureT-loop
 μ-loop s from firsts₀ sizes₀ at₀ w₀ firsts sizes at w = length s - at

@@ -6,9 +6,9 @@ use mathlib.Core.Option.{Option, none, some}
 use lib.Dec.{ltb, eqb}
 use lib.ListN.{length, getD, take, drop}
 use Rattle.stored.specs.Fields.{Field, endTag}
-use Rattle.stored.specs.Items.{Item}
-use Rattle.stored.specs.Stored.{Form, distinct, names}
-use Rattle.stored.specs.code.Decode.{lengthIn, fieldsFrom, keptIn, itemsOf}
+use Rattle.stored.specs.Items.{StoredItem}
+use Rattle.stored.specs.Stored.{Form, distinct, itemNames}
+use Rattle.stored.specs.code.Decode.{lengthIn, fieldsFrom, keptIn, itemsInFields}
 use Rattle.stored.specs.declared.Held.{Held}
 use Rattle.stored.specs.declared.Held.the-variants.{Nothing, Holds}
 use Rattle.stored_reading.specs.Rows.{headSize}
@@ -41,28 +41,28 @@ unfoldable pub turnOf : Form → List ℕ → ItemTurn
 turnOf F s = turnStep F (stepOf s) s
 
 -- the items from here
-unfoldable pub itemsBy : Form → Option (List Field) → Option (List Item)
+unfoldable pub itemsBy : Form → Option (List Field) → Option (List StoredItem)
 itemsBy F none = none
-itemsBy F (some fs) = itemsOf F fs
+itemsBy F (some fs) = itemsInFields F fs
 
-unfoldable pub itemsAt : Form → List ℕ → Option (List Item)
+unfoldable pub itemsAt : Form → List ℕ → Option (List StoredItem)
 itemsAt F s = itemsBy F (fieldsFrom 0 s)
 
 -- so many items, and those from here
-unfoldable pub tally : ℕ → Option (List Item) → ItemCount
-tally n none = Broken
-tally n (some is) = Items (n + length is)
+unfoldable pub countWith : ℕ → Option (List StoredItem) → ItemCount
+countWith n none = Broken
+countWith n (some is) = Items (n + length is)
 
 -- a list is there
-unfoldable pub there : Option (List Item) → Bool
+unfoldable pub there : Option (List StoredItem) → Bool
 there none = false
 there (some is) = true
 
-unfoldable pub distinctItems : Option (List Item) → Bool
+unfoldable pub distinctItems : Option (List StoredItem) → Bool
 distinctItems none = true
-distinctItems (some is) = distinct (names is)
+distinctItems (some is) = distinct (itemNames is)
 
 -- how many items
-unfoldable pub countIn : Option (List Item) → ℕ
-countIn none = 0
-countIn (some is) = length is
+unfoldable pub itemsCounted : Option (List StoredItem) → ℕ
+itemsCounted none = 0
+itemsCounted (some is) = length is

@@ -5,13 +5,13 @@ use mathlib.Core.Bool.{true, false}
 use mathlib.Core.List.{List, [], _∷_}
 use lib.Dec.{eqb}
 use lib.ListN.{length, replicate}
-use Rattle.places.specs.Kinds.{unreadable}
+use Rattle.places.specs.Kinds.{unreadableKind}
 use Rattle.places.specs.Places.{kindsOf}
 use Rattle.element_reading.specs.Reading.{readingOf}
 use Rattle.element_reading.specs.Reading as elements
 use Rattle.element_reading.specs.declared.Reading.{Reading}
 use Rattle.element_reading.specs.declared.Reading.the-variants as R
-use Rattle.tree.specs.code.Answers.{elementsIn, readingIn, answerOf}
+use Rattle.tree.specs.code.Answers.{elementsCounted, readingIn, treeAnswerOf}
 use Rattle.tree.specs.code.Answers as trees
 use Rattle.tree.specs.declared.Answer.{Answer}
 use Rattle.tree.specs.declared.Answer.the-variants as A
@@ -25,11 +25,11 @@ use Rattle.strict_reading.specs.declared.Strict.the-variants.{Read, Refu
 -- 2: "an unreadable element, the first": of elements of these kinds, the first of which is number i
 unfoldable pub unreadableFrom : ℕ → List ℕ → Unread
 unreadableFrom i [] = U.Nothing
-unreadableFrom i (k ∷ ks) = elim (eqb k unreadable) [ true ↦ U.At i | false ↦ unreadableFrom (suc i) ks ]
+unreadableFrom i (k ∷ ks) = elim (eqb k unreadableKind) [ true ↦ U.At i | false ↦ unreadableFrom (suc i) ks ]
 
 -- the words of a tree table of so many words, once n elements of an element table were read as a file
 unfoldable pub treeTable : List ℕ → List ℕ → ℕ → ℕ → List ℕ
-treeTable text table n words = trees.tableOf words (readingIn text table (elementsIn table n))
+treeTable text table n words = trees.treeTableOf words (readingIn text table (elementsCounted table n))
 
 -- 5, 6, 7, 8, or the tree's rows and the verdict on them
 abbrev pub byAnswer : Answer → List ℕ → Strict
@@ -37,7 +37,7 @@ byAnswer (A.Tree rows) tree = Read rows (verdictOf tree rows)
 byAnswer (A.Refused r) tree = Refused r
 
 unfoldable pub fileOf : List ℕ → List ℕ → ℕ → ℕ → Strict
-fileOf text table n words = byAnswer (answerOf words (readingIn text table (elementsIn table n))) (treeTable text table n words)
+fileOf text table n words = byAnswer (treeAnswerOf words (readingIn text table (elementsCounted table n))) (treeTable text table n words)
 
 abbrev pub byUnread : Unread → List ℕ → List ℕ → ℕ → ℕ → Strict
 byUnread (U.At k) text table n words = Refused (S.Unreadable (record { 0 = k }))
@@ -48,21 +48,21 @@ unfoldable pub elementsAs : List ℕ → List ℕ → ℕ → ℕ → Strict
 elementsAs text table n words = byUnread (unreadableFrom 0 (kindsOf n table)) text table n words
 
 -- 1, 3, 4, then as above
-abbrev pub byReading : Reading → List ℕ → List ℕ → ℕ → Strict
-byReading (R.Refused r) text table words = Refused (S.Elements r)
-byReading (R.Read n) text table words = elementsAs text table (n .0) words
+abbrev pub strictByReading : Reading → List ℕ → List ℕ → ℕ → Strict
+strictByReading (R.Refused r) text table words = Refused (S.Elements r)
+strictByReading (R.Read n) text table words = elementsAs text table (n .0) words
 
 unfoldable pub strictOf : List ℕ → ℕ → ℕ → Strict
-strictOf text elementWords treeWords = byReading (readingOf text elementWords) text (elements.tableOf text elementWords) treeWords
+strictOf text elementWords treeWords = strictByReading (readingOf text elementWords) text (elements.tableOf text elementWords) treeWords
 
 -- "On refusal every lent table is all zeros. On success unused rows are zeros."
-abbrev pub kept : Strict → List ℕ → List ℕ
-kept (Read rows v) table = table
-kept (Refused r) table = replicate (length table) 0
+abbrev pub keptByStrict : Strict → List ℕ → List ℕ
+keptByStrict (Read rows v) table = table
+keptByStrict (Refused r) table = replicate (length table) 0
 
 -- the element table afterwards
-unfoldable pub elementsAfter : List ℕ → ℕ → ℕ → List ℕ
-elementsAfter text elementWords treeWords = kept (strictOf text elementWords treeWords) (elements.tableOf text elementWords)
+unfoldable pub elementsAfterStrict : List ℕ → ℕ → ℕ → List ℕ
+elementsAfterStrict text elementWords treeWords = keptByStrict (strictOf text elementWords treeWords) (elements.tableOf text elementWords)
 
 -- the tree table afterwards: zeros where no tree was tried, else as the tree's own answer leaves it
 abbrev pub treeByUnread : Unread → List ℕ → List ℕ → ℕ → ℕ → List ℕ

@@ -5,7 +5,7 @@ use mathlib.Core.Logic.{_↔_}
 use mathlib.Core.Bool.{true}
 use mathlib.Core.List.{List}
 use lib.ListN.{length, getD, replicate}
-use Rattle.states.specs.States.{range}
+use Rattle.states.specs.States as state
 use Rattle.places.specs.Sizes.{mostPieces}
 use Rattle.pieces.specs.Records.{recordWords}
 use Rattle.records.specs.Tallies.{inState}
@@ -14,8 +14,8 @@ use Rattle.names.specs.code.Names.{sharedPair}
 use Rattle.element_reading.specs.Rows.{rowsOf}
 use Rattle.element_reading.specs.Given.{Taken}
 use Rattle.element_reading.specs.Reading as elements
-use Rattle.meaning.specs.Elements.{piecesOf}
-use Rattle.survey_reading.specs.code.Survey.{surveyOf, elementsAfter, itemsAfter, itemTable, refusedBy}
+use Rattle.meaning.specs.Pieces.{piecesOf}
+use Rattle.survey_reading.specs.code.Survey.{surveyOf, elementsAfterSurvey, itemsAfter, itemTable, refusedBy}
 use Rattle.survey_reading.specs.Given.{Given}
 use Rattle.survey_reading.specs.Permitted.{Permitted}
 use Rattle.survey_reading.specs.declared.Survey.{Survey}
@@ -33,11 +33,11 @@ NoChoice =
 abbrev pub ZerosOnRefusal : Type 0
 ZerosOnRefusal =
     (s : List ℕ) (e i : ℕ) (r : SurveyRefusal) → surveyOf s e i .outcome ≡ Refused r
-    → (elementsAfter s e i ≡ replicate e 0) × (itemsAfter s e i ≡ replicate i 0) × (surveyOf s e i ≡ refusedBy r)
+    → (elementsAfterSurvey s e i ≡ replicate e 0) × (itemsAfter s e i ≡ replicate i 0) × (surveyOf s e i ≡ refusedBy r)
 
 -- A text is surveyed exactly when none of 1, 3, 4 refuses it and its pieces are at most 1,024, with a record to each.
-abbrev pub Surveyed : Type 0
-Surveyed =
+abbrev pub SurveyedExactly : Type 0
+SurveyedExactly =
     (s : List ℕ) (e i : ℕ)
     → ((y : Summary) × (surveyOf s e i .outcome ≡ Done y)) ↔ (Taken s e × (length (piecesOf s) ≤ mostPieces) × (recordWords * length (piecesOf s) ≤ i))
 
@@ -50,7 +50,7 @@ RefusedExactly = (s : List ℕ) (e i : ℕ) (r : SurveyRefusal) → (surveyOf s 
 abbrev pub SaysOfRecords : Type 0
 SaysOfRecords =
     (s : List ℕ) (e i : ℕ) (y : Summary) → surveyOf s e i .outcome ≡ Done y
-    → (itemsAfter s e i ≡ itemTable s i) × (elementsAfter s e i ≡ elements.tableOf s e) × (y .pieces ≡ length (piecesOf s))
+    → (itemsAfter s e i ≡ itemTable s i) × (elementsAfterSurvey s e i ≡ elements.tableOf s e) × (y .pieces ≡ length (piecesOf s))
     × (y .frame ≡ frameGood s (elements.tableOf s e) (length (rowsOf s))) × (y .pair ≡ sharedPair s (elements.tableOf s e) (itemTable s i) (length (piecesOf s)))
-    × ((k : ℕ) → k ≤ range → getD (surveyOf s e i .tally .counts) k 0 ≡ inState k (itemTable s i) 0 (length (piecesOf s)))
-    × ((y .whole ≡ true) ↔ ((y .frame ≡ true) × ((k : ℕ) → 1 ≤ k → k ≤ range → inState k (itemTable s i) 0 (length (piecesOf s)) ≡ 0)))
+    × ((k : ℕ) → k ≤ state.range → getD (surveyOf s e i .tally .counts) k 0 ≡ inState k (itemTable s i) 0 (length (piecesOf s)))
+    × ((y .whole ≡ true) ↔ ((y .frame ≡ true) × ((k : ℕ) → 1 ≤ k → k ≤ state.range → inState k (itemTable s i) 0 (length (piecesOf s)) ≡ 0)))

@@ -13,7 +13,7 @@ use Rattle.pieces.specs.Records.{recordWords, recording}
 use Rattle.pieces.specs.declared.Recording.{Recording}
 use Rattle.pieces.specs.declared.Recording.the-variants as M
 use Rattle.names.specs.code.Names.{sharedPair}
-use Rattle.meaning.specs.Elements.{piecesOf}
+use Rattle.meaning.specs.Pieces.{piecesOf}
 use Rattle.meaning.specs.code.PieceValues.{recordsOf}
 use Rattle.records.specs.Tallies.{tallyOf}
 use Rattle.records.specs.Frames.{frameGood, wholeOf}
@@ -44,18 +44,18 @@ summedOf text table count items n pair =
 unfoldable pub summary : List ℕ → List ℕ → ℕ → List ℕ → ℕ → Survey
 summary text table count items n = summedOf text table count items n (sharedPair text table items n)
 
-abbrev pub byRecording : Recording → List ℕ → List ℕ → ℕ → List ℕ → Survey
-byRecording (M.Recorded n) text table count items = summary text table count items n
-byRecording M.TooMany text table count items = refusedBy TooMany
-byRecording (M.TableShort rows) text table count items = refusedBy (ItemsShort rows)
+abbrev pub surveyByRecording : Recording → List ℕ → List ℕ → ℕ → List ℕ → Survey
+surveyByRecording (M.Recorded n) text table count items = summary text table count items n
+surveyByRecording M.TooMany text table count items = refusedBy TooMany
+surveyByRecording (M.TableShort rows) text table count items = refusedBy (ItemsShort rows)
 
 -- 1, 3, 4, then 9 and 10, then the survey
-abbrev pub byReading : Reading → List ℕ → List ℕ → ℕ → Survey
-byReading (R.Refused r) text table words = refusedBy (Elements r)
-byReading (R.Read n) text table words = byRecording (recording (length (piecesOf text)) words) text table (length (rowsOf text)) (itemTable text words)
+abbrev pub surveyByReading : Reading → List ℕ → List ℕ → ℕ → Survey
+surveyByReading (R.Refused r) text table words = refusedBy (Elements r)
+surveyByReading (R.Read n) text table words = surveyByRecording (recording (length (piecesOf text)) words) text table (length (rowsOf text)) (itemTable text words)
 
 unfoldable pub surveyOf : List ℕ → ℕ → ℕ → Survey
-surveyOf text elementWords itemWords = byReading (readingOf text elementWords) text (elements.tableOf text elementWords) itemWords
+surveyOf text elementWords itemWords = surveyByReading (readingOf text elementWords) text (elements.tableOf text elementWords) itemWords
 
 -- "On refusal every lent table is all zeros. On success unused rows are zeros.": a table of so many words
 abbrev pub left : Ended → ℕ → List ℕ → List ℕ
@@ -63,8 +63,8 @@ left (Done s) words table = table
 left (Refused r) words table = replicate words 0
 
 -- the element table afterwards, and the item table
-unfoldable pub elementsAfter : List ℕ → ℕ → ℕ → List ℕ
-elementsAfter text elementWords itemWords = left (surveyOf text elementWords itemWords .outcome) elementWords (elements.tableOf text elementWords)
+unfoldable pub elementsAfterSurvey : List ℕ → ℕ → ℕ → List ℕ
+elementsAfterSurvey text elementWords itemWords = left (surveyOf text elementWords itemWords .outcome) elementWords (elements.tableOf text elementWords)
 
 unfoldable pub itemsAfter : List ℕ → ℕ → ℕ → List ℕ
 itemsAfter text elementWords itemWords = left (surveyOf text elementWords itemWords .outcome) itemWords (itemTable text itemWords)

@@ -32,14 +32,14 @@ unfoldable pub itemsSurvey : List ℕ → List ℕ → ℕ → List ℕ → ℕ 
 itemsSurvey text table count items n =
     summedOf text table count (itemsCompleted text table count items n) n (pairBy (anyTwin text table items) (ownsTable text table items mostPieces) n)
 
-abbrev pub byRecording : Recording → List ℕ → List ℕ → ℕ → List ℕ → Survey
-byRecording (M.Recorded n) text table count items = itemsSurvey text table count items n
-byRecording M.TooMany text table count items = refusedBy TooMany
-byRecording (M.TableShort rows) text table count items = refusedBy (ItemsShort rows)
+abbrev pub itemsByRecording : Recording → List ℕ → List ℕ → ℕ → List ℕ → Survey
+itemsByRecording (M.Recorded n) text table count items = itemsSurvey text table count items n
+itemsByRecording M.TooMany text table count items = refusedBy TooMany
+itemsByRecording (M.TableShort rows) text table count items = refusedBy (ItemsShort rows)
 
 -- 9, 10, or the survey of the pieces
 unfoldable pub piecesSurvey : List ℕ → List ℕ → ℕ → ℕ → Survey
-piecesSurvey text table count words = byRecording (recording (length (piecesIn table count)) words) text table count (recordTable (piecesIn table count) words)
+piecesSurvey text table count words = itemsByRecording (recording (length (piecesIn table count)) words) text table count (recordTable (piecesIn table count) words)
 
 abbrev pub itemsByMarking : Recording → List ℕ → List ℕ → ℕ → List ℕ → List ℕ
 itemsByMarking (M.Recorded n) text table count items = itemsCompleted text table count items n
@@ -54,5 +54,5 @@ abbrev pub keptBy : Ended → List ℕ → List ℕ
 keptBy (Done s) table = table
 keptBy (Refused r) table = replicate (length table) 0
 
-abbrev pub kept : Survey → List ℕ → List ℕ
-kept s table = keptBy (s .outcome) table
+abbrev pub keptBySurvey : Survey → List ℕ → List ℕ
+keptBySurvey s table = keptBy (s .outcome) table

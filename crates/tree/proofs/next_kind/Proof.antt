@@ -10,14 +10,14 @@ use Rattle.tree.proofs.next_kind.Tie as tie
 
 returns : tie.Need-returns
 returns c =
-    let start = c .before .before .before in
-    terminals-end (start .args .count) (start .args .elements .now) (start .args .at) (c .if1 .taken)
+    let start = c .before .before .before .before in
+    terminals-end (start .args .count) (start .args .elements .now) (start .args .e .0) (c .if1 .taken)
 
 kind-of-requires : tie.Need-kind-of-requires
 kind-of-requires c κs = search needs
 
 shared-slice-read-wide : tie.Need-shared-slice-read-wide
-shared-slice-read-wide c = omega (arith, forms-size (c .before .before .before .before .before .before .pre .0))
+shared-slice-read-wide c = omega (arith, forms-size (c .before .before .before .before .before .before .before .pre .0))
 
 wide-requires : tie.Need-wide-requires
 wide-requires c κs = search needs
@@ -27,16 +27,16 @@ returns-2 c =
     let at-if2 = c .before .before in
     let at-kind-of = at-if2 .before in
     let at-if1 = at-kind-of .before in
-    let start = at-if1 .before .before .before in
-    terminals-at (start .args .count) (start .args .elements .now) (start .args .at) (at-kind-of .kind-of .result) (c .wide .result) (start .pre .1) (at-if1 .if1 .left) (at-kind-of .kind-of .ensures)
+    let start = at-if1 .before .before .before .before in
+    terminals-at (start .args .count) (start .args .elements .now) (start .args .e .0) (at-kind-of .kind-of .result) (c .wide .result) (start .pre .1) (at-if1 .if1 .left) (at-kind-of .kind-of .ensures)
     (c .wide .ensures ∙ kind-at (start .pre .0) (at-kind-of .kind-of .result) (at-if2 .if2 .taken))
 
 returns-3 : tie.Need-returns-3
 returns-3 c =
     let at-kind-of = c .before in
     let at-if1 = at-kind-of .before in
-    let start = at-if1 .before .before .before in
-    terminals-at (start .args .count) (start .args .elements .now) (start .args .at) (at-kind-of .kind-of .result) (numberOf other) (start .pre .1) (at-if1 .if1 .left) (at-kind-of .kind-of .ensures)
+    let start = at-if1 .before .before .before .before in
+    terminals-at (start .args .count) (start .args .elements .now) (start .args .e .0) (at-kind-of .kind-of .result) (numberOf other) (start .pre .1) (at-if1 .if1 .left) (at-kind-of .kind-of .ensures)
     (kind-past (at-kind-of .kind-of .result) (c .if2 .left))
 
 pub next-kind-spec : {M : Type 1} → statement M

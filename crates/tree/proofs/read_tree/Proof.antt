@@ -4,7 +4,7 @@ use mathlib.Core.Logic.{inl}
 use native.Mathlib.Omega.{arith}
 use lib.ListN.{length}
 use Rattle.tree.specs.code.Room.{stackWords, framesWords, mostRows, cellsWords}
-use Rattle.tree.specs.code.Answers.{readingIn, elementsIn}
+use Rattle.tree.specs.code.Answers.{readingIn, elementsCounted}
 use Rattle.tree.proofs.Zeros.{zeros, zeros-size}
 use Rattle.tree.proofs.Final.{says-tree, says-short, says-unread, whole-asks, in-table, in-size, rooms, told}
 use borrow.Author.Needs.{needs}
@@ -60,7 +60,7 @@ returns c =
     let at-least = at-scan .before .before .before .before .before .before .before .before in
     let at-clear = at-least .before .before .before in
     let start = at-clear .before .before .before .before .before in
-    says-unread (at-scan .scan .last .1 .1 .1 .1 .1 .1 .0) (at-scan .scan .last .1 .1 .1 .1 .1 .1 .1 .0) (at-scan .scan .last .1 .1 .1 .1 .1 .1 .1 .1 .0) (at-scan .scan .result) (readingIn (start .args .text .now) (start .args .elements .now) (elementsIn (start .args .elements .now) (start .args .count))) (told (at-scan .scan .result) (at-scan .scan .last .1 .1 .1 .1 .1 .1 .0) (at-scan .scan .last .1 .1 .1 .1 .1 .1 .1 .0) (at-scan .scan .last .1 .1 .1 .1 .1 .1 .1 .1 .0) (start .args .text .now) (start .args .elements .now) (at-least .least .result) (start .args .count) (at-least .least .ensures) (at-scan .scan .ensures)) _ (length (start .args .tree .now)) (at-clear .clear .last .0) (c .enum-told .given .1) (at-clear .clear .ensures)
+    says-unread (at-scan .scan .last .1 .1 .1 .1 .1 .1 .0) (at-scan .scan .last .1 .1 .1 .1 .1 .1 .1 .0) (at-scan .scan .last .1 .1 .1 .1 .1 .1 .1 .1 .0) (at-scan .scan .result) (readingIn (start .args .text .now) (start .args .elements .now) (elementsCounted (start .args .elements .now) (start .args .count))) (told (at-scan .scan .result) (at-scan .scan .last .1 .1 .1 .1 .1 .1 .0) (at-scan .scan .last .1 .1 .1 .1 .1 .1 .1 .0) (at-scan .scan .last .1 .1 .1 .1 .1 .1 .1 .1 .0) (start .args .text .now) (start .args .elements .now) (at-least .least .result) (start .args .count) (at-least .least .ensures) (at-scan .scan .ensures)) _ (length (start .args .tree .now)) (at-clear .clear .last .0) (c .enum-told .given .1) (at-clear .clear .ensures)
 
 same-length-2 : tie.Need-same-length-2
 same-length-2 c = search needs
@@ -72,7 +72,7 @@ returns-2 c =
     let at-least = at-scan .before .before .before .before .before .before .before .before in
     let at-clear = at-least .before .before .before in
     let start = at-clear .before .before .before .before .before in
-    rooms _ (at-clear .clear .last .0) _ _ (readingIn (start .args .text .now) (start .args .elements .now) (elementsIn (start .args .elements .now) (start .args .count))) (at-clear .clear .kept .0) (says-short (at-scan .scan .last .1 .1 .1 .1 .1 .1 .0) (at-scan .scan .last .1 .1 .1 .1 .1 .1 .1 .0) (at-scan .scan .last .1 .1 .1 .1 .1 .1 .1 .1 .0) (at-scan .scan .result) (readingIn (start .args .text .now) (start .args .elements .now) (elementsIn (start .args .elements .now) (start .args .count))) (told (at-scan .scan .result) (at-scan .scan .last .1 .1 .1 .1 .1 .1 .0) (at-scan .scan .last .1 .1 .1 .1 .1 .1 .1 .0) (at-scan .scan .last .1 .1 .1 .1 .1 .1 .1 .1 .0) (start .args .text .now) (start .args .elements .now) (at-least .least .result) (start .args .count) (at-least .least .ensures) (at-scan .scan .ensures)) (at-found .found .given .0 .0) (length (at-clear .clear .last .0)) (at-clear .clear .last .0) (at-found .found .given .1) (c .if1 .taken) (at-clear .clear .ensures ∙ ap zeros (sym (at-clear .clear .kept .0))))
+    rooms _ (at-clear .clear .last .0) _ _ (readingIn (start .args .text .now) (start .args .elements .now) (elementsCounted (start .args .elements .now) (start .args .count))) (at-clear .clear .kept .0) (says-short (at-scan .scan .last .1 .1 .1 .1 .1 .1 .0) (at-scan .scan .last .1 .1 .1 .1 .1 .1 .1 .0) (at-scan .scan .last .1 .1 .1 .1 .1 .1 .1 .1 .0) (at-scan .scan .result) (readingIn (start .args .text .now) (start .args .elements .now) (elementsCounted (start .args .elements .now) (start .args .count))) (told (at-scan .scan .result) (at-scan .scan .last .1 .1 .1 .1 .1 .1 .0) (at-scan .scan .last .1 .1 .1 .1 .1 .1 .1 .0) (at-scan .scan .last .1 .1 .1 .1 .1 .1 .1 .1 .0) (start .args .text .now) (start .args .elements .now) (at-least .least .result) (start .args .count) (at-least .least .ensures) (at-scan .scan .ensures)) (at-found .found .given .0 .0) (length (at-clear .clear .last .0)) (at-clear .clear .last .0) (at-found .found .given .1) (c .if1 .taken) (at-clear .clear .ensures ∙ ap zeros (sym (at-clear .clear .kept .0))))
 
 slice-aggregate-write-out : tie.Need-slice-aggregate-write-out
 slice-aggregate-write-out c = search needs
@@ -90,7 +90,7 @@ write-out-requires c κs =
     let at-scan = at-found .before .before .before .before .before .before .before in
     let at-least = at-scan .before .before .before .before .before .before .before .before in
     let start = at-least .before .before .before .before .before .before .before .before in
-    let w = whole-asks (at-scan .scan .last .1 .1 .1 .1 .1 .1 .0) (at-scan .scan .last .1 .1 .1 .1 .1 .1 .1 .0) (at-scan .scan .last .1 .1 .1 .1 .1 .1 .1 .1 .0) (at-scan .scan .result) (readingIn (start .args .text .now) (start .args .elements .now) (elementsIn (start .args .elements .now) (start .args .count))) (told (at-scan .scan .result) (at-scan .scan .last .1 .1 .1 .1 .1 .1 .0) (at-scan .scan .last .1 .1 .1 .1 .1 .1 .1 .0) (at-scan .scan .last .1 .1 .1 .1 .1 .1 .1 .1 .0) (start .args .text .now) (start .args .elements .now) (at-least .least .result) (start .args .count) (at-least .least .ensures) (at-scan .scan .ensures)) (at-found .found .given .0 .0) (at-found .found .given .1) in
+    let w = whole-asks (at-scan .scan .last .1 .1 .1 .1 .1 .1 .0) (at-scan .scan .last .1 .1 .1 .1 .1 .1 .1 .0) (at-scan .scan .last .1 .1 .1 .1 .1 .1 .1 .1 .0) (at-scan .scan .result) (readingIn (start .args .text .now) (start .args .elements .now) (elementsCounted (start .args .elements .now) (start .args .count))) (told (at-scan .scan .result) (at-scan .scan .last .1 .1 .1 .1 .1 .1 .0) (at-scan .scan .last .1 .1 .1 .1 .1 .1 .1 .0) (at-scan .scan .last .1 .1 .1 .1 .1 .1 .1 .1 .0) (start .args .text .now) (start .args .elements .now) (at-least .least .result) (start .args .count) (at-least .least .ensures) (at-scan .scan .ensures)) (at-found .found .given .0 .0) (at-found .found .given .1) in
     let u = w .1 in
     let kc = at-scan .scan .kept .1 .1 .1 .1 .1 .1 .0 in
     let kn = at-scan .scan .kept .1 .1 .1 .1 .1 .1 .1 .0 in
@@ -109,7 +109,7 @@ returns-3 c =
     let at-least = at-scan .before .before .before .before .before .before .before .before in
     let at-clear = at-least .before .before .before in
     let start = at-clear .before .before .before .before .before in
-    says-tree (at-scan .scan .last .1 .1 .1 .1 .1 .1 .0) (at-scan .scan .last .1 .1 .1 .1 .1 .1 .1 .0) (at-scan .scan .last .1 .1 .1 .1 .1 .1 .1 .1 .0) (at-scan .scan .result) (readingIn (start .args .text .now) (start .args .elements .now) (elementsIn (start .args .elements .now) (start .args .count))) (told (at-scan .scan .result) (at-scan .scan .last .1 .1 .1 .1 .1 .1 .0) (at-scan .scan .last .1 .1 .1 .1 .1 .1 .1 .0) (at-scan .scan .last .1 .1 .1 .1 .1 .1 .1 .1 .0) (start .args .text .now) (start .args .elements .now) (at-least .least .result) (start .args .count) (at-least .least .ensures) (at-scan .scan .ensures)) (at-found .found .given .0 .0) (length (start .args .tree .now)) (at-clear .clear .last .0) (at-write-out .write-out .last .1 .1 .1 .1 .0) (at-found .found .given .1) (omega (arith, at-if1 .if1 .left, at-clear .clear .kept .0)) (at-clear .clear .ensures) (at-write-out .write-out .ensures)
+    says-tree (at-scan .scan .last .1 .1 .1 .1 .1 .1 .0) (at-scan .scan .last .1 .1 .1 .1 .1 .1 .1 .0) (at-scan .scan .last .1 .1 .1 .1 .1 .1 .1 .1 .0) (at-scan .scan .result) (readingIn (start .args .text .now) (start .args .elements .now) (elementsCounted (start .args .elements .now) (start .args .count))) (told (at-scan .scan .result) (at-scan .scan .last .1 .1 .1 .1 .1 .1 .0) (at-scan .scan .last .1 .1 .1 .1 .1 .1 .1 .0) (at-scan .scan .last .1 .1 .1 .1 .1 .1 .1 .1 .0) (start .args .text .now) (start .args .elements .now) (at-least .least .result) (start .args .count) (at-least .least .ensures) (at-scan .scan .ensures)) (at-found .found .given .0 .0) (length (start .args .tree .now)) (at-clear .clear .last .0) (at-write-out .write-out .last .1 .1 .1 .1 .0) (at-found .found .given .1) (omega (arith, at-if1 .if1 .left, at-clear .clear .kept .0)) (at-clear .clear .ensures) (at-write-out .write-out .ensures)
 
 pub read-tree-spec : {M : Type 1} → statement M
 read-tree-spec =

@@ -11,8 +11,8 @@ use Rattle.grammars.specs.code.Actions.{End, read, bad, stopped, spent}
 use Rattle.same_names.specs.Alike.{sameName}
 use Rattle.forms.specs.code.Kinds.{terminalOf}
 use Rattle.forms.specs.Words.{rowNumbers}
-use Rattle.forms.specs.code.Frames.{State, Refusal, name-differs, too-deep, rowsOf}
-use Rattle.forms.specs.code.Reading.{readingOf}
+use Rattle.forms.specs.code.Frames.{State, Refusal, name-differs, too-deep, stateRows}
+use Rattle.forms.specs.code.Reading.{fileReading}
 use Rattle.tree.specs.declared.Answer.{Answer}
 use Rattle.tree.specs.declared.Answer.the-variants.{Tree, Refused}
 use Rattle.refusals.specs.declared.StrictRefusal.{StrictRefusal}
@@ -20,8 +20,8 @@ use Rattle.refusals.specs.declared.StrictRefusal.the-variants as refusal
 use Rattle.forms.specs.Words.{wordsOf}
 
 -- how many elements count: no more than the table has, and no more than 8,192 (01, "What the reader covers")
-abbrev pub elementsIn : List ℕ → ℕ → ℕ
-elementsIn table count = min count (min (rowsIn table) mostElements)
+abbrev pub elementsCounted : List ℕ → ℕ → ℕ
+elementsCounted table count = min count (min (rowsIn table) mostElements)
 
 -- what kinds are to the forms
 abbrev pub terminalsIn : List ℕ → List ℕ
@@ -34,7 +34,7 @@ terminalsOf n table = terminalsIn (kindsOf n table)
 
 -- the reading of the first n elements
 abbrev pub readingIn : List ℕ → List ℕ → ℕ → End State Refusal
-readingIn text table n = readingOf (sameName text table) (terminalsOf n table)
+readingIn text table n = fileReading (sameName text table) (terminalsOf n table)
 
 -- refusals 5, 6 and 7 with their element, and 8 with the rows that the tree table has
 abbrev pub noFile : ℕ → Answer
@@ -55,16 +55,16 @@ stoppedAt k name-differs = refusal.NameDiffers (record { 0 = k - 1 })
 stoppedAt k too-deep = refusal.TooDeep (record { 0 = k - 1 })
 
 -- the answer, if the tree table has room for `room` words
-abbrev pub answerOf : ℕ → End State Refusal → Answer
-answerOf room (read s) = cond (leb (rowNumbers * length (rowsOf s)) room) (Tree (length (rowsOf s))) (tableShort (room / rowNumbers))
-answerOf room (bad k) = noFile k
-answerOf room (stopped k x) = Refused (stoppedAt k x)
-answerOf room spent = noFile 0
+abbrev pub treeAnswerOf : ℕ → End State Refusal → Answer
+treeAnswerOf room (read s) = cond (leb (rowNumbers * length (stateRows s)) room) (Tree (length (stateRows s))) (tableShort (room / rowNumbers))
+treeAnswerOf room (bad k) = noFile k
+treeAnswerOf room (stopped k x) = Refused (stoppedAt k x)
+treeAnswerOf room spent = noFile 0
 
 -- the tree table afterwards: the rows and then zeros; on a refusal zeros
-abbrev pub tableOf : ℕ → End State Refusal → List ℕ
-tableOf room (read s) =
-    cond (leb (rowNumbers * length (rowsOf s)) room) (wordsOf (rowsOf s) ++ replicate (room - rowNumbers * length (rowsOf s)) 0) (replicate room 0)
-tableOf room (bad k) = replicate room 0
-tableOf room (stopped k r) = replicate room 0
-tableOf room spent = replicate room 0
+abbrev pub treeTableOf : ℕ → End State Refusal → List ℕ
+treeTableOf room (read s) =
+    cond (leb (rowNumbers * length (stateRows s)) room) (wordsOf (stateRows s) ++ replicate (room - rowNumbers * length (stateRows s)) 0) (replicate room 0)
+treeTableOf room (bad k) = replicate room 0
+treeTableOf room (stopped k r) = replicate room 0
+treeTableOf room spent = replicate room 0

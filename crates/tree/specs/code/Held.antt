@@ -14,7 +14,7 @@ use Rattle.grammars.specs.code.Actions.{Step, go, stop, End, read, bad, stopped
 use Rattle.forms.specs.code.Names.{firstRow, file, constant, subtype}
 use Rattle.forms.specs.Words.{rowAt}
 use Rattle.forms.specs.Tree.{Row}
-use Rattle.forms.specs.code.Frames.{Frame, State, Refusal, rowsOf}
+use Rattle.forms.specs.code.Frames.{Frame, State, Refusal, stateRows}
 use Rattle.form_table.specs.code.Bytes.{encode}
 use Rattle.refusals.specs.declared.StrictRefusal.the-variants as refusal
 use Rattle.tree.specs.declared.Answer.{Answer}
@@ -49,8 +49,8 @@ pub record Held (frames cells next heads : List ℕ) (fp used : ℕ) (fs : List 
   pub bare : getD heads used 0 ≡ 0
 
 -- the code of a symbol at which the scan may start: file, constant, subtype
-abbrev pub Starts : ℕ → Type 0
-Starts from = (from ≡ encode file) ⊎ ((from ≡ encode constant) ⊎ (from ≡ encode subtype))
+abbrev pub ScanStarts : ℕ → Type 0
+ScanStarts from = (from ≡ encode file) ⊎ ((from ≡ encode constant) ⊎ (from ≡ encode subtype))
 
 -- how many rows there are after an action
 abbrev pub pickUsed : Bool → ℕ → ℕ
@@ -61,16 +61,16 @@ abbrev pub usedAfter : ℕ → ℕ → ℕ
 usedAfter a u = pickUsed (leb firstRow a) u
 
 -- what an action of the code did, when k elements were read, is what the action makes of the state
-abbrev pub Done : Did → List ℕ → List ℕ → List ℕ → List ℕ → (used k : ℕ) → Step State Refusal → Type 0
-Done (Went m) frames cells next heads used k (go t) = Held frames cells next heads (m .fp) (m .used) (t .frames) × (t .depth ≡ m .depth) × (m .used ≡ used)
-Done (Stopped r) frames cells next heads used k (stop x) = r ≡ stoppedAt k x
-Done (Went m) frames cells next heads used k (stop x) = ⊥
-Done (Stopped r) frames cells next heads used k (go t) = ⊥
+abbrev pub ActionDone : Did → List ℕ → List ℕ → List ℕ → List ℕ → (used k : ℕ) → Step State Refusal → Type 0
+ActionDone (Went m) frames cells next heads used k (go t) = Held frames cells next heads (m .fp) (m .used) (t .frames) × (t .depth ≡ m .depth) × (m .used ≡ used)
+ActionDone (Stopped r) frames cells next heads used k (stop x) = r ≡ stoppedAt k x
+ActionDone (Went m) frames cells next heads used k (stop x) = ⊥
+ActionDone (Stopped r) frames cells next heads used k (go t) = ⊥
 
 -- what the scan answers is how the reading ends
 abbrev pub Tells : Answer → List ℕ → List ℕ → List ℕ → End State Refusal → Type 0
 Tells (Tree used) cells next heads (read s) =
-    Spans cells next heads used 0 (rowsOf s) × (length (rowsOf s) ≡ used) × (used ≤ mostElements) × ((i : ℕ) → i ≤ used → getD heads i 0 ≤ used)
+    Spans cells next heads used 0 (stateRows s) × (length (stateRows s) ≡ used) × (used ≤ mostElements) × ((i : ℕ) → i ≤ used → getD heads i 0 ≤ used)
 Tells (Refused r) cells next heads (bad j) = r ≡ refusal.NoFile (record { 0 = j })
 Tells (Refused r) cells next heads (stopped j x) = r ≡ stoppedAt j x
 Tells (Tree used) cells next heads (bad j) = ⊥

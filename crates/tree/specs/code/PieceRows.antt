@@ -10,7 +10,7 @@ use Rattle.grammars.specs.code.Actions.{End, read, bad, stopped, spent}
 use Rattle.forms.specs.code.Names.{constant, subtype}
 use Rattle.forms.specs.Words.{rowNumbers}
 use Rattle.forms.specs.Tree.{Row}
-use Rattle.forms.specs.code.Frames.{State, Refusal, rowsOf}
+use Rattle.forms.specs.code.Frames.{State, Refusal, stateRows}
 use Rattle.forms.specs.code.Reading.{readingFrom}
 use Rattle.form_table.specs.code.Bytes.{encode}
 use Rattle.pieces.specs.Kinds.{word-constant, word-subtype, kindPieces}
@@ -32,7 +32,7 @@ readingOfPiece p = readingBy (getD p 0 0) (terminalsIn p)
 
 -- the rows of what was read whole
 abbrev pub rowsRead : End State Refusal → List Row
-rowsRead (read s) = rowsOf s
+rowsRead (read s) = stateRows s
 rowsRead (bad k) = []
 rowsRead (stopped k r) = []
 rowsRead spent = []
@@ -51,13 +51,13 @@ piecesWords [] = []
 piecesWords (p ∷ ps) = pieceWords p ++ piecesWords ps
 
 -- how many elements count: no more than either table has, and no more than 8,192
-abbrev pub itemsIn : List ℕ → ℕ → ℕ → ℕ
-itemsIn table count words = min count (min (rowsIn table) (min (words / rowNumbers) mostElements))
+abbrev pub elementsForItems : List ℕ → ℕ → ℕ → ℕ
+elementsForItems table count words = min count (min (rowsIn table) (min (words / rowNumbers) mostElements))
 
 -- the row table of so many words afterwards
 unfoldable pub itemRows : List ℕ → ℕ → ℕ → List ℕ
-itemRows table count words = piecesWords (kindPieces (kindsOf (itemsIn table count words) table)) ++ replicate (words - rowNumbers * itemsIn table count words) 0
+itemRows table count words = piecesWords (kindPieces (kindsOf (elementsForItems table count words) table)) ++ replicate (words - rowNumbers * elementsForItems table count words) 0
 
 -- the code of the symbol from which a piece is read that begins with kind k, 0 where it is not read
-abbrev pub startOf : ℕ → ℕ
-startOf k = cond (eqb k word-constant) (encode constant) (cond (eqb k word-subtype) (encode subtype) 0)
+abbrev pub scanStartOf : ℕ → ℕ
+scanStartOf k = cond (eqb k word-constant) (encode constant) (cond (eqb k word-subtype) (encode subtype) 0)

@@ -6,7 +6,7 @@ use mathlib.Core.List.{List}
 use lib.Dec.{eqb, ltb}
 use lib.ListN.{getD}
 use Rattle.records.specs.Records.{wordAt}
-use Rattle.names.specs.Language.{languageOf}
+use Rattle.names.specs.code.Language.{languageOf}
 use Rattle.values.specs.Values.{languageValue}
 use Rattle.values.specs.code.Used.{usedValue}
 use Rattle.values.specs.declared.Value.{Value}

@@ -5,7 +5,7 @@ use mathlib.Core.Bool.{Bool, _&&_, _||_, cond}
 use mathlib.Core.List.{List, [], _∷_}
 use lib.Dec.{eqb}
 use lib.ListN.{length, getD, drop}
-use Rattle.form_numbers.specs.Forms.{while-loop, bare-loop, next-statement, exit-statement, null-statement, label, guard, block-is}
+use Rattle.form_numbers.specs.Statements as formNumber
 use Rattle.forms.specs.Words.{rowNumbers}
 use Rattle.verdict.specs.declared.Verdict.{Verdict}
 use Rattle.verdict.specs.declared.Verdict.the-variants.{Passes, NotSupported}
@@ -13,8 +13,8 @@ use Rattle.verdict.specs.declared.Verdict.the-variants.{Passes, NotSuppo
 -- a row of this form after one of form `before` is not supported
 abbrev pub unsupported : ℕ → ℕ → Bool
 unsupported before form =
-    eqb form while-loop || eqb form bare-loop || eqb form guard || eqb form block-is
-    || eqb form label && (eqb before next-statement || eqb before exit-statement || eqb before null-statement)
+    eqb form formNumber.while-loop || eqb form formNumber.bare-loop || eqb form formNumber.guard || eqb form formNumber.block-is
+    || eqb form formNumber.label && (eqb before formNumber.next-statement || eqb before formNumber.exit-statement || eqb before formNumber.null-statement)
 
 -- of rows of these forms, the first being row i and the form of the one before it `before`
 unfoldable pub verdictFrom : ℕ → ℕ → List ℕ → Verdict

@@ -5,7 +5,7 @@ use mathlib.Core.Path.{_≡_}
 use mathlib.Core.List.{List}
 use lib.ListN.{length}
 use Rattle.forms.specs.Tree.{Row}
-use Rattle.forms.specs.Words.{rowNumbers, rowsIn}
+use Rattle.forms.specs.Words.{rowNumbers, treeRowsIn}
 use Rattle.forms.specs.Labels.{LabelsLead}
 use Rattle.verdict.specs.Verdict.{Judged}
 use Rattle.verdict.specs.code.Judging.{verdictOf}
@@ -13,7 +13,7 @@ use Rattle.verdict.specs.declared.Verdict.{Verdict}
 
 -- the first n rows of a tree table, as far as it has them
 abbrev pub rowsHad : List ℕ → ℕ → List Row
-rowsHad words n = rowsIn (min n (length words / rowNumbers)) words
+rowsHad words n = treeRowsIn (min n (length words / rowNumbers)) words
 
 -- What `judge` answers is the verdict on the rows of the table, and no other is: where each label leads the row right before it, as in every
 -- file's tree.
