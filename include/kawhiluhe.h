@@ -5,16 +5,16 @@
    A pointer may be null where its length is 0. Tables must not overlap each other or the text.
 
    A table is lent by the caller: a pointer and the number of words that it has. It has as many rows as fit whole. After a call it
-   holds the rows and then zeros; after a refusal it is all zeros.
+   holds the rows and then zeros; after a refusal it is all zeros. So is an output, a buffer for bytes.
 
-   Lengths are in bytes for texts, names and buffers, and in words for tables. Places and numbers count from 0, in two countings: a byte
+   Lengths are in bytes for texts, names, outputs and buffers, and in words for tables. Places and numbers count from 0, in two countings: a byte
    place is a place in the text, an element number a row of the element table, where its byte place stands. */
 #ifndef KAWHILUHE_H
 #define KAWHILUHE_H
 
 /* The version: the first number changes where a caller must, the second where there is more, the third where there is none of either. */
-#define KAWHILUHE_VERSION "1.1.0"
-#define KAWHILUHE_VERSION_NUMBER 10100
+#define KAWHILUHE_VERSION "1.2.0"
+#define KAWHILUHE_VERSION_NUMBER 10200
 
 #ifdef __cplusplus
 extern "C" {
@@ -23,14 +23,16 @@ extern "C" {
 typedef unsigned char kawhiluhe_byte; /* uint8_t */
 typedef unsigned long kawhiluhe_word; /* uint64_t, and size_t: this header needs no other */
 
-/* Sizes: a text has at most 65,536 bytes and 8,192 elements, a survey at most 1,024 pieces. */
+/* Sizes: a text has at most 65,536 bytes and 8,192 elements, a survey at most 1,024 pieces, a stored table at most 1,024 items. */
 enum {
     KAWHILUHE_MOST_BYTES = 65536,
     KAWHILUHE_MOST_ELEMENTS = 8192,
     KAWHILUHE_MOST_PIECES = 1024,
+    KAWHILUHE_MOST_STORED_ITEMS = 1024,
     KAWHILUHE_ELEMENT_WORDS = 3,
     KAWHILUHE_TREE_WORDS = 5,
-    KAWHILUHE_ITEM_WORDS = 8
+    KAWHILUHE_ITEM_WORDS = 8,
+    KAWHILUHE_STORED_WORDS = 6
 };
 
 /* Refusals, in the order in which they are tested; of 5, 6, 7 the first element decides. 0 is none.
@@ -45,7 +47,10 @@ enum {
     KAWHILUHE_TOO_DEEP = 7,            /* strict: the element after which more than 32 stand open */
     KAWHILUHE_TREE_TABLE_SHORT = 8,    /* strict: the rows that the table has */
     KAWHILUHE_TOO_MANY_PIECES = 9,     /* survey: 1,024 */
-    KAWHILUHE_ITEM_TABLE_SHORT = 10    /* survey: the records that the table has */
+    KAWHILUHE_NOT_STORED = 24,         /* a stored table: 0 */
+    KAWHILUHE_ITEM_TABLE_SHORT = 10,   /* survey and a stored table: the records or rows that the table has */
+    KAWHILUHE_NOT_WHOLE = 21,          /* storing a survey: 0 */
+    KAWHILUHE_OUTPUT_SHORT = 22        /* storing: the bytes that the output has room for */
 };
 
 /* The element table: a row is kind, first byte, length. Kinds:
@@ -140,6 +145,35 @@ struct kawhiluhe_surveyed {
     kawhiluhe_word tally[KAWHILUHE_STATES]; /* how many items are in each state */
 };
 
+/* A stored table: fields of a one-byte tag, a two-byte length, high byte first, and the contents. Tag 1 has the package's name; then a field to each
+   item, in order: tag 2 an integer constant (four bytes in two's complement, high byte first, and the name), tag 3 a truth constant (a byte 0 or 1,
+   and the name), tag 4 a subtype (a byte 0 integer or 1 boolean, its low and its high end in four bytes each, and the name); tag 0 with length 0 ends
+   it. Names are in lower case unless extended. The rows of one that is read, one to an item: */
+struct kawhiluhe_stored_item {
+    kawhiluhe_word sort;   /* 3 constant, 4 subtype */
+    kawhiluhe_word name;   /* the byte of the table at which its name begins */
+    kawhiluhe_word length; /* and how many bytes that has */
+    kawhiluhe_word kind;   /* 1 integer or 2 truth */
+    kawhiluhe_word low;    /* as in an item record */
+    kawhiluhe_word high;
+};
+
+/* The answer of storing. */
+struct kawhiluhe_kept {
+    kawhiluhe_word refusal;
+    kawhiluhe_word place;
+    kawhiluhe_word bytes; /* how many were written; 0 on a refusal */
+};
+
+/* The answer of reading a stored table. */
+struct kawhiluhe_unstored {
+    kawhiluhe_word refusal;
+    kawhiluhe_word place;
+    kawhiluhe_word items;  /* how many there are */
+    kawhiluhe_word name;   /* the byte at which the package's name begins */
+    kawhiluhe_word length; /* and how many bytes that has */
+};
+
 /* The elements of a text. Refusals 1, 3, 4. */
 struct kawhiluhe_elements kawhiluhe_elements(const kawhiluhe_byte *text, kawhiluhe_word text_length, kawhiluhe_word *elements,
                                              kawhiluhe_word element_words);
@@ -163,11 +197,24 @@ kawhiluhe_word kawhiluhe_lookup_items(const kawhiluhe_byte *text, kawhiluhe_word
                                       kawhiluhe_word element_words, const kawhiluhe_byte *name, kawhiluhe_word name_length,
                                       const struct kawhiluhe_item *items, kawhiluhe_word item_count);
 
+/* The survey of a package that is whole, stored: elements and item records as the survey leaves them, and the bytes of the table in the output.
+   Refusals: the survey's own, 21, 22. */
+struct kawhiluhe_kept kawhiluhe_store(const kawhiluhe_byte *text, kawhiluhe_word text_length, kawhiluhe_word *elements, kawhiluhe_word element_words,
+                                      kawhiluhe_word *items, kawhiluhe_word item_words, kawhiluhe_byte *out, kawhiluhe_word out_length);
+
+/* A stored table of any length, read: a row to each item. Refusals 24, 10. */
+struct kawhiluhe_unstored kawhiluhe_read_stored(const kawhiluhe_byte *bytes, kawhiluhe_word bytes_length, kawhiluhe_word *rows,
+                                                kawhiluhe_word row_words);
+
+/* The same, and what was read stored again, which gives the same bytes. Refusals 24, 10, 22. */
+struct kawhiluhe_kept kawhiluhe_store_again(const kawhiluhe_byte *bytes, kawhiluhe_word bytes_length, kawhiluhe_word *rows, kawhiluhe_word row_words,
+                                            kawhiluhe_byte *out, kawhiluhe_word out_length);
+
 /* What the programs print of an answer, line by line. Each of these takes the tables that the answer was given with and the answer itself, by
    its words, and fills the buffer with whole lines from the line `from` on: the first line is 0. After them the buffer holds zeros, one at
    least. A caller begins at 0, writes the bytes used, and goes on at `next` until no line is left: what it has then written is the listing.
-   Where `next` is still `from` and a line is left, that line needs a larger buffer. No line of a survey's items is longer than its text by
-   more than 100 bytes, and no other line than 300. */
+   Where `next` is still `from` and a line is left, that line needs a larger buffer. No line of a survey's or a stored table's items is longer than
+   the text or the table by more than 100 bytes, and no other line than 300. */
 struct kawhiluhe_filled {
     kawhiluhe_word next; /* the line to go on with */
     kawhiluhe_word used; /* how many bytes of the buffer the lines take: always fewer than it has, unless it has none */
@@ -175,7 +222,13 @@ struct kawhiluhe_filled {
 };
 
 /* How many words the answers have. */
-enum { KAWHILUHE_ELEMENTS_WORDS = 3, KAWHILUHE_JUDGED_WORDS = 5, KAWHILUHE_SURVEYED_WORDS = 19 };
+enum {
+    KAWHILUHE_ELEMENTS_WORDS = 3,
+    KAWHILUHE_JUDGED_WORDS = 5,
+    KAWHILUHE_SURVEYED_WORDS = 19,
+    KAWHILUHE_KEPT_WORDS = 3,
+    KAWHILUHE_UNSTORED_WORDS = 5
+};
 
 /* `elements COUNT`, and `ELEMENT KIND FIRST LENGTH` to each; or `refused NO at PLACE`, as in all of them. */
 struct kawhiluhe_filled kawhiluhe_element_lines(const kawhiluhe_word *elements, kawhiluhe_word element_words,
@@ -195,6 +248,11 @@ struct kawhiluhe_filled kawhiluhe_survey_lines(const kawhiluhe_byte *text, kawhi
 /* `pieces COUNT frame good whole no`, the eight numbers of each piece's record, the tally and the pair. */
 struct kawhiluhe_filled kawhiluhe_record_lines(const kawhiluhe_word *items, kawhiluhe_word item_words, const struct kawhiluhe_surveyed *answer,
                                                kawhiluhe_word answer_words, kawhiluhe_word from, kawhiluhe_byte *out, kawhiluhe_word out_length);
+
+/* `package NAME items COUNT`, and a line to each item, from 0: what it is, its name as stored, and its value. */
+struct kawhiluhe_filled kawhiluhe_stored_lines(const kawhiluhe_byte *bytes, kawhiluhe_word bytes_length, const kawhiluhe_word *rows,
+                                               kawhiluhe_word row_words, const struct kawhiluhe_unstored *answer, kawhiluhe_word answer_words,
+                                               kawhiluhe_word from, kawhiluhe_byte *out, kawhiluhe_word out_length);
 
 #ifdef __cplusplus
 }

@@ -28,6 +28,12 @@ HOLDS = (
 EDGES = ('1022 items', '1023 items', '1024 items', '1025 items', 'contents of 65535', 'size of 131072')
 
 
+def vector(path):
+    """The bytes of a table that a file of tests/vectors-01 has: hexadecimal digits, white space anywhere between bytes, and notes from a # to the
+    line's end."""
+    return bytes.fromhex(re.sub('#.*', '', path.read_text()))
+
+
 class Wrong(Exception):
     """Why some bytes aren't exactly one table: one of FAULTS."""
 

@@ -71,3 +71,41 @@ word kawhiluhe_lookup_items(const byte *t, word n, const word *e, word size, con
     (void)t, (void)n, (void)e, (void)size, (void)name, (void)length, (void)items;
     return count;
 }
+
+static void blank(byte *bytes, word size)
+{
+    for (word i = 0; i < size; i++) bytes[i] = 0;
+}
+
+struct kawhiluhe_kept kawhiluhe_store(const byte *t, word n, word *e, word size, word *items, word other, byte *out, word room)
+{
+    struct kawhiluhe_kept r = { KAWHILUHE_NOT_WHOLE, 0, 0 };
+    clear(e, size);
+    clear(items, other);
+    blank(out, room);
+    (void)t, (void)n;
+    return r;
+}
+
+struct kawhiluhe_unstored kawhiluhe_read_stored(const byte *t, word n, word *rows, word size)
+{
+    struct kawhiluhe_unstored r = { KAWHILUHE_NOT_STORED, 0, 0, 0, 0 };
+    clear(rows, size);
+#ifdef READS_TEXTS
+    if (now(n)) r.refusal = 0;
+#endif
+    (void)t, (void)n;
+    return r;
+}
+
+struct kawhiluhe_kept kawhiluhe_store_again(const byte *t, word n, word *rows, word size, byte *out, word room)
+{
+    struct kawhiluhe_kept r = { KAWHILUHE_NOT_STORED, 0, 0 };
+    clear(rows, size);
+    blank(out, room);
+#ifdef LEAVES_A_BYTE
+    if (now(n) && room) out[room - 1] = 1;
+#endif
+    (void)t, (void)n;
+    return r;
+}

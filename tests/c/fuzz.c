@@ -1,7 +1,8 @@
 /* fuzz SECONDS SEED: the static library on texts that nobody wrote. A text is one of a pool, changed by chance; it joins the pool where an
    answer comes that none before it gave. Every buffer stands between two pages that may not be touched, flush with the one or with the
    other, and what is left on the other side must stay as it was. Each answer must be one that 01 knows, with rows that hold together and
-   zeros after them; the strict reading and the survey must leave the elements that the reader of elements leaves.
+   zeros after them; the strict reading and the survey must leave the elements that the reader of elements leaves. What a whole survey is stored as must
+   be read back, item by item, and stored again as the same bytes; the bytes of a table, changed by chance, and every text are read as tables too.
    The kit's clang has no headers of the C library, so what is called is declared. */
 #include "../../include/kawhiluhe.h"
 
@@ -194,7 +195,7 @@ static word fresh; /* a sum of what was answered */
 
 static void mix(word x) { fresh = (fresh ^ x) * 0x100000001b3UL + (fresh >> 29); }
 
-static struct room text_room, element_room, tree_room, item_room, alone_room, name_room;
+static struct room text_room, element_room, tree_room, item_room, alone_room, name_room, table_room, row_room, out_room;
 
 static word near(word rows, word width, word most)
 {
@@ -238,6 +239,69 @@ static int same(const word *a, const word *b, word count)
     for (word i = 0; i < count; i++)
         if (a[i] != b[i]) return 0;
     return 1;
+}
+
+/* ---- stored tables */
+
+enum { MOST_STORED = 131072, ROW = 6 };
+
+static int empty(const byte *bytes, word from, word size)
+{
+    for (word i = from; i < size; i++)
+        if (bytes[i]) return 0;
+    return 1;
+}
+
+static int rows_hold(const word *row, word items, word bytes)
+{
+    for (word i = 0; i < items; i++, row += ROW)
+        if (row[0] < 3 || row[0] > 4 || !row[2] || row[1] + row[2] > bytes || row[3] < 1 || row[3] > 2) return 0;
+    return 1;
+}
+
+/* Some bytes as a stored table: read, and where they are one, stored again into a room at and around their size. */
+static word try_table(const byte *from, word bytes, int side)
+{
+    byte *table = place(&table_room, bytes, !side);
+    for (word i = 0; i < bytes; i++) table[i] = from[i];
+    word room = below(3) ? ROW * 1024 : below(ROW * 40);
+    word *rows = place(&row_room, 8 * room, side);
+    struct kawhiluhe_unstored u = kawhiluhe_read_stored(table, bytes, rows, room);
+    must(u.refusal == 0 || u.refusal == 10 || u.refusal == 24, "a refusal of a stored table that 02 does not know");
+    must(zeros(rows, u.refusal ? 0 : ROW * u.items, room) && (u.refusal || rows_hold(rows, u.items, bytes)), "the rows of a stored table");
+    must(u.refusal || (u.name == 3 && u.length && u.name + u.length < bytes), "the name of a stored table's package");
+    word size = below(4) ? bytes + below(3) : below(bytes + 1);
+    if (size && !below(3)) size--;
+    byte *out = place(&out_room, size, side);
+    struct kawhiluhe_kept k = kawhiluhe_store_again(table, bytes, rows, room, out, size);
+    must(k.refusal == u.refusal || (k.refusal == 22 && !u.refusal && size < bytes && k.place == size), "the refusal of storing again");
+    must(k.refusal ? empty(out, 0, size) && zeros(rows, 0, room) : k.bytes == bytes && empty(out, bytes, size), "what storing again leaves");
+    for (word i = 0; !k.refusal && i < bytes; i++) must(out[i] == from[i], "the bytes of a table that is stored again");
+    must(untouched(&table_room, !side) && untouched(&row_room, side) && untouched(&out_room, side), "what stands beside a stored table");
+    mix(u.refusal * 64 + k.refusal);
+    return u.refusal ? u.refusal : u.items + 1000;
+}
+
+/* A text's survey, stored: its items are those with a value, in order. */
+static void try_storing(const byte *t, word whole, word own, word elements, int side)
+{
+    static byte stored[MOST_STORED];
+    word n = 3 * (elements + below(3)), high = 8 * 1024;
+    word *table = place(&element_room, 8 * n, side), *items = place(&item_room, 8 * high, !side);
+    word size = below(4) ? MOST_STORED : below(4 * length + 1);
+    byte *out = place(&out_room, size, side);
+    struct kawhiluhe_kept k = kawhiluhe_store(t, length, table, n, items, high, out, size);
+    must(k.refusal ? zeros(table, 0, n) && zeros(items, 0, high) && empty(out, 0, size) : whole && empty(out, k.bytes, size), "what storing leaves");
+    must(whole ? k.refusal == 0 || (k.refusal == 22 && k.place == size) : k.refusal == 21, "the refusal of storing");
+    must(untouched(&element_room, side) && untouched(&item_room, !side) && untouched(&out_room, side), "what stands beside what is stored");
+    mix(k.refusal);
+    if (k.refusal || k.bytes > MOST_STORED) return;
+    word bytes = k.bytes;
+    for (word i = 0; i < bytes; i++) stored[i] = out[i];
+    word read = try_table(stored, bytes, side);
+    must(read == 10 || read == own + 1000, "a stored table read back");
+    for (word times = 1 + below(3); times; times--) stored[below(bytes)] = (byte)(below(2) ? chance() : below(5));
+    try_table(stored, below(4) ? bytes : below(bytes + 1), side);
 }
 
 static void try_text(void)
@@ -289,6 +353,7 @@ static void try_text(void)
     must(!s.whole || (s.frame && s.tally[0] == own), "whole");
     must(untouched(&element_room, right) && untouched(&item_room, side) && untouched(&text_room, right), "what stands beside the tables of the survey");
     mix(s.refusal * 4 + s.frame * 2 + s.pair);
+    word surveyed = !s.refusal, whole = s.whole;
 
     word from = below(length + 1), name_length = below(length - from < 12 ? length - from + 1 : 12);
     byte *name = place(&name_room, name_length, side);
@@ -297,6 +362,8 @@ static void try_text(void)
     must(found <= high / 8, "a lookup");
     must(kawhiluhe_lookup_items(t, length, table, n, name, name_length, (const struct kawhiluhe_item *)items, high / 8) == found, "a lookup over structs");
     mix(found < high / 8);
+    if (surveyed) try_storing(t, whole, own, e.elements, side);
+    try_table(text, length, side);
 }
 
 int main(int count, char **arguments)
@@ -309,6 +376,9 @@ int main(int count, char **arguments)
     make_room(&tree_room, 8 * 5 * 8192 + CANARY);
     make_room(&item_room, 8 * (8 * 1024 + 8) + CANARY);
     make_room(&name_room, 16 + CANARY);
+    make_room(&table_room, MOST_STORED + CANARY);
+    make_room(&row_room, 8 * 6 * 1024 + CANARY);
+    make_room(&out_room, MOST_STORED + CANARY);
     if (broken) return 1;
     for (; pooled < sizeof first_texts / sizeof first_texts[0]; pooled++)
         for (word n = 0; first_texts[pooled][n]; n++) pool[pooled][n] = (byte)first_texts[pooled][n], pool_length[pooled] = n + 1;

@@ -291,6 +291,173 @@ static void lookups(void)
     test(looked_up(0, 0, elements, ROOM, "ch4", 3, gas_items, 48) == 6, "lookup without a text", ROOM, 48);
 }
 
+/* Storing, and reading what was stored. The bytes and rows are written out here, from 02. */
+enum { OUT = 60000 };
+
+static kawhiluhe_byte output[OUT + GUARD];
+static word records[ROOM + GUARD];
+
+static void fill_output(void)
+{
+    for (word i = 0; i < OUT + GUARD; i++) output[i] = (kawhiluhe_byte)(garbage(i) >> 8 | 1);
+}
+
+/* The output of so many bytes holds these, then zeros, and nothing past it was touched. */
+static int writes(word size, const kawhiluhe_byte *wanted, word count)
+{
+    for (word i = 0; i < size; i++)
+        if (output[i] != (i < count ? wanted[i] : 0)) return 0;
+    for (word i = size; i < size + GUARD; i++)
+        if (output[i] != (kawhiluhe_byte)(garbage(i) >> 8 | 1)) return 0;
+    return 1;
+}
+
+/* An output at and around its edge. */
+static struct sizes rooms_of(word count)
+{
+    struct sizes s = { 0 };
+    add_size(&s, OUT);
+    add_size(&s, 0);
+    add_size(&s, 1);
+    if (count > 1) add_size(&s, count - 2);
+    if (count) add_size(&s, count - 1);
+    for (word more = 0; more <= 3; more++) add_size(&s, count + more);
+    return s;
+}
+
+static const char kept_text[] = "package P is constant A : integer := -2; subtype \\Sub\\ is boolean; constant t : boolean := true; "
+                                "subtype R is natural range 1 to 5; end;";
+static const kawhiluhe_byte kept[] = {
+    1, 0, 1,  'p',
+    2, 0, 5,  0xff, 0xff, 0xff, 0xfe, 'a',
+    4, 0, 14, 1, 0, 0, 0, 0, 0, 0, 0, 1, '\\', 'S', 'u', 'b', '\\',
+    3, 0, 2,  1, 't',
+    4, 0, 10, 0, 0, 0, 0, 1, 0, 0, 0, 5, 'r',
+    0, 0, 0,
+};
+static const word kept_rows[] = {
+    3, 11, 1, 1, -2UL, 0,
+    4, 24, 5, 2, 0,    1,
+    3, 33, 1, 2, 1,    0,
+    4, 46, 1, 1, 1,    5,
+};
+
+static void try_store(const char *label, const char *text, word text_length, word no, word place, const kawhiluhe_byte *wanted, word count)
+{
+    fill(alone), fill(records);
+    struct kawhiluhe_surveyed s = kawhiluhe_survey(bytes(text), text_length, alone, ROOM, records, ROOM);
+    struct kawhiluhe_elements e = kawhiluhe_elements(bytes(text), text_length, alone, ROOM);
+    struct sizes wide = sizes_of(e.elements, 3), high = sizes_of(s.pieces, 8), far = rooms_of(count);
+    for (word i = 0; i < wide.count; i++)
+        for (word j = 0; j < high.count; j++)
+            for (word k = 0; k < far.count; k++) {
+                word size = wide.size[i], other = high.size[j], room = far.size[k], refusal = no, at = place;
+                if (size / 3 < e.elements) refusal = KAWHILUHE_ELEMENT_TABLE_SHORT, at = size / 3;
+                else if (!s.refusal && other / 8 < s.pieces) refusal = KAWHILUHE_ITEM_TABLE_SHORT, at = other / 8;
+                else if (!refusal && room < count) refusal = KAWHILUHE_OUTPUT_SHORT, at = room;
+                fill(elements), fill(second), fill_output();
+                struct kawhiluhe_kept r = kawhiluhe_store(bytes(text), text_length, elements, size, second, other, output, room);
+                test(r.refusal == refusal && r.place == (refusal ? at : 0) && r.bytes == (refusal ? 0 : count), label, size, other);
+                test(holds(elements, size, alone, refusal ? 0 : 3 * e.elements), label, size, other);
+                test(holds(second, other, records, refusal ? 0 : 8 * s.pieces), label, size, other);
+                test(writes(room, wanted, refusal ? 0 : count), label, size, room);
+            }
+}
+
+/* A table and its rows, or a refusal; where it is read it is stored again as it was. */
+static void try_unstore(const char *label, const kawhiluhe_byte *table, word table_length, word no, const word *rows, word items, word name_length)
+{
+    struct sizes high = sizes_of(items, 6), far = rooms_of(table_length);
+    for (word i = 0; i < high.count; i++) {
+        word size = high.size[i], refusal = no, place = 0;
+        if (!no && size / 6 < items) refusal = KAWHILUHE_ITEM_TABLE_SHORT, place = size / 6;
+        fill(second);
+        struct kawhiluhe_unstored u = kawhiluhe_read_stored(table, table_length, second, size);
+        test(u.refusal == refusal && u.place == place && u.items == (refusal ? 0 : items), label, size, 0);
+        test(u.name == (refusal ? 0 : 3) && u.length == (refusal ? 0 : name_length), label, size, 0);
+        test(holds(second, size, rows, refusal ? 0 : 6 * items), label, size, 0);
+        for (word k = 0; k < far.count; k++) {
+            word room = far.size[k], short_of = !refusal && room < table_length;
+            fill(second), fill_output();
+            struct kawhiluhe_kept r = kawhiluhe_store_again(table, table_length, second, size, output, room);
+            test(r.refusal == (short_of ? KAWHILUHE_OUTPUT_SHORT : refusal) && r.place == (short_of ? room : place), label, size, room);
+            test(r.bytes == (refusal || short_of ? 0 : table_length), label, size, room);
+            test(holds(second, size, rows, refusal || short_of ? 0 : 6 * items), label, size, room);
+            test(writes(room, table, refusal || short_of ? 0 : table_length), label, size, room);
+        }
+    }
+}
+
+/* A table of so many constants, whose names are four letters, and its rows. */
+static kawhiluhe_byte many[20000];
+static word many_rows[6 * 1025];
+
+static word make_many(word items)
+{
+    word n = 0;
+    for (word i = 0; i < 4; i++) many[n++] = kept[i];
+    for (word i = 0; i < items; i++) {
+        const word row[] = { 3, n + 7, 4, 1, i, 0 };
+        const kawhiluhe_byte field[] = { 2, 0, 8, 0, 0, (kawhiluhe_byte)(i >> 8), (kawhiluhe_byte)i };
+        for (word j = 0; j < 6; j++) many_rows[6 * i + j] = row[j];
+        for (word j = 0; j < 7; j++) many[n++] = field[j];
+        for (word j = 0, k = i; j < 4; j++, k /= 26) many[n++] = (kawhiluhe_byte)('a' + k % 26);
+    }
+    for (word i = 0; i < 3; i++) many[n++] = 0;
+    return n;
+}
+
+/* Bytes that are no stored table. */
+static void damaged_tables(void)
+{
+    static kawhiluhe_byte table[sizeof kept + 1];
+    static const struct {
+        const char *label;
+        word place;
+        kawhiluhe_byte byte;
+    } changes[] = {
+        { "another first tag", 0, 2 },       { "a length too short", 2, 0 },        { "an upper-case package", 3, 'P' },   { "no tag", 4, 5 },
+        { "tag 1 again", 4, 1 },             { "the end too early", 4, 0 },         { "an upper-case name", 11, 'A' },     { "a digit for a name", 11, '1' },
+        { "a name twice", 11, 't' },         { "a length too long", 6, 6 },         { "a kind that is none", 15, 2 },      { "a boolean's low end", 19, 1 },
+        { "a boolean's high end", 23, 2 },   { "no backslash", 24, 'a' },           { "a quote for a backslash", 28, '"' }, { "a byte not allowed", 26, 127 },
+        { "a truth that is none", 32, 2 },   { "an end with a length", 49, 1 },     { "an end of another tag", 47, 3 },
+    };
+    for (word i = 0; i < sizeof changes / sizeof changes[0]; i++) {
+        for (word j = 0; j < sizeof kept; j++) table[j] = kept[j];
+        table[changes[i].place] = changes[i].byte;
+        try_unstore(changes[i].label, table, sizeof kept, KAWHILUHE_NOT_STORED, 0, 0, 0);
+    }
+    for (word n = 0; n < sizeof kept; n++) try_unstore("a part of a table", kept, n, KAWHILUHE_NOT_STORED, 0, 0, 0);
+    for (word j = 0; j < sizeof kept; j++) table[j] = kept[j];
+    table[sizeof kept] = 0;
+    try_unstore("a byte after the end", table, sizeof kept + 1, KAWHILUHE_NOT_STORED, 0, 0, 0);
+    static const kawhiluhe_byte least[] = { 1, 0, 1, 'p', 2, 0, 5, 0x80, 0, 0, 0, 'a', 0, 0, 0 };
+    try_unstore("a number below all", least, sizeof least, KAWHILUHE_NOT_STORED, 0, 0, 0);
+    static const kawhiluhe_byte language[] = { 1, 0, 1, 'p', 3, 0, 5, 1, 't', 'r', 'u', 'e', 0, 0, 0 };
+    try_unstore("a name of the language", language, sizeof language, KAWHILUHE_NOT_STORED, 0, 0, 0);
+    static const kawhiluhe_byte reserved[] = { 1, 0, 2, 'i', 's', 0, 0, 0 };
+    try_unstore("a reserved word", reserved, sizeof reserved, KAWHILUHE_NOT_STORED, 0, 0, 0);
+}
+
+static void stored_tables(void)
+{
+    static const kawhiluhe_byte none[] = { 1, 0, 7, 'i', 'n', 't', 'e', 'g', 'e', 'r', 0, 0, 0 };
+    try_store("a whole survey", kept_text, length(kept_text), 0, 0, kept, sizeof kept);
+    try_store("a package without items", "package Integer is end;", 23, 0, 0, none, sizeof none);
+    try_store("a survey that is not whole", gas, length(gas), KAWHILUHE_NOT_WHOLE, 0, 0, 0);
+    try_store("no text", "", 0, KAWHILUHE_NOT_WHOLE, 0, 0, 0);
+    try_store("65,537 bytes", repeated(';', 65537), 65537, KAWHILUHE_TEXT_TOO_LONG, 65536, 0, 0);
+    try_store("8,193 elements", repeated(';', 8193), 8193, KAWHILUHE_TOO_MANY_ELEMENTS, 8192, 0, 0);
+    try_store("1,025 pieces", repeated(';', 1025), 1025, KAWHILUHE_TOO_MANY_PIECES, 1024, 0, 0);
+    try_unstore("a table", kept, sizeof kept, 0, kept_rows, 4, 1);
+    try_unstore("a table without items", none, sizeof none, 0, 0, 0, 7);
+    word n = make_many(1024);
+    try_unstore("1,024 items", many, n, 0, many_rows, 1024, 1);
+    n = make_many(1025);
+    try_unstore("1,025 items", many, n, KAWHILUHE_NOT_STORED, 0, 0, 0);
+    damaged_tables();
+}
+
 /* The lines of a listing through a buffer of every size: whole lines as many as fit with a byte to spare, zeros after them, the bytes after
    the buffer untouched; and what is written part after part is the listing, or the first line that has no room stops it. */
 enum { LINES = 400 };
@@ -303,6 +470,7 @@ static const char *listed_text;
 static struct kawhiluhe_elements listed_elements;
 static struct kawhiluhe_judged listed_judged;
 static struct kawhiluhe_surveyed listed_surveyed;
+static struct kawhiluhe_unstored listed_stored;
 
 static struct kawhiluhe_filled fill_elements(word from, kawhiluhe_byte *out, word size)
 {
@@ -323,6 +491,11 @@ static struct kawhiluhe_filled fill_survey(word from, kawhiluhe_byte *out, word 
 static struct kawhiluhe_filled fill_records(word from, kawhiluhe_byte *out, word size)
 {
     return kawhiluhe_record_lines(second, ROOM, &listed_surveyed, KAWHILUHE_SURVEYED_WORDS, from, out, size);
+}
+
+static struct kawhiluhe_filled fill_stored(word from, kawhiluhe_byte *out, word size)
+{
+    return kawhiluhe_stored_lines(kept, sizeof kept, second, ROOM, &listed_stored, KAWHILUHE_UNSTORED_WORDS, from, out, size);
 }
 
 /* One part: it ends after a line, or holds nothing; all after it is zeros, and the next line would not fit. */
@@ -405,6 +578,16 @@ static void listings(void)
     listed_surveyed.refusal = KAWHILUHE_TOO_MANY_PIECES, listed_surveyed.place = 1024;
     try_lines("a survey that is refused", fill_survey, "refused 9 at 1024\n");
     try_lines("records of one", fill_records, "refused 9 at 1024\n");
+    fill(second);
+    listed_stored = kawhiluhe_read_stored(kept, sizeof kept, second, ROOM);
+    try_lines("the lines of a stored table", fill_stored,
+              "package p items 4\n0 constant a value -2\n1 subtype \\Sub\\ value false to true\n2 constant t value true\n3 subtype r value 1 to 5\n");
+    listed_stored.items = 2;
+    try_lines("those of fewer items", fill_stored, "package p items 2\n0 constant a value -2\n1 subtype \\Sub\\ value false to true\n");
+    listed_stored.refusal = KAWHILUHE_NOT_STORED;
+    try_lines("a stored table that is refused", fill_stored, "refused 24 at 0\n");
+    struct kawhiluhe_filled g = kawhiluhe_stored_lines(0, 0, 0, 0, 0, 0, 0, lines, LINES);
+    test(g.used == 17 && g.next == 1 && !g.left, "a stored table's answer of no words", LINES, 0);
     /* any answer and any table: garbage has lines too, and ends */
     fill(elements), fill(second);
     for (word i = 0; i < KAWHILUHE_SURVEYED_WORDS; i++) ((word *)&listed_surveyed)[i] = garbage(i);
@@ -433,6 +616,12 @@ static void nothing_lent(void)
     test(j.refusal == KAWHILUHE_TREE_TABLE_SHORT && !j.place, "no tree table", 15, 0);
     s = kawhiluhe_survey(bytes("package p is end;"), 17, elements, 15, 0, 0);
     test(s.refusal == KAWHILUHE_ITEM_TABLE_SHORT && !s.place, "no item table", 15, 0);
+    struct kawhiluhe_kept k = kawhiluhe_store(0, 0, 0, 0, 0, 0, 0, 0);
+    test(k.refusal == KAWHILUHE_NOT_WHOLE && !k.place && !k.bytes, "nothing stored", 0, 0);
+    struct kawhiluhe_unstored u = kawhiluhe_read_stored(0, 0, 0, 0);
+    test(u.refusal == KAWHILUHE_NOT_STORED && !u.place && !u.items && !u.name && !u.length, "a stored table of nothing", 0, 0);
+    k = kawhiluhe_store_again(0, 0, 0, 0, 0, 0);
+    test(k.refusal == KAWHILUHE_NOT_STORED && !k.place && !k.bytes, "nothing stored again", 0, 0);
 }
 
 int main(void)
@@ -466,6 +655,7 @@ int main(void)
     refuses("65,537 bytes", repeated(';', 65537), 65537, KAWHILUHE_TEXT_TOO_LONG, 65536);
     refuses("8,193 elements", repeated(';', 8193), 8193, KAWHILUHE_TOO_MANY_ELEMENTS, 8192);
     refuses("1,025 pieces", repeated(';', 1025), 1025, KAWHILUHE_TOO_MANY_PIECES, 1024);
+    stored_tables();
     lookups();
     lookups_of_names();
     nothing_lent();

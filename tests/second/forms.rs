@@ -516,7 +516,7 @@ impl Tree<'_, '_> {
         self.nodes.len() - 1
     }
 
-    /// Puts the nodes an item gives behind those there.
+    /// Puts the nodes an item gives after those there.
     fn grow(&mut self, item: u32, end: usize, out: &mut Vec<usize>) {
         let Item { state, origin, .. } = self.reading.items[item as usize];
         let first = origin as usize;

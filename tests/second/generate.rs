@@ -150,7 +150,7 @@ pub fn element_rows(chance: &mut Chance, text: &[u8], share: usize) -> usize {
     rows(chance, cut(text).len(), MOST_ELEMENTS, share)
 }
 
-/// A text behind its room, as the modes have it that write bytes.
+/// A text after its room, as the modes have it that write bytes.
 pub fn with_room(room: usize, text: &[u8]) -> Vec<u8> {
     [&(room as u32).to_be_bytes()[1..], text].concat()
 }

@@ -180,7 +180,7 @@ fn table(stored: &[u8]) -> Option<Table> {
     loop {
         let (tag, contents, behind) = next_field(rest)?;
         rest = behind;
-        // Tag 0 with length 0 ends it, and nothing stands behind.
+        // Tag 0 with length 0 ends it, and nothing stands after.
         if tag == tag::END {
             return (contents.is_empty() && rest.is_empty()).then(|| Table {
                 package: package.to_vec(),
@@ -202,7 +202,7 @@ fn table(stored: &[u8]) -> Option<Table> {
     }
 }
 
-/// The first field of some bytes, as tag and contents, and what stands behind it.
+/// The first field of some bytes, as tag and contents, and what stands after it.
 fn next_field(bytes: &[u8]) -> Option<(u8, &[u8], &[u8])> {
     let (head, rest) = bytes.split_at_checked(3)?;
     let length = (head[1] as usize) << 8 | head[2] as usize;
@@ -240,7 +240,7 @@ fn item(tag: u8, contents: &[u8]) -> Option<Item> {
     })
 }
 
-/// The number at the beginning, at most 2147483647 in size, and what stands behind it.
+/// The number at the beginning, at most 2147483647 in size, and what stands after it.
 fn number(bytes: &[u8]) -> Option<(i64, &[u8])> {
     let (four, behind) = bytes.split_first_chunk::<4>()?;
     let number = i32::from_be_bytes(*four) as i64;

@@ -10,7 +10,9 @@ use native.Mathlib.Omega.{arith}
 use borrow.Author.Tests.{leb-true}
 use lib.Dec.{leb}
 use lib.ListN.{length, getD, length-append}
+use Rattle.places.specs.Kinds.{extendedKind}
 use Rattle.laws.proofs.Laws.{clash}
+use Rattle.classes.specs.Signs as sign
 use Rattle.classes.specs.Bytes.{isLetter, lower}
 use Rattle.classes.specs.Signs as sign
 use Rattle.places.specs.Kinds.{extendedKind}

@@ -6,6 +6,8 @@ use mathlib.Core.Logic.{_⊎_, _↔_}
 use mathlib.Core.Bool.{true}
 use mathlib.Core.List.{List, [], _∷_, _++_}
 use lib.ListN.{length, getD}
+use Rattle.places.specs.Kinds.{identifierKind, extendedKind}
+use Rattle.classes.specs.Signs as sign
 use Rattle.classes.specs.Bytes.{lower}
 use Rattle.classes.specs.Signs as sign
 use Rattle.places.specs.Kinds.{identifierKind, extendedKind}

@@ -1,6 +1,7 @@
 // What the programs read and write. Each line is put into a buffer by the library, whose bytes are proved, and the buffer goes out in one
 // write: what is left here, reading and writing, is tested, not proved, since no contract can speak of a file.
 use form_numbers::ROW_NUMBERS;
+use kawhiluhe::Kept;
 use kawhiluhe::Surveyed;
 use libc::STDERR_FILENO;
 use libc::STDOUT_FILENO;
@@ -8,6 +9,9 @@ use puts::Filled;
 
 // Room for every line of any text, which is never longer than the text by more than 100 bytes, and for many short ones.
 pub const OUT_ROOM: usize = 81920;
+
+// How much room there is for bytes that are stored, and how many a stored table may have that a program reads.
+pub const MOST_ROOM: usize = 131072;
 
 // A listing has fewer lines than this.
 const MOST_TURNS: u64 = 100000;
@@ -216,6 +220,95 @@ fn print_records(program: &[u8], items: &[u64], answer: &[u64], out: &mut [u8]) 
     let mut turns = MOST_TURNS;
     while 0 < turns {
         let f = kawhiluhe::kawhiluhe_record_lines(items, answer, from, out);
+        if !write_part(program, from, f, out) {
+            return;
+        }
+        if f.left == 0 {
+            return;
+        }
+        from = f.next;
+        turns -= 1;
+    }
+}
+
+// The survey of a package stored in so much room, with so many rows of each table lent.
+pub fn store(
+    text: &[u8],
+    table: &mut [u64],
+    rows: usize,
+    items: &mut [u64],
+    item_rows: usize,
+    kept: &mut [u8],
+    room: usize,
+) -> Kept {
+    let size = lent_tables::least(
+        lent_tables::least(rows, places::MOST_ELEMENTS) * places::ROW_WORDS,
+        table.len(),
+    );
+    let records = lent_tables::least(
+        lent_tables::least(item_rows, places::MOST_PIECES) * pieces::RECORD_WORDS,
+        items.len(),
+    );
+    let end = lent_tables::least(room, kept.len());
+    kawhiluhe::kawhiluhe_store(
+        text,
+        &mut table[..size],
+        &mut items[..records],
+        &mut kept[..end],
+    )
+}
+
+// A stored table read and stored again in so much room, with so many rows of a table lent.
+pub fn store_again(
+    bytes: &[u8],
+    table: &mut [u64],
+    rows: usize,
+    kept: &mut [u8],
+    room: usize,
+) -> Kept {
+    let size = lent_tables::least(
+        lent_tables::least(rows, stored::MOST_ITEMS) * stored_reading::ROW_WORDS,
+        table.len(),
+    );
+    let end = lent_tables::least(room, kept.len());
+    kawhiluhe::kawhiluhe_store_again(bytes, &mut table[..size], &mut kept[..end])
+}
+
+// What was stored, on standard output; or the refusal, on standard error.
+pub fn print_kept(program: &[u8], k: Kept, kept: &[u8], out: &mut [u8]) {
+    if k.refusal == 0 {
+        write_out(program, lent_tables::front(kept, k.bytes as usize));
+        return;
+    }
+    let n = refusal_line(k, out);
+    io::write_all(STDERR_FILENO, lent_tables::front(out, n));
+}
+
+// A refusal's line in the buffer: how many bytes it has.
+pub fn refusal_line(k: Kept, out: &mut [u8]) -> usize {
+    let answer = kawhiluhe::kept_words(k);
+    let f = kawhiluhe::kawhiluhe_stored_lines(&[], &[], &answer, 0, out);
+    f.used
+}
+
+// What stands in a stored table, or the refusal, with so many rows of a table lent.
+pub fn unstore(program: &[u8], bytes: &[u8], table: &mut [u64], rows: usize, out: &mut [u8]) {
+    let size = lent_tables::least(
+        lent_tables::least(rows, stored::MOST_ITEMS) * stored_reading::ROW_WORDS,
+        table.len(),
+    );
+    let answer = kawhiluhe::unstored_words(kawhiluhe::kawhiluhe_read_stored(
+        bytes,
+        &mut table[..size],
+    ));
+    print_stored(program, bytes, table, &answer, out);
+}
+
+fn print_stored(program: &[u8], bytes: &[u8], table: &[u64], answer: &[u64], out: &mut [u8]) {
+    let mut from: usize = 0;
+    let mut turns = MOST_TURNS;
+    while 0 < turns {
+        let f = kawhiluhe::kawhiluhe_stored_lines(bytes, table, answer, from, out);
         if !write_part(program, from, f, out) {
             return;
         }

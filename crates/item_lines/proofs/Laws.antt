@@ -1,67 +1,31 @@
 -- Each line's definition, of what is put. Assumes nothing.
-use Prim.Native.Nat.{ℕ, zero, suc, _+_, _-_, _/_, _^_, _≤_, _<_, min}
-use native.Mathlib.Nat.{add-sub-cancel-left}
+use Prim.Native.Nat.{ℕ, zero, suc, _+_, _-_, _/_, _≤_, min}
 use native.Mathlib.Omega.{arith}
-use mathlib.Core.Path.{_≡_, refl, ap, sym, _∙_}
+use mathlib.Core.Path.{_≡_, refl, ap, _∙_}
 use mathlib.Core.Bool.{Bool, true, false}
 use mathlib.Core.List.{List, [], _∷_}
-use mir.Syntax.{w64}
-use mir.Val.{Fits}
-use lib.ListN.{length, getD, take, drop, List·getD-eq-default}
-use borrow.Author.Tests.{eq-eqb, ne-eqb, leb-true}
+use lib.ListN.{length, getD, List·getD-eq-default}
+use borrow.Author.Tests.{eq-eqb, ne-eqb}
 use Rattle.words.specs.Words.{bytesOf}
-use Rattle.places.specs.Places.{cellAt, within}
+use Rattle.places.specs.Places.{cellAt}
 use Rattle.records.specs.Records.{wordAt, isItem}
 use Rattle.pieces.specs.Records.{recordWords}
 use Rattle.puts.specs.Puts.{Wrote}
-use Rattle.puts.specs.Decimals.{decimalOf, signedText, lineFeed}
+use Rattle.puts.specs.Decimals.{decimalOf, lineFeed}
 use Rattle.refused_line.specs.Refused.{refusal, place, counted, whole, refusedOf, linesBy}
 use Rattle.refused_line.proofs.Laws.{given-line, refused-line}
-use Rattle.puts.proofs.Laws.{then, then3, then4, named}
-use Rattle.item_lines.specs.Lines.{spelledOf, claimText, stateWord, stateWords, foldedText, upperOf, valueText, resultOf, itemOf, lineOf, wholeText, headOf, listedLine, surveyLine, surveyLines}
-
--- where the name's bytes stand in the text, and that the part is within it
-pub ends : (s : List ℕ) (x n : ℕ) (b : Bool) → b ≡ within s x n → b ≡ true → x + n ≤ length s
-ends s x n b w h = leb-true (x + n) (length s) (sym w ∙ h)
-
-pub end-fits : (s : List ℕ) (x n : ℕ) (b : Bool) → b ≡ within s x n → b ≡ true → length s < 2 ^ 64 → Fits w64 (x + n)
-end-fits s x n b w h f = let e : x + n ≤ length s = ends s x n b w h in omega arith
+use Rattle.puts.proofs.Laws.{then3, then4, named}
+use Rattle.item_words.specs.Words.{stretchOf, claimText, valueText}
+use Rattle.item_lines.specs.Lines.{spelledOf, stateWord, stateWords, resultOf, itemOf, lineOf, wholeText, headOf, listedLine, surveyLine, surveyLines}
 
 module _ {t t′ : List ℕ} {at r : ℕ} where
-  pub name-in : (s els : List ℕ) (e x n : ℕ) (b : Bool) → n ≡ cellAt els e 2 → x ≡ cellAt els e 1 → b ≡ within s x n → b ≡ true
-      → Wrote t at (take (x + n - x) (drop x s)) t′ r → Wrote t at (spelledOf s els e) t′ r
+  pub named-put : (s els : List ℕ) (class e x n : ℕ) → x ≡ cellAt els e 1 → n ≡ cellAt els e 2 → Wrote t at (claimText class (stretchOf s x n)) t′ r
+      → Wrote t at (claimText class (spelledOf s els e)) t′ r
   unfolding spelledOf
-  name-in s els e x n b p q w h k =
-      named (rw (← p, ← q, ← w, h) (ap (λ (m : ℕ). take m (drop x s)) (sym (add-sub-cancel-left x n)))) k
-
-  pub name-out : (s els : List ℕ) (e x n : ℕ) (b : Bool) → n ≡ cellAt els e 2 → x ≡ cellAt els e 1 → b ≡ within s x n → b ≡ false
-      → Wrote t at [] t′ r → Wrote t at (spelledOf s els e) t′ r
-  unfolding spelledOf
-  name-out s els e x n b p q w h k = named (rw (← p, ← q, ← w, h)) k
+  named-put s els class e x n p q k = named (rw (← p, ← q)) k
 
   pub state-put : (state k : ℕ) → state ≡ k → Wrote t at (stateWord k) t′ r → Wrote t at (stateWord state) t′ r
   state-put state k e p = named (ap stateWord e) p
-
-  pub number-put : (kind word : ℕ) → (kind ≡ 2 → ⊥) → Wrote t at (signedText word) t′ r → Wrote t at (foldedText kind word) t′ r
-  unfolding foldedText
-  number-put kind word h p = named (rw (ne-eqb kind 2 h)) p
-
-  pub false-put : (kind word : ℕ) → kind ≡ 2 → word ≡ 0 → Wrote t at (bytesOf "false") t′ r → Wrote t at (foldedText kind word) t′ r
-  unfolding foldedText
-  false-put kind word h k p = named (rw (eq-eqb kind 2 h, eq-eqb word 0 k)) p
-
-  pub true-put : (kind word : ℕ) → kind ≡ 2 → (word ≡ 0 → ⊥) → Wrote t at (bytesOf "true") t′ r → Wrote t at (foldedText kind word) t′ r
-  unfolding foldedText
-  true-put kind word h k p = named (rw (eq-eqb kind 2 h, ne-eqb word 0 k)) p
-
-  pub piece-put : (s els : List ℕ) (class e : ℕ) → (class ≡ 3 → ⊥) → (class ≡ 4 → ⊥) → Wrote t at (bytesOf " piece -") t′ r
-      → Wrote t at (claimText s els class e) t′ r
-  unfolding claimText
-  piece-put s els class e h k p = named (rw (ne-eqb class 3 h, ne-eqb class 4 k)) p
-
-  pub no-upper : (class kind high : ℕ) → (class ≡ 4 → ⊥) → Wrote t at [] t′ r → Wrote t at (upperOf class kind high) t′ r
-  unfolding upperOf
-  no-upper class kind high h p = named (rw (ne-eqb class 4 h)) p
 
   pub state-result : (items : List ℕ) (i state : ℕ) → state ≡ wordAt items i 4 → (state ≡ 0 → ⊥) → Wrote t at (stateWord state) t′ r
       → Wrote t at (resultOf items i) t′ r
@@ -84,29 +48,8 @@ module _ {t t′ : List ℕ} {at r : ℕ} where
   unfolding lineOf
   no-line s els items i class b e w h p = named (rw (← e, ← w, h)) p
 
-module _ {t t₁ t′ : List ℕ} {at m r : ℕ} where
-  pub constant-put : (s els : List ℕ) (class e : ℕ) → class ≡ 3 → Wrote t at (bytesOf " constant ") t₁ m → Wrote t₁ m (spelledOf s els e) t′ r
-      → Wrote t at (claimText s els class e) t′ r
-  unfolding claimText
-  constant-put s els class e h p q = named (rw (eq-eqb class 3 h)) (then p q)
-
-  pub subtype-put : (s els : List ℕ) (class e : ℕ) → (class ≡ 3 → ⊥) → class ≡ 4 → Wrote t at (bytesOf " subtype ") t₁ m
-      → Wrote t₁ m (spelledOf s els e) t′ r → Wrote t at (claimText s els class e) t′ r
-  unfolding claimText
-  subtype-put s els class e k h p q = named (rw (ne-eqb class 3 k, eq-eqb class 4 h)) (then p q)
-
-  pub upper-put : (class kind high : ℕ) → class ≡ 4 → Wrote t at (bytesOf " to ") t₁ m → Wrote t₁ m (foldedText kind high) t′ r
-      → Wrote t at (upperOf class kind high) t′ r
-  unfolding upperOf
-  upper-put class kind high h p q = named (rw (eq-eqb class 4 h)) (then p q)
-
-pub value-put : {t t₁ t₂ t₃ : List ℕ} {a b c d : ℕ} (class kind low high : ℕ) → Wrote t a (bytesOf " value ") t₁ b
-    → Wrote t₁ b (foldedText kind low) t₂ c → Wrote t₂ c (upperOf class kind high) t₃ d → Wrote t a (valueText class kind low high) t₃ d
-unfolding valueText
-value-put class kind low high p q u = then3 p q u
-
 pub item-put : {t t₁ t₂ t₃ t₄ : List ℕ} {a b c d e : ℕ} (s els items : List ℕ) (i class name : ℕ) → class ≡ wordAt items i 0
-    → name ≡ wordAt items i 3 → Wrote t a (decimalOf i) t₁ b → Wrote t₁ b (claimText s els class name) t₂ c
+    → name ≡ wordAt items i 3 → Wrote t a (decimalOf i) t₁ b → Wrote t₁ b (claimText class (spelledOf s els name)) t₂ c
     → Wrote t₂ c (resultOf items i) t₃ d → Wrote t₃ d (lineFeed ∷ []) t₄ e → Wrote t a (itemOf s els items i) t₄ e
 unfolding itemOf
 item-put s els items i class name k n p q u v = named (rw (← k, ← n)) (then4 p q u v)

@@ -4,28 +4,20 @@ use Prim.Native.String.{String}
 use mathlib.Core.Bool.{cond}
 use mathlib.Core.List.{List, [], _∷_, _++_}
 use lib.Dec.{eqb}
-use lib.ListN.{length, getD, take, drop}
+use lib.ListN.{length, getD}
 use Rattle.words.specs.Words.{bytesOf}
-use Rattle.places.specs.Places.{firstColumn, sizeColumn, cellAt, within}
+use Rattle.places.specs.Places.{firstColumn, sizeColumn, cellAt}
 use Rattle.pieces.specs.Records.{recordWords}
-use Rattle.pieces.specs.Classes as classes
 use Rattle.pieces.specs.Columns as column
 use Rattle.records.specs.Records.{wordAt, isItem}
-use Rattle.integers.specs.Numbers.{truthKind}
-use Rattle.puts.specs.Decimals.{decimalOf, signedText, lineFeed}
+use Rattle.puts.specs.Decimals.{decimalOf, lineFeed}
 use Rattle.puts.specs.Lines.{linesFrom}
+use Rattle.item_words.specs.Words.{stretchOf, claimText, valueText}
 use Rattle.refused_line.specs.Refused.{counted, whole, lineBy, linesBy}
 
 -- "Names print as spelled": the bytes of an element, none where the tables point outside
 unfoldable pub spelledOf : List ℕ → List ℕ → ℕ → List ℕ
-spelledOf text elements e =
-    cond (within text (cellAt elements e firstColumn) (cellAt elements e sizeColumn)) (take (cellAt elements e sizeColumn) (drop (cellAt elements e firstColumn) text)) []
-
--- "The word after the number is `constant` or `subtype`, or `piece` with `-` for the name of an item that claims none."
-unfoldable pub claimText : List ℕ → List ℕ → ℕ → ℕ → List ℕ
-claimText text elements class name =
-    cond (eqb class classes.constant) (bytesOf " constant " ++ spelledOf text elements name)
-    (cond (eqb class classes.subtype) (bytesOf " subtype " ++ spelledOf text elements name) (bytesOf " piece -"))
+spelledOf text elements e = stretchOf text (cellAt elements e firstColumn) (cellAt elements e sizeColumn)
 
 -- "states by their word": those of the states 0 to 9; any other is `range`, 10
 unfoldable pub stateWords : List String
@@ -34,18 +26,6 @@ stateWords =
 
 unfoldable pub stateWord : ℕ → List ℕ
 stateWord s = bytesOf (getD stateWords s " range")
-
--- "truths print true or false": a number, or a truth
-unfoldable pub foldedText : ℕ → ℕ → List ℕ
-foldedText kind word = cond (eqb kind truthKind) (cond (eqb word 0) (bytesOf "false") (bytesOf "true")) (signedText word)
-
--- "a subtype `value LOW to HIGH`": its high end
-unfoldable pub upperOf : ℕ → ℕ → ℕ → List ℕ
-upperOf class kind high = cond (eqb class classes.subtype) (bytesOf " to " ++ foldedText kind high) []
-
--- "`value` and the number, `true` or `false`, or for a subtype `value LOW to HIGH`"
-unfoldable pub valueText : ℕ → ℕ → ℕ → ℕ → List ℕ
-valueText class kind low high = bytesOf " value " ++ (foldedText kind low ++ upperOf class kind high)
 
 -- "After the name": the value, or the state's word
 unfoldable pub resultOf : List ℕ → ℕ → List ℕ
@@ -56,7 +36,7 @@ resultOf items i =
 -- an item's line, "its number being its piece's"
 unfoldable pub itemOf : List ℕ → List ℕ → List ℕ → ℕ → List ℕ
 itemOf text elements items i =
-    decimalOf i ++ (claimText text elements (wordAt items i column.class) (wordAt items i column.name) ++ (resultOf items i ++ (lineFeed ∷ [])))
+    decimalOf i ++ (claimText (wordAt items i column.class) (spelledOf text elements (wordAt items i column.name)) ++ (resultOf items i ++ (lineFeed ∷ [])))
 
 -- "A line for each item, in order": a heading or a closing has none
 unfoldable pub lineOf : List ℕ → List ℕ → List ℕ → ℕ → List ℕ

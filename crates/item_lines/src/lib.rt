@@ -11,7 +11,8 @@ ghost use mathlib.Core.Path.{_≡_};
 ghost use lib.ListN.{length};
 ghost use Rattle.puts.specs.Puts.{Wrote};
 ghost use Rattle.puts.specs.Lines.{Part};
-ghost use Rattle.item_lines.specs.Lines.{spelledOf, claimText, stateWord, foldedText, upperOf, valueText, resultOf, itemOf, lineOf, wholeText, headOf, surveyLine, surveyLines};
+ghost use Rattle.item_words.specs.Words.{claimText};
+ghost use Rattle.item_lines.specs.Lines.{spelledOf, stateWord, resultOf, itemOf, lineOf, wholeText, headOf, surveyLine, surveyLines};
 
 // The states, by the words of a record.
 const BROKEN: u64 = states::BROKEN as u64;
@@ -32,41 +33,20 @@ const EXPONENT: u64 = states::EXPONENT as u64;
 
 const SIZE: u64 = states::SIZE as u64;
 
-// "Names print as spelled": the bytes of an element, none where the tables point outside.
-pub fn put_name(text: &[u8], elements: &[u64], name: u64, out: &mut [u8], at: usize) -> usize
-    ensures { λ r. ⌜ Wrote (now (out .entry)) at (spelledOf (now (text .entry)) (now (elements .entry)) name) (now (out .exit)) r ⌝ }
-{
-    let e = name as usize;
-    let size = places::size_of(elements, ElementNumber(e));
-    let place = places::place_of(elements, ElementNumber(e));
-    if places::stands(text, place, size) {
-        let first = place.0;
-        let end = first + size as usize;
-        return puts::put_bytes(&text[first..end], out, at);
-    }
-    puts::put_none(out, at)
-}
-
-// What an item is and its name, `-` for one that claims none.
-fn put_claim(
+// "Names print as spelled": what an item is, and its name, an element of the text.
+fn put_named(
     text: &[u8],
     elements: &[u64],
     class: u64,
-    name: u64,
+    name: ElementNumber,
     out: &mut [u8],
     at: usize,
 ) -> usize
-    ensures { λ r. ⌜ Wrote (now (out .entry)) at (claimText (now (text .entry)) (now (elements .entry)) class name) (now (out .exit)) r ⌝ }
+    ensures { λ r. ⌜ Wrote (now (out .entry)) at (claimText class (spelledOf (now (text .entry)) (now (elements .entry)) (name .0))) (now (out .exit)) r ⌝ }
 {
-    if class == pieces::CONSTANT {
-        let w = puts::put_bytes(b" constant ", out, at);
-        return put_name(text, elements, name, out, w);
-    }
-    if class == pieces::SUBTYPE {
-        let w = puts::put_bytes(b" subtype ", out, at);
-        return put_name(text, elements, name, out, w);
-    }
-    puts::put_bytes(b" piece -", out, at)
+    let place = places::place_of(elements, name);
+    let size = places::size_of(elements, name);
+    item_words::put_claim(text, class, place, size, out, at)
 }
 
 // "states by their word"
@@ -88,45 +68,13 @@ pub fn put_state(state: u64, out: &mut [u8], at: usize) -> usize
     }
 }
 
-// A number or, of kind 2, a truth.
-fn put_folded(kind: u64, word: u64, out: &mut [u8], at: usize) -> usize
-    ensures { λ r. ⌜ Wrote (now (out .entry)) at (foldedText kind word) (now (out .exit)) r ⌝ }
-{
-    if kind != integers::KIND_TRUTH {
-        return puts::put_signed(word, out, at);
-    }
-    if word == 0 {
-        return puts::put_bytes(b"false", out, at);
-    }
-    puts::put_bytes(b"true", out, at)
-}
-
-// "a subtype `value LOW to HIGH`": its high end.
-fn put_upper(class: u64, kind: u64, high: u64, out: &mut [u8], at: usize) -> usize
-    ensures { λ r. ⌜ Wrote (now (out .entry)) at (upperOf class kind high) (now (out .exit)) r ⌝ }
-{
-    if class == pieces::SUBTYPE {
-        let w = puts::put_bytes(b" to ", out, at);
-        return put_folded(kind, high, out, w);
-    }
-    puts::put_none(out, at)
-}
-
-fn put_value(class: u64, kind: u64, low: u64, high: u64, out: &mut [u8], at: usize) -> usize
-    ensures { λ r. ⌜ Wrote (now (out .entry)) at (valueText class kind low high) (now (out .exit)) r ⌝ }
-{
-    let a = puts::put_bytes(b" value ", out, at);
-    let b = put_folded(kind, low, out, a);
-    put_upper(class, kind, high, out, b)
-}
-
 // The value, or the state's word.
 fn put_result(items: &[u64], i: usize, out: &mut [u8], at: usize) -> usize
     ensures { λ r. ⌜ Wrote (now (out .entry)) at (resultOf (now (items .entry)) i) (now (out .exit)) r ⌝ }
 {
     let state = records::word(items, i, pieces::STATE);
     if state == 0 {
-        return put_value(
+        return item_words::put_value(
             records::word(items, i, pieces::CLASS),
             records::word(items, i, pieces::KIND),
             records::word(items, i, pieces::LOW),
@@ -149,11 +97,12 @@ fn put_item(
     ensures { λ r. ⌜ Wrote (now (out .entry)) at (itemOf (now (text .entry)) (now (elements .entry)) (now (items .entry)) i) (now (out .exit)) r ⌝ }
 {
     let a = puts::put_decimal(i as u64, out, at);
-    let b = put_claim(
+    let name = records::word(items, i, pieces::NAME) as usize;
+    let b = put_named(
         text,
         elements,
         records::word(items, i, pieces::CLASS),
-        records::word(items, i, pieces::NAME),
+        ElementNumber(name),
         out,
         a,
     );

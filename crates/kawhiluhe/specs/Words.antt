@@ -6,6 +6,8 @@ use Rattle.states.specs.States as state
 use Rattle.kawhiluhe.specs.declared.Elements.{Elements}
 use Rattle.kawhiluhe.specs.declared.Judged.{Judged}
 use Rattle.kawhiluhe.specs.declared.Surveyed.{Surveyed}
+use Rattle.kawhiluhe.specs.declared.Kept.{Kept}
+use Rattle.kawhiluhe.specs.declared.Unstored.{Unstored}
 
 -- the element reader's
 unfoldable pub elementWords : Elements → List ℕ
@@ -25,3 +27,11 @@ countsOf t =
 unfoldable pub surveyedWords : Surveyed → List ℕ
 surveyedWords x =
     x .refusal ∷ x .place ∷ x .pieces ∷ x .frame ∷ x .whole ∷ x .pair ∷ x .earlier ∷ x .later ∷ countsOf (x .tally)
+
+-- storing's
+unfoldable pub keptWords : Kept → List ℕ
+keptWords x = x .refusal ∷ x .place ∷ x .bytes ∷ []
+
+-- a stored table's that was read
+unfoldable pub unstoredWords : Unstored → List ℕ
+unstoredWords x = x .refusal ∷ x .place ∷ x .items ∷ x .name ∷ x .length ∷ []

@@ -8,6 +8,9 @@ use pairs::Pair;
 use pieces::RECORD_WORDS;
 use puts::Filled;
 use states::STATES;
+use stored_reading::StoredReading;
+use storing::Storing;
+use storing_again::Again;
 use strict_reading::Strict;
 use survey_reading::Ended;
 use survey_reading::Survey;
@@ -25,8 +28,10 @@ ghost use Rattle.item_lines.specs.Lines.{surveyLine, surveyLines};
 ghost use Rattle.record_lines.specs.Lines.{recordLine, recordLines};
 ghost use Rattle.tree_lines.specs.Lines.{treeLine, treeLines};
 ghost use Rattle.element_lines.specs.Lines.{elementLine, elementLines};
-ghost use Rattle.kawhiluhe.specs.Words.{elementWords, judgedWords, surveyedWords};
+ghost use Rattle.stored_lines.specs.Lines.{storedLine, storedLines};
+ghost use Rattle.kawhiluhe.specs.Words.{elementWords, judgedWords, surveyedWords, keptWords, unstoredWords};
 ghost use Rattle.kawhiluhe.specs.Numbers.{elementNumbers, strictNumbers, StrictPermitted, pairNumber, earlierNumber, laterNumber, surveyNumbers, SurveyPermitted, foundNumber};
+ghost use Rattle.kawhiluhe.specs.Stored.{bytesStored, storeNumbers, StorePermitted, unstoreNumbers, UnstorePermitted, bytesAgain, againNumbers, AgainPermitted};
 
 // How many words each answer has; a survey's end with its tally.
 const ELEMENT_WORDS: usize = 3;
@@ -36,6 +41,10 @@ const JUDGED_WORDS: usize = 5;
 const BESIDE_TALLY: usize = 8;
 
 const SURVEYED_WORDS: usize = BESIDE_TALLY + STATES;
+
+const KEPT_WORDS: usize = 3;
+
+const UNSTORED_WORDS: usize = 5;
 
 // The element reader's answer.
 #[repr(C)]
@@ -68,6 +77,24 @@ pub struct Surveyed {
     pub earlier: u64,
     pub later: u64,
     pub tally: [u64; STATES],
+}
+
+// Storing's: how many bytes were written.
+#[repr(C)]
+pub struct Kept {
+    pub refusal: u64,
+    pub place: u64,
+    pub bytes: u64,
+}
+
+// A stored table's that was read: how many items it has, and where its package's name stands and how long that is.
+#[repr(C)]
+pub struct Unstored {
+    pub refusal: u64,
+    pub place: u64,
+    pub items: u64,
+    pub name: u64,
+    pub length: u64,
 }
 
 fn element_numbers(r: Reading) -> Elements
@@ -193,6 +220,68 @@ fn found_number(x: Found, none: u64) -> u64
     }
 }
 
+fn bytes_stored(x: Storing) -> u64
+    ensures { λ n. ⌜ n ≡ bytesStored x ⌝ }
+{
+    match x {
+        Storing::Stored(n) => n as u64,
+        Storing::Refused(_) => 0,
+        Storing::NotWhole => 0,
+        Storing::OutputShort(_) => 0,
+    }
+}
+
+fn store_numbers(x: Storing) -> Kept
+    ensures { λ n. ⌜ n ≡ storeNumbers x ⌝ }
+{
+    Kept {
+        refusal: storing::storing_number(x),
+        place: storing::storing_place(x) as u64,
+        bytes: bytes_stored(x),
+    }
+}
+
+fn bytes_again(x: Again) -> u64
+    ensures { λ n. ⌜ n ≡ bytesAgain x ⌝ }
+{
+    match x {
+        Again::Stored(n) => n as u64,
+        Again::Refused(_) => 0,
+        Again::OutputShort(_) => 0,
+    }
+}
+
+fn again_numbers(x: Again) -> Kept
+    ensures { λ n. ⌜ n ≡ againNumbers x ⌝ }
+{
+    Kept {
+        refusal: storing_again::again_number(x),
+        place: storing_again::again_place(x) as u64,
+        bytes: bytes_again(x),
+    }
+}
+
+fn unstore_numbers(x: StoredReading) -> Unstored
+    ensures { λ n. ⌜ n ≡ unstoreNumbers x ⌝ }
+{
+    match x {
+        StoredReading::Read(name, length, items) => Unstored {
+            refusal: 0,
+            place: 0,
+            items: items as u64,
+            name: name.0 as u64,
+            length: length as u64,
+        },
+        StoredReading::Refused(r) => Unstored {
+            refusal: stored_reading::stored_number(r),
+            place: stored_reading::stored_place(r) as u64,
+            items: 0,
+            name: 0,
+            length: 0,
+        },
+    }
+}
+
 // The elements of a text, a row of the table to each.
 #[no_mangle]
 pub extern "C" fn kawhiluhe_elements(text: &[u8], elements: &mut [u64]) -> Elements
@@ -242,6 +331,35 @@ pub extern "C" fn kawhiluhe_lookup_items<'a>(
     found_number(found, none)
 }
 
+// A whole survey as the bytes of a stored table.
+#[no_mangle]
+pub extern "C" fn kawhiluhe_store(
+    text: &[u8],
+    elements: &mut [u64],
+    items: &mut [u64],
+    out: &mut [u8],
+) -> Kept
+    ensures { λ r. ⌜ StorePermitted (now (text .entry)) (length (now (elements .entry))) (length (now (items .entry))) (length (now (out .entry))) r (now (elements .exit)) (now (items .exit)) (now (out .exit)) ⌝ }
+{
+    store_numbers(storing::store_survey(text, elements, items, out))
+}
+
+// The items of a stored table, a row of six words to each.
+#[no_mangle]
+pub extern "C" fn kawhiluhe_read_stored(bytes: &[u8], rows: &mut [u64]) -> Unstored
+    ensures { λ r. ⌜ UnstorePermitted (now (bytes .entry)) (length (now (rows .entry))) r (now (rows .exit)) ⌝ }
+{
+    unstore_numbers(stored_reading::read_stored(bytes, rows))
+}
+
+// A stored table read, and what was read stored again.
+#[no_mangle]
+pub extern "C" fn kawhiluhe_store_again(bytes: &[u8], rows: &mut [u64], out: &mut [u8]) -> Kept
+    ensures { λ r. ⌜ AgainPermitted (now (bytes .entry)) (length (now (rows .entry))) (length (now (out .entry))) r (now (rows .exit)) (now (out .exit)) ⌝ }
+{
+    again_numbers(storing_again::store_again(bytes, rows, out))
+}
+
 // The words of an answer, one after the other, as the functions below are lent them.
 pub fn element_words(x: Elements) -> [u64; ELEMENT_WORDS]
     ensures { λ r. ⌜ r ≡ elementWords x ⌝ }
@@ -281,6 +399,18 @@ pub fn surveyed_words(x: Surveyed) -> [u64; SURVEYED_WORDS]
         t[states::SIZE as usize],
         t[states::RANGE as usize],
     ]
+}
+
+pub fn kept_words(x: Kept) -> [u64; KEPT_WORDS]
+    ensures { λ r. ⌜ r ≡ keptWords x ⌝ }
+{
+    [x.refusal, x.place, x.bytes]
+}
+
+pub fn unstored_words(x: Unstored) -> [u64; UNSTORED_WORDS]
+    ensures { λ r. ⌜ r ≡ unstoredWords x ⌝ }
+{
+    [x.refusal, x.place, x.items, x.name, x.length]
 }
 
 // What is printed of an answer, lent as its words, from a line on: as many whole lines as the buffer has room for, and zeros after them. Of
@@ -336,4 +466,18 @@ pub extern "C" fn kawhiluhe_record_lines(
     ensures { λ r. ⌜ Part (recordLine (now (items .entry)) (now (answer .entry))) from (recordLines (now (items .entry)) (now (answer .entry))) (length (now (out .entry))) r (now (out .exit)) ⌝ }
 {
     record_lines::fill_records(items, answer, from, out)
+}
+
+// Of a stored table.
+#[no_mangle]
+pub extern "C" fn kawhiluhe_stored_lines(
+    bytes: &[u8],
+    rows: &[u64],
+    answer: &[u64],
+    from: usize,
+    out: &mut [u8],
+) -> Filled
+    ensures { λ r. ⌜ Part (storedLine (now (bytes .entry)) (now (rows .entry)) (now (answer .entry))) from (storedLines (now (rows .entry)) (now (answer .entry))) (length (now (out .entry))) r (now (out .exit)) ⌝ }
+{
+    stored_lines::fill_stored(bytes, rows, answer, from, out)
 }

@@ -28,7 +28,8 @@ use Rattle.puts.specs.Decimals.{digitsOf, decimalOf, signedText, fieldOf, field
 use Rattle.puts.specs.Lines.{linesFrom}
 use Rattle.refused_line.specs.Refused.{lineBy, linesBy}
 use Rattle.item_lines.specs.Lines as item
-use Rattle.item_lines.specs.Lines.{spelledOf, claimText, stateWords, stateWord, foldedText, upperOf, valueText, resultOf, itemOf, lineOf, surveyLine, surveyLines, surveyListing}
+use Rattle.item_words.specs.Words.{stretchOf, claimText, foldedText, upperOf, valueText}
+use Rattle.item_lines.specs.Lines.{spelledOf, stateWords, stateWord, resultOf, itemOf, lineOf, surveyLine, surveyLines, surveyListing}
 use Rattle.record_lines.specs.Lines as record-lines
 use Rattle.record_lines.specs.Lines.{recordListing}
 use Rattle.element_lines.specs.Lines as element-lines
@@ -125,7 +126,7 @@ unfolding surveyedWords countsOf summary summedOf gasAnswer gasElements gasTable
 answer-is = refl
 
 lines-are : surveyListing gas gasElements gasTable gasAnswer ≡ gasListing
-unfolding gasAnswer gasElements gasTable gasRows gasItems wordAt cellAt digitsOf decimalOf signedText linesFrom lineBy linesBy spelledOf claimText stateWords stateWord foldedText upperOf valueText resultOf itemOf lineOf item.wholeText item.headOf item.listedLine surveyLine surveyLines surveyListing bytesOf
+unfolding gasAnswer gasElements gasTable gasRows gasItems wordAt cellAt digitsOf decimalOf signedText linesFrom lineBy linesBy stretchOf spelledOf claimText stateWords stateWord foldedText upperOf valueText resultOf itemOf lineOf item.wholeText item.headOf item.listedLine surveyLine surveyLines surveyListing bytesOf
 lines-are = refl
 
 pub sample : Sample

@@ -17,14 +17,15 @@ use Rattle.records.specs.Records.{wordAt, isItem}
 use Rattle.puts.specs.Decimals.{digitsOf, decimalOf, signedText}
 use Rattle.refused_line.specs.Refused.{refusal, place, counted, placeText, refusedOf, lineBy}
 use Rattle.listings.specs.Written.{besideText, LinesFit}
-use Rattle.item_lines.specs.Lines.{spelledOf, claimText, stateWord, stateWords, foldedText, upperOf, valueText, resultOf, itemOf, lineOf, wholeText, headOf, listedLine, surveyLine}
+use Rattle.item_words.specs.Words.{stretchOf, claimText, foldedText, upperOf, valueText}
+use Rattle.item_lines.specs.Lines.{spelledOf, stateWord, stateWords, resultOf, itemOf, lineOf, wholeText, headOf, listedLine, surveyLine}
 
 -- a choice is no longer than the longer
-either : (b : Bool) (x y : List ℕ) {n : ℕ} → length x ≤ n → length y ≤ n → length (cond b x y) ≤ n
+pub either : (b : Bool) (x y : List ℕ) {n : ℕ} → length x ≤ n → length y ≤ n → length (cond b x y) ≤ n
 either true x y h k = h
 either false x y h k = k
 
-two : (x y : List ℕ) {m n k : ℕ} → length x ≤ m → length y ≤ n → m + n ≤ k → length (x ++ y) ≤ k
+pub two : (x y : List ℕ) {m n k : ℕ} → length x ≤ m → length y ≤ n → m + n ≤ k → length (x ++ y) ≤ k
 two x y h k l = omega (arith, length-append x y)
 
 -- a number below a power of ten has no more digits than its exponent
@@ -40,7 +41,7 @@ digits-size (suc f) (suc k) n h =
     by false q ih = rw (more f n (ltb-false n 10 q))
         (two (digitsOf f (n / 10)) ((48 + n % 10) ∷ []) {m = suc k} {n = 1} ih (omega arith) (omega arith))
 
-decimal-size : (n : ℕ) → n ≤ 2 ^ 64 → length (decimalOf n) ≤ 20
+pub decimal-size : (n : ℕ) → n ≤ 2 ^ 64 → length (decimalOf n) ≤ 20
 unfolding decimalOf
 decimal-size n h = digits-size n 19 n (omega arith)
 
@@ -50,17 +51,17 @@ signed-size w h =
     either (ltb w 9223372036854775808) _ _ (le-trans (decimal-size w (omega arith)) (omega arith))
     (let e = decimal-size (18446744073709551616 - w) (omega arith) in omega arith)
 
+pub stretch-size : (s : List ℕ) (first size : ℕ) → length (stretchOf s first size) ≤ length s
+unfolding stretchOf
+stretch-size s first size = either (within s first size) _ _ (simp (length-take, length-drop) (omega arith)) (omega arith)
+
 spelled-size : (s els : List ℕ) (e : ℕ) → length (spelledOf s els e) ≤ length s
 unfolding spelledOf
-spelled-size s els e =
-    either (within s (cellAt els e 1) (cellAt els e 2)) _ _
-    (simp (length-take, length-drop) (omega arith)) (omega arith)
+spelled-size s els e = stretch-size s (cellAt els e 1) (cellAt els e 2)
 
-claim-size : (s els : List ℕ) (class e : ℕ) → length (claimText s els class e) ≤ length s + 10
+pub claim-size : (class : ℕ) (name : List ℕ) → length (claimText class name) ≤ length name + 10
 unfolding claimText bytesOf
-claim-size s els class e =
-    let n = spelled-size s els e in
-    either (eqb class 3) _ _ (omega arith) (either (eqb class 4) _ _ (omega arith) (omega arith))
+claim-size class name = either (eqb class 3) _ _ (omega arith) (either (eqb class 4) _ _ (omega arith) (omega arith))
 
 -- each word of a list has at most n bytes
 abbrev Short : ℕ → List String → Type 0
@@ -84,12 +85,12 @@ upper-size : (class kind high : ℕ) → high < 2 ^ 64 → length (upperOf class
 unfolding upperOf bytesOf
 upper-size class kind high h = let n = folded-size kind high h in either (eqb class 4) _ _ (omega arith) (omega arith)
 
-value-size : (class kind low high : ℕ) → low < 2 ^ 64 → high < 2 ^ 64 → length (valueText class kind low high) ≤ 53
+pub value-size : (class kind low high : ℕ) → low < 2 ^ 64 → high < 2 ^ 64 → length (valueText class kind low high) ≤ 53
 unfolding valueText bytesOf
 value-size class kind low high h k =
     two (bytesOf " value ") (foldedText kind low ++ upperOf class kind high) {m = 7} {n = 46} (omega arith) (two (foldedText kind low) (upperOf class kind high) (folded-size kind low h) (upper-size class kind high k) (omega arith)) (omega arith)
 
-below : (b : Bool) {x y n : ℕ} → x < n → y < n → cond b x y < n
+pub below : (b : Bool) {x y n : ℕ} → x < n → y < n → cond b x y < n
 below true h k = h
 below false h k = k
 
@@ -107,10 +108,12 @@ module _ (items : List ℕ) (words : (k : ℕ) → getD items k 0 < 2 ^ 64) wher
   item-size : (s els : List ℕ) (i : ℕ) → i < 2 ^ 64 → length (itemOf s els items i) ≤ length s + besideText
   unfolding itemOf
   item-size s els i h =
-      let a = claimText s els (wordAt items i 0) (wordAt items i 3) in
+      let name = spelledOf s els (wordAt items i 3) in
+      let a = claimText (wordAt items i 0) name in
+      let claimed : length a ≤ length s + 10 = omega (arith, claim-size (wordAt items i 0) name, spelled-size s els (wordAt items i 3)) in
       let b = resultOf items i ++ (10 ∷ []) in
       two (decimalOf i) (a ++ b) (decimal-size i (omega arith))
-      (two a b {k = length s + 64} (claim-size s els (wordAt items i 0) (wordAt items i 3))
+      (two a b {k = length s + 64} claimed
       (two (resultOf items i) (10 ∷ []) {n = 1} {k = 54} (result-size i) (omega arith) (omega arith)) (omega arith)) (omega arith)
 
   line-size : (s els : List ℕ) (i : ℕ) → i < 2 ^ 64 → length (lineOf s els items i) ≤ length s + besideText
@@ -133,7 +136,7 @@ place-size n h =
     two (bytesOf " at ") (decimalOf n ++ (10 ∷ [])) {m = 4} {n = 21} (omega arith)
     (two (decimalOf n) (10 ∷ []) {n = 1} (decimal-size n (omega arith)) (omega arith) (omega arith)) (omega arith)
 
-refused-size : (n at : ℕ) → n < 2 ^ 64 → at < 2 ^ 64 → length (refusedOf n at) ≤ 53
+pub refused-size : (n at : ℕ) → n < 2 ^ 64 → at < 2 ^ 64 → length (refusedOf n at) ≤ 53
 unfolding refusedOf bytesOf
 refused-size n at h k =
     two (bytesOf "refused ") (decimalOf n ++ placeText at) {m = 8} {n = 45} (omega arith)

@@ -1,3 +1,4 @@
 pub mod Listings
 pub mod Written
 pub mod Samples
+pub mod Stored

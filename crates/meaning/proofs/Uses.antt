@@ -146,7 +146,7 @@ good-at all [] f h g = absurd (omega arith)
 good-at all (d ∷ ds) zero h g = g .0
 good-at all (d ∷ ds) (suc f) h g = good-at all ds f (omega arith) (g .1)
 
-claim-item : (c : ℕ) → isClaim c ≡ true → isItem c ≡ true
+pub claim-item : (c : ℕ) → isClaim c ≡ true → isItem c ≡ true
 claim-item c h = go (eqb c 3) (eqb c 4) (eqb c 5) h
   where
     go : (a b d : Bool) → (a || b) ≡ true → ((a || b) || d) ≡ true

@@ -1,11 +1,12 @@
-// What the arguments of a program ask for. Each program has a word of its own that asks for its other listing, and one for the rows of its
+// What the arguments of a program ask for. A program may have a word of its own that asks for its other job, and has one for the rows of its
 // second table; the rest they share. What is said on standard error is tested, not proved.
 use arguments::Amount;
 use console::Got;
+use console::MOST_ROOM;
 use libc::STDIN_FILENO;
 
 // What the programs print of themselves.
-pub const VERSION: [u8; 6] = [b'1', b'.', b'1', b'.', b'0', b'\n'];
+pub const VERSION: [u8; 6] = [b'1', b'.', b'2', b'.', b'0', b'\n'];
 
 // Room for an argument.
 pub const WORD_ROOM: usize = 4096;
@@ -22,7 +23,7 @@ const MOST_ARGUMENTS: usize = 1000000;
 // How much of an argument that is too long names it.
 const NAMED: usize = 64;
 
-// `other` is that the other listing is asked for, `other_rows` the rows of the second table; `file` is the number of the argument that
+// `other` is that the other job is asked for, `other_rows` the rows of the second table, `room` that of the output; `file` is the number of the argument that
 // names one, or 0; `next` is the argument to look at next; after `--` every argument names a file. Not `good`: nothing is to be read, since
 // the call is wrong, or asked for help or the version, and was answered.
 pub struct Options {
@@ -30,15 +31,24 @@ pub struct Options {
     pub other: bool,
     pub element_rows: usize,
     pub other_rows: usize,
+    pub room: usize,
     pub file: usize,
     pub next: usize,
     pub only_files: bool,
+}
+
+// What a program's arguments may lend beside the rows of its second table: those of its element table, room for its output, or both.
+pub enum Lends {
+    Elements,
+    Room,
+    Both,
 }
 
 enum Asked {
     Other,
     ElementRows,
     OtherRows,
+    Room,
     Help,
     Version,
     OnlyFiles,
@@ -46,15 +56,35 @@ enum Asked {
     Unknown,
 }
 
-fn asked_by(word: &[u8], other: &[u8], rows: &[u8]) -> Asked {
+fn lends_elements(lends: Lends) -> bool {
+    match lends {
+        Lends::Room => false,
+        _ => true,
+    }
+}
+
+fn lends_room(lends: Lends) -> bool {
+    match lends {
+        Lends::Elements => false,
+        _ => true,
+    }
+}
+
+fn asked_by(word: &[u8], other: &[u8], rows: &[u8], lends: Lends) -> Asked {
+    if word.len() == 0 {
+        return Asked::File;
+    }
     if arguments::same_bytes(word, other) {
         return Asked::Other;
     }
-    if arguments::same_bytes(word, b"--element-rows") {
-        return Asked::ElementRows;
-    }
     if arguments::same_bytes(word, rows) {
         return Asked::OtherRows;
+    }
+    if arguments::same_bytes(word, b"--element-rows") & lends_elements(lends) {
+        return Asked::ElementRows;
+    }
+    if arguments::same_bytes(word, b"--room") & lends_room(lends) {
+        return Asked::Room;
     }
     if !arguments::same_bytes(lent_tables::front(word, HYPHENS), b"--") {
         return Asked::File;
@@ -108,6 +138,7 @@ impl Options {
             other: false,
             element_rows: places::MOST_ELEMENTS,
             other_rows: most,
+            room: MOST_ROOM,
             file: 0,
             next: 1,
             only_files: false,
@@ -135,6 +166,14 @@ impl Options {
         self
     }
 
+    fn with_room(mut self, v: Amount) -> Self {
+        let Amount::Is(n) = v else {
+            return self.stopped();
+        };
+        self.room = n;
+        self
+    }
+
     // The argument names a file: there may be one.
     fn with_file(mut self, program: &[u8], i: usize, word: &[u8]) -> Self {
         if 0 < self.file {
@@ -155,7 +194,7 @@ impl Options {
         program: &[u8],
         option: &[u8],
         most: u32,
-        element: bool,
+        asked: Asked,
         word: &mut [u8],
     ) -> Self {
         let i = self.next;
@@ -167,10 +206,11 @@ impl Options {
             return self.stopped();
         };
         let v = rows_of(program, option, lent_tables::front(word, n), most);
-        if element {
-            return self.with_element_rows(v);
+        match asked {
+            Asked::ElementRows => self.with_element_rows(v),
+            Asked::Room => self.with_room(v),
+            _ => self.with_other_rows(v),
         }
-        self.with_other_rows(v)
     }
 
     // The options with the next argument taken in, and its value where it has one.
@@ -181,6 +221,7 @@ impl Options {
         other: &[u8],
         rows: &[u8],
         most: u32,
+        lends: Lends,
         word: &mut [u8],
     ) -> Self {
         let i = self.next;
@@ -193,7 +234,7 @@ impl Options {
         if self.only_files {
             return self.with_file(program, i, lent_tables::front(word, n));
         }
-        match asked_by(lent_tables::front(word, n), other, rows) {
+        match asked_by(lent_tables::front(word, n), other, rows, lends) {
             Asked::Other => {
                 self.other = true;
                 self.next = i + 1;
@@ -204,11 +245,12 @@ impl Options {
                     program,
                     b"--element-rows",
                     places::MOST_ELEMENTS as u32,
-                    true,
+                    Asked::ElementRows,
                     word,
                 )
             },
-            Asked::OtherRows => self.with_value(program, rows, most, false, word),
+            Asked::OtherRows => self.with_value(program, rows, most, Asked::OtherRows, word),
+            Asked::Room => self.with_value(program, b"--room", MOST_ROOM as u32, Asked::Room, word),
             Asked::Help => {
                 console::write_out(program, help);
                 self.stopped()
@@ -234,14 +276,15 @@ impl Options {
     }
 }
 
-// What all the arguments ask for: the words are the program's name, its help, its own option and that of its second table, of at most so
-// many rows.
+// What all the arguments ask for: the words are the program's name, its help, its own option, none where it has none, and that of its second
+// table, of at most so many rows.
 pub fn read_options(
     program: &[u8],
     help: &[u8],
     other: &[u8],
     rows: &[u8],
     most: u32,
+    lends: Lends,
     word: &mut [u8],
 ) -> Options {
     let count = os::arg_count();
@@ -254,7 +297,7 @@ pub fn read_options(
         if !o.good {
             return o;
         }
-        o = o.taken(program, help, other, rows, most, word);
+        o = o.taken(program, help, other, rows, most, lends, word);
         left -= 1;
     }
     o
@@ -284,4 +327,14 @@ pub fn read_input(program: &[u8], file: usize, word: &mut [u8], text: &mut [u8])
         return Got::Failed;
     }
     read_or_complain(program, fd, name, text)
+}
+
+// One line on standard error of what was read: what is wrong with it.
+pub fn complain_of(program: &[u8], what: &[u8], file: usize, word: &mut [u8]) {
+    if file == 0 {
+        console::complain(program, what, b"standard input");
+        return;
+    }
+    let n = os::arg(file, word);
+    console::complain(program, what, lent_tables::front(word, n));
 }

@@ -1,5 +1,5 @@
--- The refusals' numbers and places: the table of 01's "Refusals and their order". When each is given stands where the reading is defined.
--- Assumes nothing.
+-- The refusals' numbers and places: the table of 01's "Refusals and their order", and the numbers of 02's. When each is given stands where the
+-- reading is defined. Assumes nothing.
 use Prim.Native.Nat.{ℕ}
 use Rattle.places.specs.Sizes.{mostPieces}
 use Rattle.refusals.specs.declared.Refusal.{Refusal}
@@ -8,6 +8,20 @@ use Rattle.refusals.specs.declared.StrictRefusal.{StrictRefusal}
 use Rattle.refusals.specs.declared.StrictRefusal.the-variants as S
 use Rattle.refusals.specs.declared.SurveyRefusal.{SurveyRefusal}
 use Rattle.refusals.specs.declared.SurveyRefusal.the-variants as survey
+
+-- the numbers that more than one reader gives: "item table short"; of 02, request 01, "21, survey not whole; 22, output short"; "24, bytes that
+-- aren't exactly one such table"
+abbrev pub itemsShortNumber : ℕ
+itemsShortNumber = 10
+
+abbrev pub notWholeNumber : ℕ
+notWholeNumber = 21
+
+abbrev pub outputShortNumber : ℕ
+outputShortNumber = 22
+
+abbrev pub notStoredNumber : ℕ
+notStoredNumber = 24
 
 -- "text too long"; "more than 8,192 elements"; "element table short"
 abbrev pub refusalNumber : Refusal → ℕ
@@ -42,7 +56,7 @@ strictPlace (S.TreeShort rows) = rows
 abbrev pub surveyNumber : SurveyRefusal → ℕ
 surveyNumber (survey.Elements r) = refusalNumber r
 surveyNumber survey.TooMany = 9
-surveyNumber (survey.ItemsShort rows) = 10
+surveyNumber (survey.ItemsShort rows) = itemsShortNumber
 
 abbrev pub surveyPlace : SurveyRefusal → ℕ
 surveyPlace (survey.Elements r) = refusalPlace r

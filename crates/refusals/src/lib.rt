@@ -1,4 +1,4 @@
-// 01's refusals, their numbers and their places: of the element reader, of the strict reading and of the survey.
+// 01's refusals, their numbers and their places: of the element reader, of the strict reading and of the survey; and the numbers of 02's.
 use places::BytePlace;
 use places::ElementNumber;
 use places::MOST_PIECES;
@@ -28,6 +28,16 @@ pub enum SurveyRefusal {
     TooMany,
     ItemsShort(usize),
 }
+
+// The numbers that more than one reader gives: an item table that is short; 02's, a survey that is not whole, an output that is short, bytes that
+// are no stored table.
+pub const ITEMS_SHORT: u64 = 10;
+
+pub const NOT_WHOLE: u64 = 21;
+
+pub const OUTPUT_SHORT: u64 = 22;
+
+pub const NOT_STORED: u64 = 24;
 
 pub fn refusal_number(r: Refusal) -> u64
     ensures { λ n. ⌜ n ≡ refusalNumber r ⌝ }
@@ -81,7 +91,7 @@ pub fn survey_number(r: SurveyRefusal) -> u64
     match r {
         SurveyRefusal::Elements(e) => refusal_number(e),
         SurveyRefusal::TooMany => 9,
-        SurveyRefusal::ItemsShort(_) => 10,
+        SurveyRefusal::ItemsShort(_) => ITEMS_SHORT,
     }
 }
 

@@ -103,7 +103,7 @@ items-only F (f ∷ fs) is h e =
     let r = items-only F fs (b .1 .0) (y .1) (b .1 .1 .1 .0) in
     rw (b .1 .1 .1 .1) (made f fs (b .0) (b .1 .0) (o .0) (r .0), legal-too F (b .0) (b .1 .0) (o .1) (r .1))
 
--- ---- behind a head
+-- ---- after a head
 same-fields : (h f : Field) → (eqb (h .tag) (f .tag) && sameBytes (h .body) (f .body)) ≡ true → h ≡ f
 same-fields h f e =
     let b = both (eqb (h .tag) (f .tag)) (sameBytes (h .body) (f .body)) e in
@@ -164,7 +164,7 @@ titled-some F (f ∷ fs) n is e = go (eqb (f .tag) 1) (F .legal (f .body)) refl 
     go true false p q r = clash (cc)
     go false y p q r = clash (cc)
 
--- the bytes behind a head are bytes
+-- the bytes after a head are bytes
 behind-head : (hs gs : List Field) → Bytes (fieldsBytes (hs ++ gs)) → Bytes (fieldsBytes gs)
 behind-head [] gs h = h
 behind-head (f ∷ hs) gs h = behind-head hs gs (field-bytes f (hs ++ gs) h .1)

@@ -72,7 +72,7 @@ four-at s k h l =
     ∙ ap (λ (x : List ℕ). getD s (suc k) 0 ∷ x) (drop-cons s (suc (suc k)) 0 (omega arith)
     ∙ ap (λ (x : List ℕ). getD s (suc (suc k)) 0 ∷ x) (drop-cons s (suc (suc (suc k))) 0 (omega arith))))))
 
--- stored numbers are read back, at the front and behind four bytes
+-- stored numbers are read back, at the front and after four bytes
 pub word-back : (z : ℤ) (r : List ℕ) → wordIn (numberBytes z ++ r) 0 ≡ ofZ w32 z
 unfolding wordIn numberBytes fourBytes
 word-back z r = four-back (ofZ w32 z)

@@ -22,7 +22,7 @@ pub record Form : Type 0 where
   pub admits : StoredValue → Bool
   pub head : List Field
 
--- "Tag 1 holds the package name. Then one field to an item in order": behind the form's head
+-- "Tag 1 holds the package name. Then one field to an item in order": after the form's head
 abbrev pub storedFields : Form → List ℕ → List StoredItem → List Field
 storedFields F n items = F .head ++ (nameField n ∷ map itemField items)
 

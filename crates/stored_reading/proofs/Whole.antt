@@ -169,7 +169,7 @@ unfolding examinedOf
 found-broken-is broken e = refl
 found-broken-is (table n is) e = clash (cc)
 
--- the items behind the name
+-- the items after the name
 opened-by : (s n : List ℕ) (is : List StoredItem) (st : FieldStep) → Decoded s st → decode formOne s ≡ table n is → itemsAt formOne (drop (3 + length n) s) ≡ some is
 opened-by s n is Bad d e = clash (cc)
 opened-by s n is End d e = clash (cc)
@@ -192,7 +192,7 @@ drop-replicate zero n a = rw sub-zero
 drop-replicate (suc k) zero a = rw zero-sub
 drop-replicate (suc k) (suc n) a = drop-replicate k n a ∙ rw suc-sub-suc
 
-length-cells : (at : ℕ) (is : List StoredItem) → length (storedRowsFrom at is) ≡ 6 * length is
+pub length-cells : (at : ℕ) (is : List StoredItem) → length (storedRowsFrom at is) ≡ 6 * length is
 unfolding storedRowsFrom
 length-cells at [] = refl
 length-cells at (i ∷ is) = omega (arith, length-cells (at + sizeOf i) is)

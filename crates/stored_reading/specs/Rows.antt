@@ -36,6 +36,25 @@ sizeOf i = headSize + (valueSize (i .value) + length (i .name))
 abbrev pub storedRowWords : ℕ
 storedRowWords = 6
 
+-- and the places of its words
+abbrev pub storedClassColumn : ℕ
+storedClassColumn = 0
+
+abbrev pub storedPlaceColumn : ℕ
+storedPlaceColumn = 1
+
+abbrev pub storedLengthColumn : ℕ
+storedLengthColumn = 2
+
+abbrev pub storedKindColumn : ℕ
+storedKindColumn = 3
+
+abbrev pub storedLowColumn : ℕ
+storedLowColumn = 4
+
+abbrev pub storedHighColumn : ℕ
+storedHighColumn = 5
+
 abbrev pub storedRow : StoredValue → ℕ → ℕ → List ℕ
 storedRow v place size = storedClass v ∷ place ∷ size ∷ valueKind (surveyValue v) ∷ lowOf (surveyValue v) ∷ highOf (surveyValue v) ∷ []
 

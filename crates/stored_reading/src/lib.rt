@@ -1,5 +1,7 @@
 // Reads a stored table back into rows of words. Any bytes and any table may be given.
 use places::BytePlace;
+use refusals::ITEMS_SHORT;
+use refusals::NOT_STORED;
 use stored::Held;
 use stored::MOST_ITEMS;
 use stored::StoredValue;
@@ -77,11 +79,6 @@ const HEAD_SIZE: usize = 3;
 const LOW_BYTE: usize = 2;
 
 const ALL_BYTES: usize = 256;
-
-// The refusals' numbers, of 02 and of 01.
-const NOT_STORED: u64 = 24;
-
-const ITEMS_SHORT: u64 = 10;
 
 pub fn stored_number(r: StoredRefusal) -> u64
     ensures { λ n. ⌜ n ≡ storedNumber r ⌝ }

@@ -2,6 +2,7 @@
 use console::Got;
 use console::OUT_ROOM;
 use form_numbers::ROW_NUMBERS;
+use options::Lends;
 use options::Options;
 use options::WORD_ROOM;
 use places::MOST_BYTES;
@@ -35,6 +36,7 @@ fn main() {
         b"--elements",
         b"--tree-rows",
         MOST_ELEMENTS as u32,
+        Lends::Elements,
         &mut word,
     );
     if !o.good {

@@ -2,6 +2,7 @@
 use console::Got;
 use console::OUT_ROOM;
 use console::Shown;
+use options::Lends;
 use options::Options;
 use options::WORD_ROOM;
 use pieces::RECORD_WORDS;
@@ -39,6 +40,7 @@ fn main() {
         b"--records",
         b"--item-rows",
         MOST_PIECES as u32,
+        Lends::Elements,
         &mut word,
     );
     if !o.good {

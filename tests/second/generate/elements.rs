@@ -16,7 +16,7 @@ const ALPHABETS: [&[u8]; 8] = [
     b"<>=:/*-&|[](),;.+'",
     b"aZ0_9 -\t\n\x0B\x0C\r",
 ];
-/// What stands right behind a reserved word, an enclosed element or a number.
+/// What stands right after a reserved word, an enclosed element or a number.
 #[rustfmt::skip]
 const BEHIND_WORDS: [&[u8]; 7] = [b"\"\"", b"\"a", b"_", b"'a'", b"'", b"\\a\\", b"#"];
 #[rustfmt::skip]
@@ -257,7 +257,7 @@ fn apostrophes(chance: &mut Chance, text: &mut Vec<u8>) {
     }
 }
 
-/// Numbers of every shape, good and bad, and what may stand right behind them.
+/// Numbers of every shape, good and bad, and what may stand right after them.
 fn number(chance: &mut Chance, text: &mut Vec<u8>) {
     match chance.weigh(&[35, 40, 25]) {
         0 => digits(chance, text),

@@ -63,7 +63,7 @@ fn beside(chance: &mut Chance, words: &[&str]) -> Vec<u8> {
         4 => name.insert(0, chance.byte(LETTERS)),
         _ => *name.last_mut().unwrap() = chance.byte(LETTERS_AND_DIGITS),
     }
-    // `assume_guarantee` cut behind its underscore is no name.
+    // `assume_guarantee` cut after its underscore is no name.
     if name.last() == Some(&b'_') {
         name.pop();
     }

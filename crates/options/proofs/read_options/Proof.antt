@@ -11,10 +11,10 @@ use Rattle.options.proofs.Options.taken.Reads as taken-reads
 use Rattle.os.proofs.arg_count.Reads as arg-count-reads
 
 abbrev Inv-loop : tie.InvT-loop
-Inv-loop program help other rows most word₀ count o₀ left₀ word o left = length word ≡ length word₀
+Inv-loop program help other rows most lends word₀ count o₀ left₀ word o left = length word ≡ length word₀
 
 abbrev μ-loop : tie.MeasureT-loop
-μ-loop program help other rows most word₀ count o₀ left₀ word o left = left
+μ-loop program help other rows most lends word₀ count o₀ left₀ word o left = left
 
 -- src/lib.rt:225:9
 arg-count-requires : tie.Need-arg-count-requires Inv-loop μ-loop

@@ -20,7 +20,7 @@ use Rattle.stored.specs.declared.Held.the-variants.{Nothing, Holds}
 abbrev pub taggedField : ℕ → List ℕ → Field
 taggedField t b = record { tag = t; body = b }
 
--- a length, behind its tag, and how many bytes it has
+-- a length, after its tag, and how many bytes it has
 abbrev pub lengthSize : ℕ
 lengthSize = 2
 
@@ -31,7 +31,7 @@ unfoldable pub before : {A : Type 0} → A → Option (List A) → Option (List 
 before a none = none
 before a (some xs) = some (a ∷ xs)
 
--- what stands behind a tag 0
+-- what stands after a tag 0
 unfoldable pub ending : List ℕ → Option (List Field)
 ending s = cond (eqb (length s) lengthSize && (eqb (getD s 0 0) 0 && eqb (getD s 1 0) 0)) (some []) none
 
@@ -105,7 +105,7 @@ heldLegal F (Holds v) s = cond (itemFits F v (drop (valueSize v) s)) (Holds v) N
 unfoldable pub keptIn : Form → ℕ → List ℕ → Held
 keptIn F t s = heldLegal F (heldValue t s) s
 
--- with the name behind it
+-- with the name after it
 unfoldable pub withName : Held → List ℕ → Option StoredItem
 withName Nothing s = none
 withName (Holds v) s = some (record { value = v; name = drop (valueSize v) s })
@@ -133,7 +133,7 @@ unfoldable pub titled : Form → List Field → Table
 titled F [] = broken
 titled F (f ∷ fs) = cond (eqb (f .tag) nameTag) (cond (F .legal (f .body)) (checked (f .body) (itemsInFields F fs)) broken) broken
 
--- behind the form's head
+-- after the form's head
 unfoldable pub headed : Form → List Field → List Field → Table
 headed F [] fs = titled F fs
 headed F (h ∷ hs) [] = broken

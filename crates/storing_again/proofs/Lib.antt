@@ -1,0 +1,4 @@
+pub mod Puts
+pub mod Rows
+pub mod Whole
+pub mod Promises

@@ -1,0 +1,4 @@
+pub mod Refusals
+pub mod Permitted
+pub mod Promises
+pub mod code
