@@ -1,9 +1,11 @@
 // What the programs read off their arguments.
+#![tactic(auto)]
+
 ghost use Rattle.std.specs.Prelude.{◌≡◌, ◌+◌, ◌*◌, ◌≤◌, min};
 ghost use Rattle.classes.specs.Bytes.{ten, digit_value};
 ghost use Rattle.arguments.specs.Arguments.{amount_of, same_argument};
 
-#[derive(Drop)]
+#[derive(Clone, Copy)]
 pub enum Amount {
     Is(usize),
     Nothing,

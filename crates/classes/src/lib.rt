@@ -1,4 +1,6 @@
 // The classes of bytes and the runs of bytes that elements are made of. Every function takes any bytes.
+#![tactic(auto)]
+
 ghost use Rattle.std.specs.Prelude.{◌≡◌, get_or};
 ghost use Rattle.classes.specs.Bytes.{is_letter, lower, is_digit, digit_value};
 ghost use Rattle.classes.specs.Signs.{ends_line, separates, is_graphic};
@@ -28,7 +30,7 @@ const SMALL_TEN: u8 = b'a' - TEN;
 const NO_DIGIT: u8 = GREATEST_BASE;
 
 // Which bytes a run holds: letters and digits, or digits below a base.
-#[derive(Drop)]
+#[derive(Clone, Copy)]
 pub enum Run {
     Word,
     Below(u8),

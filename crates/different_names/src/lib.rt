@@ -1,15 +1,16 @@
 // Whether names are all different, in n log n comparisons. Their numbers are sorted by the names' bytes; what the order then shows is looked at
 // anew, so that nothing rests on the sort: where it shows nothing, which no sort leaves, each name is compared with each.
+#![tactic(auto)]
+
 ghost use Rattle.std.specs.Prelude.{◌≡◌, ◌+◌, ◌-◌, ◌≤◌, ◌<◌, take, drop};
 ghost use Rattle.stored.specs.Stored.{most_items, among, distinct};
 ghost use Rattle.different_names.specs.StandingNames.{name_at, names_from};
 ghost use Rattle.different_names.specs.code.Orders.{order_of, ToldRight};
 
-use places::BytePlace;
 use stored::MOST_ITEMS;
 
 // How one name stands to another in byte order.
-#[derive(Drop)]
+#[derive(Clone, Copy)]
 pub enum Order {
     Below,
     Same,
@@ -17,7 +18,7 @@ pub enum Order {
 }
 
 // What an order of the names tells of them.
-#[derive(Drop)]
+#[derive(Clone, Copy)]
 pub enum Told {
     Different,
     Twice,
@@ -49,10 +50,10 @@ fn compare(a: &[u8], b: &[u8]) -> Order
     Order::Same
 }
 
-fn part(s: &[u8], first: BytePlace, size: usize) -> &[u8]
-    ensures { result.now ≡ take size (drop first.0 s.now) }
+fn part(s: &[u8], first: usize, size: usize) -> &[u8]
+    ensures { result.now ≡ take size (drop first s.now) }
 {
-    lent_tables::front(stored::rest(s, first.0), size)
+    lent_tables::front(stored::rest(s, first), size)
 }
 
 // How name i stands to name j.
@@ -65,9 +66,9 @@ fn order_at(
 ) -> Order
     ensures { result ≡ order_of (name_at s.now firsts.now sizes.now i) (name_at s.now firsts.now sizes.now j) }
 {
-    let from = BytePlace(lent_tables::word_at(firsts, i) as usize);
+    let from = lent_tables::word_at(firsts, i) as usize;
     let size = lent_tables::word_at(sizes, i) as usize;
-    let other = BytePlace(lent_tables::word_at(firsts, j) as usize);
+    let other = lent_tables::word_at(firsts, j) as usize;
     let length = lent_tables::word_at(sizes, j) as usize;
     compare(part(s, from, size), part(s, other, length))
 }

@@ -1,5 +1,7 @@
 // The lines of the listing of a text's elements, put into a lent buffer. Every function takes any table, numbers and buffer, and puts what
 // specs/Lines.antt defines.
+#![tactic(auto)]
+
 ghost use Rattle.std.specs.Prelude.{◌≡◌, length};
 ghost use Rattle.puts.specs.Puts.{Wrote};
 ghost use Rattle.puts.specs.Lines.{Part};

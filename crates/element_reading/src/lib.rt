@@ -1,4 +1,6 @@
 // Reads a text's elements into a table that the caller lends, line by line, in one pass. Any bytes and any table may be given.
+#![tactic(auto)]
+
 ghost use Rattle.std.specs.Prelude.{◌≡◌, false, ◌+◌, ◌≤◌, length};
 ghost use Rattle.places.specs.Sizes.{most_bytes};
 ghost use Rattle.classes.specs.Runs.{count_while};
@@ -11,7 +13,7 @@ use elements::Front;
 use places::{BytePlace, ElementNumber, MOST_BYTES, MOST_ELEMENTS};
 use refusals::Refusal;
 
-#[derive(Drop)]
+#[derive(Clone, Copy)]
 pub enum Reading {
     Read(ElementNumber),
     Refused(Refusal),

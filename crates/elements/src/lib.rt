@@ -1,4 +1,6 @@
 // What stands at the front of a line's rest: a stretch that is no element, or an element of a kind and a length.
+#![tactic(auto)]
+
 ghost use Rattle.std.specs.Prelude.{◌≡◌, ◌||◌, ◌<◌, eqb, length};
 ghost use Rattle.classes.specs.Bytes.{underscore};
 ghost use Rattle.classes.specs.Signs.{quote};
@@ -11,7 +13,7 @@ use numbers::Number;
 use quoted::Closed;
 use words::Place;
 
-#[derive(Drop)]
+#[derive(Clone, Copy)]
 pub enum Literal {
     Integer,
     Real,
@@ -19,7 +21,7 @@ pub enum Literal {
     String,
 }
 
-#[derive(Drop)]
+#[derive(Clone, Copy)]
 pub enum Kind {
     Identifier,
     Extended,
@@ -30,14 +32,14 @@ pub enum Kind {
 }
 
 // So many bytes that are no element, or an element of so many bytes.
-#[derive(Drop)]
+#[derive(Clone, Copy)]
 pub enum Front {
     Skip(usize),
     Element(Kind, usize),
 }
 
 // What a first byte opens.
-#[derive(Drop)]
+#[derive(Clone, Copy)]
 pub enum Opens {
     Separator,
     Letter,

@@ -1,5 +1,7 @@
 // Expressions folded over their rows, from the last to the first, so that each row finds its operands folded. Every public function takes
 // any tables.
+#![tactic(auto)]
+
 ghost use Rattle.std.specs.Prelude.{◌≡◌, ℕ, ◌+◌, ◌-◌, ◌*◌, ◌/◌, ◌≤◌, ◌<◌, length};
 ghost use Rattle.values.specs.ValueWords.{truth_word};
 ghost use Rattle.forms.specs.RowWords.{row_numbers, row_at, tree_rows_in};

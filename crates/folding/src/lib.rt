@@ -1,4 +1,6 @@
 // Folding: what an operator makes of folded operands, and which state stops an expression. Every function takes any operands.
+#![tactic(auto)]
+
 ghost use Rattle.std.specs.Prelude.{◌≡◌, min};
 ghost use Rattle.folding.specs.Operators.{relation_of, truth_place, logic_of, decides};
 ghost use Rattle.folding.specs.code.Folding.{on_wholes, on_truths, after_whole, after_truth, short_circuit, beside_truth, binary_of, signed_whole, not_of, unary_of};
@@ -6,7 +8,7 @@ ghost use Rattle.folding.specs.code.Outcomes.{number_sort, boolean_sort, wrong_s
 
 use integers::{Arithmetic, Folded, Kind};
 
-#[derive(Drop)]
+#[derive(Clone, Copy)]
 pub enum Relation {
     Equal,
     Unequal,
@@ -16,7 +18,7 @@ pub enum Relation {
     GreaterEqual,
 }
 
-#[derive(Drop)]
+#[derive(Clone, Copy)]
 pub enum Logic {
     And,
     Or,
@@ -27,7 +29,7 @@ pub enum Logic {
 }
 
 // The binary operators; `&` joins and folds to nothing.
-#[derive(Drop)]
+#[derive(Clone, Copy)]
 pub enum Operator {
     Arithmetic(Arithmetic),
     Relation(Relation),
@@ -35,7 +37,7 @@ pub enum Operator {
     Join,
 }
 
-#[derive(Drop)]
+#[derive(Clone, Copy)]
 pub enum Sign {
     Plus,
     Minus,
@@ -44,14 +46,14 @@ pub enum Sign {
 }
 
 // What every element of an expression says of it: the kind of its value, or the smallest of the states 3 to 6 in it.
-#[derive(Drop)]
+#[derive(Clone, Copy)]
 pub enum Sort {
     Of(Kind),
     Wrong(u8),
 }
 
 // An expression's outcome: its sort, and its value or the first of the states 7 to 9 met.
-#[derive(Drop)]
+#[derive(Clone, Copy)]
 pub struct Outcome {
     pub sort: Sort,
     pub folded: Folded,

@@ -1,5 +1,7 @@
 // The numbers of 01's table of forms ("Forms of the strict reading") that the code goes by, each under its name, and the places of a row's
 // numbers: form, first element, element count, rows in its subtree, operator element. There is no code here.
+#![tactic(auto)]
+
 pub const WHILE_LOOP: u64 = 19;
 
 pub const BARE_LOOP: u64 = 20;

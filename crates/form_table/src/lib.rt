@@ -2,6 +2,8 @@
 // kind, the number of the rule that is taken and one more, 0 where there is none; how many symbols each rule has; and the rules' symbols as the
 // stack has them. The byte string and the counts are written by tools/tables.py; the function says that it is that of the definitions. The table
 // is handed out whole, so that a reading asks for it once and lends it: a byte string is copied wherever it stands.
+#![tactic(auto)]
+
 ghost use Rattle.std.specs.Prelude.{◌≡◌};
 ghost use Rattle.form_table.specs.code.FormBytes.{form_bytes};
 

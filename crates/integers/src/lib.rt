@@ -1,4 +1,6 @@
 // Arithmetic on the integers of 01, which are at most 2147483647 in size. Every public function takes any two numbers of 32 bits.
+#![tactic(auto)]
+
 ghost use Rattle.std.specs.Prelude.{◌≡◌, ◌≤◌, pos, nat_abs, neg_ℤ, ◌+ℤ◌, ◌-ℤ◌, ◌*ℤ◌};
 ghost use Rattle.std.proofs.Math.IntN.{pow};
 ghost use Rattle.std.specs.Int.Signed.{quot_z, rem_z};
@@ -9,7 +11,7 @@ ghost use Rattle.integers.specs.FoldedNumbers.{beyond};
 pub const LARGEST: i64 = 2147483647;
 
 // What a value is.
-#[derive(Drop)]
+#[derive(Clone, Copy)]
 pub enum Kind {
     Integer,
     Truth,
@@ -23,14 +25,14 @@ pub const KIND_TRUTH: u64 = 2;
 const SMALLEST: i64 = -LARGEST;
 
 // "an integer, a truth, or the state that stopped it"
-#[derive(Drop)]
+#[derive(Clone, Copy)]
 pub enum Folded {
     Whole(i32),
     Truth(bool),
     Stopped(u8),
 }
 
-#[derive(Drop)]
+#[derive(Clone, Copy)]
 pub enum Arithmetic {
     Add,
     Subtract,

@@ -1,5 +1,7 @@
 // The words that the line of an item has in every listing, put into a lent buffer: what it is, its name, its value. Every function takes any
 // bytes, numbers and buffer, and puts what specs/LineWords.antt defines.
+#![tactic(auto)]
+
 ghost use Rattle.puts.specs.Puts.{Wrote};
 ghost use Rattle.item_words.specs.LineWords.{stretch_of, claim_text, folded_text, upper_of, value_text};
 

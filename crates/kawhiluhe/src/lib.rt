@@ -1,6 +1,8 @@
 // What C and Rust programs link: the readers on bytes and lent tables, each answer as numbers, by 01's own where it has them and 0 for what
 // is absent; and what the programs print of an answer, line by line. Every function takes any bytes and any tables. include/kawhiluhe.h
 // describes the tables' rows.
+#![tactic(auto)]
+
 ghost use Rattle.std.specs.Prelude.{◌≡◌, ◌/◌, length};
 ghost use Rattle.element_reading.specs.Reading.{reading_of, table_of};
 ghost use Rattle.lookup.specs.Lookup.{found_of};
@@ -45,7 +47,7 @@ const UNSTORED_WORDS: usize = 5;
 
 // The element reader's answer.
 #[repr(C)]
-#[derive(Drop)]
+#[derive(Clone, Copy)]
 pub struct Elements {
     pub refusal: u64,
     pub place: u64,
@@ -54,7 +56,7 @@ pub struct Elements {
 
 // The strict reading's: how many rows the tree has, 1 where the file passes, and where it doesn't the first row that is not supported.
 #[repr(C)]
-#[derive(Drop)]
+#[derive(Clone, Copy)]
 pub struct Judged {
     pub refusal: u64,
     pub place: u64,
@@ -66,7 +68,7 @@ pub struct Judged {
 // The survey's: how many pieces there are, 1 where the frame is good and where the survey is whole, 1 where two own items share a name and
 // the first such pair of pieces, and how many items are in each state.
 #[repr(C)]
-#[derive(Drop)]
+#[derive(Clone, Copy)]
 pub struct Surveyed {
     pub refusal: u64,
     pub place: u64,
@@ -81,7 +83,7 @@ pub struct Surveyed {
 
 // Storing's: how many bytes were written.
 #[repr(C)]
-#[derive(Drop)]
+#[derive(Clone, Copy)]
 pub struct Kept {
     pub refusal: u64,
     pub place: u64,
@@ -90,7 +92,7 @@ pub struct Kept {
 
 // A stored table's that was read: how many items it has, and where its package's name stands and how long that is.
 #[repr(C)]
-#[derive(Drop)]
+#[derive(Clone, Copy)]
 pub struct Unstored {
     pub refusal: u64,
     pub place: u64,

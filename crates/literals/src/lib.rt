@@ -1,4 +1,6 @@
 // The value of an integer literal, in time linear in its bytes. Every public function takes any bytes.
+#![tactic(auto)]
+
 ghost use Rattle.std.specs.Prelude.{◌≡◌, ◌+◌, ◌*◌, ◌^◌, ◌≤◌, ◌<◌, min, pos, drop};
 ghost use Rattle.classes.specs.Bytes.{least_base, greatest_base};
 ghost use Rattle.numbers.specs.Digits.{digit_in, value_spelled, leading};

@@ -1,4 +1,6 @@
 // Lookup by name over the text, the element table and the item rows, all of any content; and the same over a lent slice of item structs.
+#![tactic(auto)]
+
 ghost use Rattle.std.specs.Prelude.{◌≡◌, ◌<◌, length, get_or};
 ghost use Rattle.lookup.specs.Lookup.{is_named, claims_name};
 ghost use Rattle.lookup.specs.Finds.{Finds};
@@ -9,7 +11,7 @@ use places::ElementNumber;
 
 // One record of the item table.
 #[repr(C)]
-#[derive(Drop)]
+#[derive(Clone, Copy)]
 pub struct Item {
     pub class: u64,
     pub first: u64,
@@ -21,7 +23,7 @@ pub struct Item {
     pub high: u64,
 }
 
-#[derive(Drop)]
+#[derive(Clone, Copy)]
 pub enum Found {
     At(usize),
     Nothing,

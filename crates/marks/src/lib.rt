@@ -1,4 +1,6 @@
 // What an item comes to, by its mark and its folded values. Every public function takes any values.
+#![tactic(auto)]
+
 ghost use Rattle.std.specs.Prelude.{◌≡◌};
 ghost use Rattle.marks.specs.code.Marks.{operand_of, mark_sort, without_of, held_by, beside_mark, constant_of, subtype_of, first_bound, inside_of, range_under, ranged_of};
 

@@ -33,7 +33,7 @@ pub data ItemForm : Type 0 where
 
 -- The rows, in a piece, begin with those of an expression: a left operand stands after its operator's row, a right one after the left one's subtree.
 pub data Is (p : Piece) : List Row → Expression → Type 0 where
-  is_name_lem : {r : Row} {rs : List Row} → r.form ≡ form.name → Is p (r ∷ rs) (name (at p r.first))
+  is_name : {r : Row} {rs : List Row} → r.form ≡ form.name → Is p (r ∷ rs) (name (at p r.first))
   is_called : {r : Row} {rs : List Row} → r.form ≡ form.called → Is p (r ∷ rs) unfolded
   is_attribute : {r : Row} {rs : List Row} → r.form ≡ form.attribute → Is p (r ∷ rs) unfolded
   is_literal : {r : Row} {rs : List Row} → r.form ≡ form.literal → Is p (r ∷ rs) (literal (at p r.first))

@@ -1,1 +1,2 @@
 // What the survey of a package means, piece by piece: definitions and proofs alone, no code.
+#![tactic(auto)]

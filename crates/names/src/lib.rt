@@ -1,5 +1,7 @@
 // Names resolved: each name used, to the first record that claims it. Names are hashed and chained once, so that a search compares few.
 // Every public function takes any text and tables.
+#![tactic(auto)]
+
 ghost use Rattle.std.specs.Prelude.{◌≡◌, true, cond, ℕ, ◌+◌, ◌≤◌, ◌<◌, length, get_or, replicate};
 ghost use Rattle.places.specs.Sizes.{most_pieces};
 ghost use Rattle.same_names.specs.Alike.{spelled_as};

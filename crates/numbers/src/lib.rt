@@ -1,4 +1,6 @@
 // How far an integer or real literal goes. Every function looks at the front of a line's rest, of any bytes.
+#![tactic(auto)]
+
 ghost use Rattle.std.specs.Prelude.{◌≡◌, true, false, ◌+◌, ◌<◌, min, length, drop};
 ghost use Rattle.classes.specs.Bytes.{ten};
 ghost use Rattle.numbers.specs.Numbers.{above_bases, digits, exponent, below_base, based, pointed, number};
@@ -15,14 +17,14 @@ const ABOVE_BASES: u8 = GREATEST_BASE + 1;
 pub const SIGNED_HEAD: usize = 2;
 
 // A number's size in bytes, or none: no digit in front, or a `#` or a point with nothing fitting after it.
-#[derive(Drop)]
+#[derive(Clone, Copy)]
 pub enum Number {
     Integer(usize),
     Real(usize),
     Neither,
 }
 
-#[derive(Drop)]
+#[derive(Clone, Copy)]
 pub enum Size {
     Of(usize),
     Nothing,

@@ -1,1 +1,2 @@
 // The forms' table determines the tree: definitions and proofs alone, no code.
+#![tactic(auto)]

@@ -1,4 +1,6 @@
 // The operators and literals of an expression, by the elements that spell them. Every function takes any number and any tables.
+#![tactic(auto)]
+
 ghost use Rattle.std.specs.Prelude.{◌≡◌};
 ghost use Rattle.operands.specs.code.Leaves.{whole_leaf, truth_leaf, wrong_leaf, literal_leaf};
 ghost use Rattle.operands.specs.SpelledOperators.{operator_of, sign_of};

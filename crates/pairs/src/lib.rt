@@ -1,8 +1,10 @@
 // The first pair of own items that share a name, from a number for each name. Every public function takes any table.
+#![tactic(auto)]
+
 ghost use Rattle.std.specs.Prelude.{◌≡◌};
 ghost use Rattle.pairs.specs.code.Pairs.{pair_of};
 
-#[derive(Drop)]
+#[derive(Clone, Copy)]
 pub enum Pair {
     Both(usize, usize),
     Neither,

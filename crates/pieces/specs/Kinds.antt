@@ -16,8 +16,8 @@ word_constant = 53
 abbrev pub word_downto : ℕ
 word_downto = 58
 
-abbrev pub word_end_lem : ℕ
-word_end_lem = 61
+abbrev pub word_end : ℕ
+word_end = 61
 
 abbrev pub word_is : ℕ
 word_is = 78
@@ -42,7 +42,7 @@ closes_piece k = eqb k semicolon
 
 -- "before each of the words constant, subtype, end"
 abbrev pub opens_piece : ℕ → Bool
-opens_piece k = eqb k word_constant || eqb k word_subtype || eqb k word_end_lem
+opens_piece k = eqb k word_constant || eqb k word_subtype || eqb k word_end
 
 -- the pieces, each as its kinds
 abbrev pub kind_pieces : List ℕ → List (List ℕ)
@@ -70,7 +70,7 @@ has_name p = is_name (get_or p (behind_word p) 0)
 
 -- the piece begins with `end`, and its last element is a `;` at a place
 unfoldable pub ends_at : List ℕ → ℕ → Bool
-ends_at p at = (eqb (get_or p 0 0) word_end_lem && eqb (get_or p at 0) semicolon) && eqb (length p) (at + 1)
+ends_at p at = (eqb (get_or p 0 0) word_end && eqb (get_or p at 0) semicolon) && eqb (length p) (at + 1)
 
 unfoldable pub is_closing : List ℕ → Bool
 is_closing p = ends_at p (cond (has_name p) (behind_word p + 1) (behind_word p))

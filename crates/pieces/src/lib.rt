@@ -1,4 +1,6 @@
 // The pieces of an element table: where each begins and ends, its class and its name. Every public function takes any table.
+#![tactic(auto)]
+
 ghost use Rattle.std.specs.Prelude.{◌≡◌, ◌+◌, ◌*◌, ◌/◌, ◌≤◌, ◌<◌, min, length, get_or, drop};
 ghost use Rattle.std.proofs.lemmas.List.Edits.{sets};
 ghost use Rattle.pieces.specs.Cutting.{piece_size};
@@ -64,7 +66,7 @@ const HEADING_END: usize = HEADING_SIZE - 1;
 const BEHIND_BOTH: usize = 2;
 
 // How many pieces were marked; or refusal 9; or refusal 10 with the rows that the table has.
-#[derive(Drop)]
+#[derive(Clone, Copy)]
 pub enum Recording {
     Recorded(usize),
     TooMany,
@@ -184,7 +186,7 @@ fn behind_word(elements: &[u64], n: usize, first: ElementNumber, count: usize) -
 }
 
 // What a piece is: its class, and its name's place in it, 0 where there is none.
-#[derive(Drop)]
+#[derive(Clone, Copy)]
 pub struct PieceClass {
     pub class: u64,
     pub place: usize,
@@ -324,7 +326,7 @@ pub fn record_pieces(elements: &[u64], count: usize, items: &mut [u64]) -> Recor
 
 // Whether the first piece is a heading, the last a closing and no other is either; and then the elements of their names, 0 where a closing has
 // none.
-#[derive(Drop)]
+#[derive(Clone, Copy)]
 pub struct Frame {
     pub good: bool,
     pub heading: ElementNumber,

@@ -1,5 +1,7 @@
 // Byte places and element numbers, and the rows of the element table: what they hold of an element, and how they are put. No other crate
 // knows what the words of a row are. Any table and any number may be given.
+#![tactic(auto)]
+
 ghost use Rattle.std.specs.Prelude.{◌≡◌, ◌<◌};
 ghost use Rattle.places.specs.Places.{row_words, kind_column, first_column, size_column, rows_in, rows_from, cell_at, put_row, within};
 
@@ -41,11 +43,11 @@ const FIRST: usize = 1;
 const SIZE: usize = 2;
 
 // A place in the text, counted in bytes.
-#[derive(Drop)]
+#[derive(Clone, Copy)]
 pub struct BytePlace(pub usize);
 
 // A number of an element, or a count of elements.
-#[derive(Drop)]
+#[derive(Clone, Copy)]
 pub struct ElementNumber(pub usize);
 
 // How many rows a table has.

@@ -1,5 +1,7 @@
 // Bytes put one after the other into a lent buffer. Every function takes any buffer and any place: what has no room is dropped, and the
 // answer is the place after the last byte, or the buffer's length where it is full. So an answer below the length says that all was put.
+#![tactic(auto)]
+
 ghost use Rattle.std.specs.Prelude.{◌≡◌, [], ◌∷◌, ◌++◌, ◌-◌, ◌≤◌, ◌<◌, length, take, drop, replicate};
 ghost use Rattle.puts.specs.Puts.{Wrote};
 ghost use Rattle.puts.specs.Decimals.{decimal_of, signed_text, field_of, fields_of};
@@ -112,7 +114,7 @@ pub fn words_from(words: &[u64], from: usize, n: usize) -> &[u64]
 
 // A part of a listing in a buffer: the line to go on with, how many bytes of the buffer are used, and how many lines are left.
 #[repr(C)]
-#[derive(Drop)]
+#[derive(Clone, Copy)]
 pub struct Filled {
     pub next: usize,
     pub used: usize,

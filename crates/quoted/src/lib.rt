@@ -1,4 +1,6 @@
 // Where a string or an extended identifier closes: the quote that opened it, doubled quotes aside.
+#![tactic(auto)]
+
 ghost use Rattle.std.specs.Prelude.{◌≡◌};
 ghost use Rattle.quoted.specs.Quoted.{closed};
 ghost use Rattle.quoted.specs.code.Next.{next_at};
@@ -7,7 +9,7 @@ ghost use Rattle.quoted.specs.code.Next.{next_at};
 const TWO_QUOTES: usize = 2;
 
 // What stands next between two quotes.
-#[derive(Drop)]
+#[derive(Clone, Copy)]
 pub enum Next {
     Doubled,
     Closes,
@@ -16,7 +18,7 @@ pub enum Next {
 }
 
 // After how many bytes the quote closes, itself among them.
-#[derive(Drop)]
+#[derive(Clone, Copy)]
 pub enum Closed {
     After(usize),
     Never,

@@ -1,5 +1,7 @@
 // The lines of a survey's records, its tally and its pair, put into a lent buffer. Every function takes any table, numbers and buffer, and
 // puts what specs/Lines.antt defines.
+#![tactic(auto)]
+
 ghost use Rattle.std.specs.Prelude.{◌≡◌, ◌<◌, ◌/◌, length};
 ghost use Rattle.pieces.specs.Records.{record_words};
 ghost use Rattle.puts.specs.Puts.{Wrote};

@@ -1,5 +1,7 @@
 // What the item records say together: the tally, and whether the survey is whole; and whether the frame is good, which the pieces say. Every
 // public function takes any tables.
+#![tactic(auto)]
+
 ghost use Rattle.std.specs.Prelude.{◌≡◌};
 ghost use Rattle.records.specs.Records.{word_at, is_item, is_claim, item_state};
 ghost use Rattle.records.specs.Tallies.{tally_of};
@@ -10,7 +12,7 @@ use places::ElementNumber;
 use states::STATES;
 
 // How many items are in each state.
-#[derive(Drop)]
+#[derive(Clone, Copy)]
 pub struct Tally {
     pub counts: [u64; STATES],
 }

@@ -1,11 +1,13 @@
 // 01's refusals, their numbers and their places: of the element reader, of the strict reading and of the survey; and the numbers of 02's.
+#![tactic(auto)]
+
 ghost use Rattle.std.specs.Prelude.{◌≡◌};
 ghost use Rattle.refusals.specs.Refusals.{refusal_number, refusal_place, strict_number, strict_place, survey_number, survey_place};
 
 use places::{BytePlace, ElementNumber, MOST_PIECES};
 
 // The element reader's: 1, 3, and 4 with the rows that the table has.
-#[derive(Drop)]
+#[derive(Clone, Copy)]
 pub enum Refusal {
     TextTooLong(BytePlace),
     TooManyElements(ElementNumber),
@@ -13,7 +15,7 @@ pub enum Refusal {
 }
 
 // The strict reading's: the element reader's, 2, 5, 6 and 7 with their element, and 8 with the rows that the tree table has.
-#[derive(Drop)]
+#[derive(Clone, Copy)]
 pub enum StrictRefusal {
     Elements(Refusal),
     Unreadable(ElementNumber),
@@ -24,7 +26,7 @@ pub enum StrictRefusal {
 }
 
 // The survey's: the element reader's, 9, and 10 with the records that the item table has.
-#[derive(Drop)]
+#[derive(Clone, Copy)]
 pub enum SurveyRefusal {
     Elements(Refusal),
     TooMany,

@@ -1,4 +1,6 @@
 // The line of a refusal, which is all that is printed of a text that is refused. Every function takes any numbers and any buffer.
+#![tactic(auto)]
+
 ghost use Rattle.std.specs.Prelude.{◌≡◌};
 ghost use Rattle.puts.specs.Puts.{Wrote};
 ghost use Rattle.refused_line.specs.Refused.{place_text, refused_of, lines_by};

@@ -1,4 +1,6 @@
 // Names compared: case aside, unless extended.
+#![tactic(auto)]
+
 ghost use Rattle.std.specs.Prelude.{◌≡◌, ◌+◌, ◌-◌, ◌≤◌, ◌<◌, length};
 ghost use Rattle.same_names.specs.Alike.{agree, spelled_same, same_name, spelled_as};
 ghost use Rattle.same_names.specs.Spelling.{spelt, counts};

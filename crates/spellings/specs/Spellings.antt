@@ -41,7 +41,7 @@ element_kinds = ("'", kind_number (Kind.Delimiter tick_number)) ∷ (")", kind_n
 -- what pieces takes spellings for
 abbrev pub piece_kinds : List (String × ℕ)
 piece_kinds =
-    (";", piece.semicolon) ∷ ("constant", piece.word_constant) ∷ ("downto", piece.word_downto) ∷ ("end", piece.word_end_lem) ∷
+    (";", piece.semicolon) ∷ ("constant", piece.word_constant) ∷ ("downto", piece.word_downto) ∷ ("end", piece.word_end) ∷
     ("is", piece.word_is) ∷ ("package", piece.word_package) ∷ ("subtype", piece.word_subtype) ∷ []
 
 -- the operators and the signs
@@ -61,7 +61,7 @@ abbrev pub spelled_symbols : List (String × Sym)
 spelled_symbols =
     ("abs", form.word_abs) ∷ ("alias", form.word_alias) ∷ ("and", form.word_and) ∷ ("architecture", form.word_architecture) ∷
     ("begin", form.word_begin) ∷ ("block", form.word_block) ∷ ("constant", form.word_constant) ∷ ("downto", form.word_downto) ∷
-    ("else", form.word_else) ∷ ("elsif", form.word_elsif) ∷ ("end", form.word_end_lem) ∷ ("entity", form.word_entity) ∷
+    ("else", form.word_else) ∷ ("elsif", form.word_elsif) ∷ ("end", form.word_end) ∷ ("entity", form.word_entity) ∷
     ("exit", form.word_exit) ∷ ("for", form.word_for) ∷ ("if", form.word_if) ∷ ("in", form.word_in) ∷ ("inout", form.word_inout) ∷
     ("is", form.word_is) ∷ ("loop", form.word_loop) ∷ ("mod", form.word_mod) ∷ ("nand", form.word_nand) ∷ ("next", form.word_next) ∷
     ("nor", form.word_nor) ∷ ("not", form.word_not) ∷ ("null", form.word_null) ∷ ("of", form.word_of) ∷ ("or", form.word_or) ∷

@@ -1,4 +1,6 @@
 // The states of 01's table ("Pieces, items, states"), each under its word there; 0 is that of an item with its value. There is no code here.
+#![tactic(auto)]
+
 pub const BROKEN: u8 = 1;
 
 pub const DOUBLED: u8 = 2;

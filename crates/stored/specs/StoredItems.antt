@@ -1,7 +1,7 @@
 -- A stored item, and the field that holds it: "tag 2 an integer constant (four bytes, two's complement, high byte first, then the name), tag 3 a
 -- truth constant (one byte 0 or 1, then the name), tag 4 a subtype (kind byte 0 integer or 1 boolean, low and high as in tag 2, then the name; the
 -- ends of boolean are 0 and 1)". Assumes nothing.
-use Rattle.std.specs.Prelude.{ℕ, ◌+◌, ◌/◌, ◌%◌, Bool, true, false, List, [], ◌∷◌, ◌++◌, ℤ, pos}
+use Rattle.std.specs.Prelude.{ℕ, ◌/◌, ◌%◌, Bool, true, false, List, [], ◌∷◌, ◌++◌, ℤ, pos}
 use Rattle.std.proofs.Common.{of_z}
 use Rattle.std.specs.Int.{w32}
 use Rattle.stored.specs.Fields.{Field, all_bytes}

@@ -1,4 +1,6 @@
 // A table of items kept as bytes: what an item's field holds, and which names are legal. Every public function takes any bytes.
+#![tactic(auto)]
+
 ghost use Rattle.std.specs.Prelude.{◌≡◌, ◌+◌, ◌≤◌, ◌<◌, length, drop};
 ghost use Rattle.std.proofs.Common.{to_z};
 ghost use Rattle.std.specs.Int.{w32};
@@ -12,7 +14,7 @@ ghost use Rattle.stored.specs.code.Decode.{word_in, held_number, held_truth, hel
 use elements::{Front, Kind};
 
 // What a stored item is: a number, a truth, a subtype of integer with its ends, a subtype of boolean.
-#[derive(Drop)]
+#[derive(Clone, Copy)]
 pub enum StoredValue {
     Number(i32),
     Truth(bool),
@@ -21,7 +23,7 @@ pub enum StoredValue {
 }
 
 // What a field holds: nothing legal, or a value.
-#[derive(Drop)]
+#[derive(Clone, Copy)]
 pub enum Held {
     Nothing,
     Holds(StoredValue),

@@ -20,7 +20,7 @@ pub record Back (s : List ℕ) (words : ℕ) (first : BytePlace) (size count : �
   pub items : List StoredItem
   pub stored : Stored form_one s name items
   pub room : length items ≤ stored_rows_in words
-  pub first_is_lem : first.0 ≡ head_size
+  pub first_is : first.0 ≡ head_size
   pub size_is : size ≡ length name
   pub count_is : count ≡ length items
   pub rows_are : rows ≡ stored_rows_from (head_size + length name) items ++ replicate (words - stored_row_words * length items) 0

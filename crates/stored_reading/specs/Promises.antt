@@ -6,7 +6,7 @@ use Rattle.stored_reading.specs.StoredRows.{head_size, size_of}
 use Rattle.stored_reading.specs.Permitted.{stored_rows_in, Permitted}
 use Rattle.stored_reading.specs.declared.StoredRefusal.TheVariants.{NotStored, ItemsShort}
 use Rattle.stored_reading.specs.declared.StoredReading.{StoredReading}
-use Rattle.stored_reading.specs.declared.StoredReading.TheVariants.{Read, Refused}
+use Rattle.stored_reading.specs.declared.StoredReading.TheVariants.{Refused}
 
 -- Any two answers that the contract of `read_stored` permits coincide, and so do the rows.
 abbrev pub NoChoice : Type 0

@@ -1,4 +1,6 @@
 // Reads a stored table back into rows of words. Any bytes and any table may be given.
+#![tactic(auto)]
+
 ghost use Rattle.std.specs.Prelude.{◌≡◌, true, [], ◌∷◌, ◌+◌, ◌*◌, ◌≤◌, ◌<◌, length, drop};
 ghost use Rattle.std.proofs.lemmas.List.Edits.{sets};
 ghost use Rattle.stored.specs.Fields.{all_bytes};
@@ -16,21 +18,21 @@ use stored::{Held, MOST_ITEMS, StoredValue};
 use values::Value;
 
 // 24, and 10 with the rows that the table has.
-#[derive(Drop)]
+#[derive(Clone, Copy)]
 pub enum StoredRefusal {
     NotStored,
     ItemsShort(usize),
 }
 
 // The package name's place and length, and how many items; or a refusal.
-#[derive(Drop)]
+#[derive(Clone, Copy)]
 pub enum StoredReading {
     Read(BytePlace, usize, usize),
     Refused(StoredRefusal),
 }
 
 // What stands at the front of bytes: no field and no end, the end, a field with its tag and length.
-#[derive(Drop)]
+#[derive(Clone, Copy)]
 pub enum FieldStep {
     Bad,
     End,
@@ -38,24 +40,24 @@ pub enum FieldStep {
 }
 
 // The same where a field is to be a legal item: its value, and its field's length.
-#[derive(Drop)]
+#[derive(Clone, Copy)]
 pub enum ItemTurn {
     Wrong,
     Ends,
     Gives(StoredValue, usize),
 }
 
-#[derive(Drop)]
+#[derive(Clone, Copy)]
 pub enum ItemCount {
     Broken,
     Items(usize),
 }
 
 // Where the items begin, and how many; or no stored table.
-#[derive(Drop)]
+#[derive(Clone, Copy)]
 pub enum Examined {
     Nowhere,
-    Holding(BytePlace, usize),
+    Holding(usize, usize),
 }
 
 // How many words a row has, and the places of its words.
@@ -145,10 +147,10 @@ fn turn_of(s: &[u8]) -> ItemTurn
     }
 }
 
-fn count_from(s: &[u8], from: BytePlace) -> ItemCount
-    ensures { result ≡ count_with 0 (items_at form_one (drop from.0 s.now)) }
+fn count_from(s: &[u8], from: usize) -> ItemCount
+    ensures { result ≡ count_with 0 (items_at form_one (drop from s.now)) }
 {
-    let mut at = from.0;
+    let mut at = from;
     let mut n: usize = 0;
     while at < s.len() {
         match turn_of(stored::rest(s, at)) {
@@ -169,18 +171,13 @@ fn count_from(s: &[u8], from: BytePlace) -> ItemCount
 
 // ---- names all different
 
-fn note_names(
-    s: &[u8],
-    from: BytePlace,
-    firsts: &mut [u64; MOST_ITEMS],
-    sizes: &mut [u64; MOST_ITEMS],
-)
-    requires s_value { there (items_at form_one (drop from.0 s.now)) ≡ true }
-    requires s_bound { items_counted (items_at form_one (drop from.0 s.now)) ≤ most_items }
-    ensures firsts_after { firsts.new ≡ sets firsts.old 0 (firsts_at from.0 (items_at form_one (drop from.0 s.now))) }
-    ensures sizes_after { sizes.new ≡ sets sizes.old 0 (sizes_at (items_at form_one (drop from.0 s.now))) }
+fn note_names(s: &[u8], from: usize, firsts: &mut [u64; MOST_ITEMS], sizes: &mut [u64; MOST_ITEMS])
+    requires s_value { there (items_at form_one (drop from s.now)) ≡ true }
+    requires s_bound { items_counted (items_at form_one (drop from s.now)) ≤ most_items }
+    ensures firsts_after { firsts.new ≡ sets firsts.old 0 (firsts_at from (items_at form_one (drop from s.now))) }
+    ensures sizes_after { sizes.new ≡ sets sizes.old 0 (sizes_at (items_at form_one (drop from s.now))) }
 {
-    let mut at = from.0;
+    let mut at = from;
     let mut w: usize = 0;
     while at < s.len() {
         match turn_of(stored::rest(s, at)) {
@@ -201,10 +198,10 @@ fn note_names(
     }
 }
 
-fn names_differ(s: &[u8], from: BytePlace, n: usize) -> bool
-    requires s_value { there (items_at form_one (drop from.0 s.now)) ≡ true }
-    requires n_value { (n ≡ items_counted (items_at form_one (drop from.0 s.now))) × (n ≤ most_items) }
-    ensures { result ≡ distinct_items (items_at form_one (drop from.0 s.now)) }
+fn names_differ(s: &[u8], from: usize, n: usize) -> bool
+    requires s_value { there (items_at form_one (drop from s.now)) ≡ true }
+    requires n_value { (n ≡ items_counted (items_at form_one (drop from s.now))) × (n ≤ most_items) }
+    ensures { result ≡ distinct_items (items_at form_one (drop from s.now)) }
 {
     let mut firsts = [0u64; MOST_ITEMS];
     let mut sizes = [0u64; MOST_ITEMS];
@@ -249,24 +246,24 @@ fn put_row(t: &mut [u64], w: usize, a: u64, b: u64, c: u64, d: u64, e: u64, f: u
     t[w + HIGH] = f;
 }
 
-fn put_item(t: &mut [u64], w: usize, v: StoredValue, place: BytePlace, size: u64)
+fn put_item(t: &mut [u64], w: usize, v: StoredValue, place: u64, size: u64)
     requires { w + stored_row_words ≤ length t.old }
-    ensures { t.new ≡ sets t.old w (stored_row v place.0 size) }
+    ensures { t.new ≡ sets t.old w (stored_row v place size) }
 {
     let class = class_of(v);
     let value = survey_value(v);
     let kind = values::kind_word(value);
     let low = values::low_word(value);
     let high = values::high_word(value);
-    put_row(t, w, class, place.0 as u64, size, kind, low, high);
+    put_row(t, w, class, place, size, kind, low, high);
 }
 
-fn fill(s: &[u8], from: BytePlace, t: &mut [u64])
-    requires s_value { there (items_at form_one (drop from.0 s.now)) ≡ true }
-    requires s_in_bounds { stored_row_words * items_counted (items_at form_one (drop from.0 s.now)) ≤ length t.old }
-    ensures { t.new ≡ sets t.old 0 (rows_at from.0 (items_at form_one (drop from.0 s.now))) }
+fn fill(s: &[u8], from: usize, t: &mut [u64])
+    requires s_value { there (items_at form_one (drop from s.now)) ≡ true }
+    requires s_in_bounds { stored_row_words * items_counted (items_at form_one (drop from s.now)) ≤ length t.old }
+    ensures { t.new ≡ sets t.old 0 (rows_at from (items_at form_one (drop from s.now))) }
 {
-    let mut at = from.0;
+    let mut at = from;
     let mut w: usize = 0;
     while at < s.len() {
         match turn_of(stored::rest(s, at)) {
@@ -278,8 +275,7 @@ fn fill(s: &[u8], from: BytePlace, t: &mut [u64])
             },
             ItemTurn::Gives(v, k) => {
                 let h = stored::value_size(v);
-                let first = at + (HEAD_SIZE + h);
-                put_item(t, w, v, BytePlace(first), (k - h) as u64);
+                put_item(t, w, v, (at + (HEAD_SIZE + h)) as u64, (k - h) as u64);
                 w += ROW_WORDS;
                 at += HEAD_SIZE + k;
             },
@@ -301,8 +297,7 @@ fn examine(s: &[u8]) -> Examined
             }
             let name = lent_tables::front(stored::rest(s, HEAD_SIZE), n);
             if stored::legal_name(name) {
-                let first = HEAD_SIZE + n;
-                let from = BytePlace(first);
+                let from = HEAD_SIZE + n;
                 match count_from(s, from) {
                     ItemCount::Broken => Examined::Nowhere,
                     ItemCount::Items(c) => {
@@ -335,7 +330,7 @@ pub fn read_stored(s: &[u8], items: &mut [u64]) -> StoredReading
                 return StoredReading::Refused(StoredRefusal::ItemsShort(rows));
             }
             fill(s, from, items);
-            StoredReading::Read(BytePlace(HEAD_SIZE), from.0 - HEAD_SIZE, c)
+            StoredReading::Read(BytePlace(HEAD_SIZE), from - HEAD_SIZE, c)
         },
     }
 }

@@ -1,5 +1,7 @@
 // The fields of a stored table, put one after the other into a lent output as `puts` puts bytes: what has no room is dropped, so that a caller
 // asks for the sizes first. Every public function takes any bytes.
+#![tactic(auto)]
+
 ghost use Rattle.std.specs.Prelude.{◌≡◌, [], ◌∷◌, ◌++◌};
 ghost use Rattle.puts.specs.Puts.{Wrote};
 ghost use Rattle.stored.specs.Fields.{fields_bytes};

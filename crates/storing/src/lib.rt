@@ -1,4 +1,6 @@
 // A whole survey kept as the bytes of a stored table. Any bytes, tables and output may be given.
+#![tactic(auto)]
+
 ghost use Rattle.std.specs.Prelude.{◌≡◌, cond, ◌+◌, ◌≤◌, eqb, length};
 ghost use Rattle.places.specs.Sizes.{most_bytes, most_pieces};
 ghost use Rattle.puts.specs.Puts.{Wrote};
@@ -15,7 +17,7 @@ use survey_reading::Ended;
 use values::Value;
 
 // How a survey is stored: its own refusal; 21, "survey not whole"; 22, "output short", with the room there is; or how many bytes were written.
-#[derive(Drop)]
+#[derive(Clone, Copy)]
 pub enum Storing {
     Refused(SurveyRefusal),
     NotWhole,

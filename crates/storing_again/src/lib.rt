@@ -1,4 +1,6 @@
 // A stored table read, and what was read stored again. Any bytes, table and output may be given.
+#![tactic(auto)]
+
 ghost use Rattle.std.specs.Prelude.{◌≡◌, map, ◌*◌, ◌≤◌, length};
 ghost use Rattle.puts.specs.Puts.{Wrote};
 ghost use Rattle.stored.specs.StoredItems.{item_field};
@@ -12,7 +14,7 @@ use stored::StoredValue;
 use stored_reading::{ROW_WORDS, StoredReading, StoredRefusal};
 
 // What storing again comes to: reading's refusal; 22, "output short", with the room there is; or how many bytes were written.
-#[derive(Drop)]
+#[derive(Clone, Copy)]
 pub enum Again {
     Refused(StoredRefusal),
     OutputShort(usize),

@@ -69,10 +69,10 @@ pub data Given (text : List ℕ) (element_words tree_words : ℕ) : ℕ → ℕ 
   -- "an unreadable element, the first"
   unreadable : {e : ℕ} → Taken text element_words → FirstUnreadable (rows_of text) e → Given text element_words tree_words 2 e
   -- "elements up to here begin no file; or the text ends early"
-  no_file_lem : {e : ℕ} → Readable text element_words → NoFileFirst (same_name_in text) (Elements text) e → Given text element_words tree_words 5 e
+  no_file : {e : ℕ} → Readable text element_words → NoFileFirst (same_name_in text) (Elements text) e → Given text element_words tree_words 5 e
   -- "closing name or label differs, or closes what had none"
-  name_differs_lem : {e : ℕ} → Readable text element_words → NameFirst (same_name_in text) (Elements text) e → Given text element_words tree_words 6 e
+  name_differs : {e : ℕ} → Readable text element_words → NameFirst (same_name_in text) (Elements text) e → Given text element_words tree_words 6 e
   -- "more than 32 open after this element"
-  too_deep_lem : {e : ℕ} → Readable text element_words → DepthFirst (same_name_in text) (Elements text) e → Given text element_words tree_words 7 e
+  too_deep : {e : ℕ} → Readable text element_words → DepthFirst (same_name_in text) (Elements text) e → Given text element_words tree_words 7 e
   -- "tree table short", at the "rows it has"
   tree_short : {l : List forms.Row} → Readable text element_words → File text l → tree_words < row_numbers * length l → Given text element_words tree_words 8 (tree_words / row_numbers)

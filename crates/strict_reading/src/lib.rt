@@ -1,4 +1,6 @@
 // The strict reading of a text: elements, tree and verdict, with two lent tables. Any bytes and any tables may be given.
+#![tactic(auto)]
+
 ghost use Rattle.std.specs.Prelude.{◌≡◌, ◌+◌, ◌*◌, ◌≤◌, length};
 ghost use Rattle.places.specs.Places.{row_words, kinds_of};
 ghost use Rattle.strict_reading.specs.Permitted.{Permitted};
@@ -10,14 +12,14 @@ use refusals::StrictRefusal;
 use tree::Answer;
 use verdict::Verdict;
 
-#[derive(Drop)]
+#[derive(Clone, Copy)]
 pub enum Unread {
     At(usize),
     Nothing,
 }
 
 // How many rows the tree has, and the verdict on them.
-#[derive(Drop)]
+#[derive(Clone, Copy)]
 pub enum Strict {
     Read(usize, Verdict),
     Refused(StrictRefusal),

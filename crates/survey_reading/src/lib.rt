@@ -1,4 +1,6 @@
 // The survey of a package: its items' records, and what they say together. Any bytes and any tables may be given.
+#![tactic(auto)]
+
 ghost use Rattle.std.specs.Prelude.{◌≡◌, length};
 ghost use Rattle.survey_reading.specs.code.Tables.{pair_by, items_survey, items_completed, kept_by_survey, pieces_survey, pieces_items};
 ghost use Rattle.survey_reading.specs.code.Survey.{refused_by, summed_of};
@@ -14,7 +16,7 @@ use refusals::SurveyRefusal;
 use states::STATES;
 
 // What the survey says of a package as a whole, its tally aside.
-#[derive(Drop)]
+#[derive(Clone, Copy)]
 pub struct Summary {
     pub pieces: usize,
     pub frame: bool,
@@ -22,14 +24,14 @@ pub struct Summary {
     pub pair: Pair,
 }
 
-#[derive(Drop)]
+#[derive(Clone, Copy)]
 pub enum Ended {
     Done(Summary),
     Refused(SurveyRefusal),
 }
 
 // The tally stands beside the outcome, since no enum holds an array; it is all zeros on refusal.
-#[derive(Drop)]
+#[derive(Clone, Copy)]
 pub struct Survey {
     pub outcome: Ended,
     pub tally: Tally,

@@ -2,6 +2,8 @@
 // they are kept in the order of completion, in a list to each base, and written out at the end, so that a text costs by its elements. The
 // table and the arrays are made once, in `read_tree` and `read_items`, and lent: made anew at each use, or for each piece of a package,
 // they would cost more than all else.
+#![tactic(auto)]
+
 ghost use Rattle.std.specs.Prelude.{◌≡◌, List, [], ◌∷◌, ◌++◌, ℕ, ◌+◌, ◌-◌, ◌*◌, ◌/◌, ◌≤◌, ◌<◌, min, length, drop, get_or, set, replicate};
 ghost use Rattle.std.proofs.lemmas.List.Edits.{sets};
 ghost use Rattle.places.specs.Sizes.{most_elements};
@@ -88,14 +90,14 @@ const ROW_OF: u64 = 7;
 const MOST_OPEN: usize = 32;
 
 // A tree, how many rows it has; or one of 01's refusals 5, 6, 7 and 8.
-#[derive(Drop)]
+#[derive(Clone, Copy)]
 pub enum Answer {
     Tree(usize),
     Refused(StrictRefusal),
 }
 
 // Where the frames begin, how many stand open, how many rows there are.
-#[derive(Drop)]
+#[derive(Clone, Copy)]
 pub struct Moved {
     pub fp: usize,
     pub depth: usize,
@@ -103,7 +105,7 @@ pub struct Moved {
 }
 
 // What an action did: the machine goes on, or refusal 6 or 7.
-#[derive(Drop)]
+#[derive(Clone, Copy)]
 pub enum Did {
     Went(Moved),
     Stopped(StrictRefusal),

@@ -1,1 +1,2 @@
 // What the strict reading promises: theorems alone, no code.
+#![tactic(auto)]

@@ -1,4 +1,6 @@
 // What a name comes to where it is used, by the records above and the links of names. Every function takes any tables.
+#![tactic(auto)]
+
 ghost use Rattle.std.specs.Prelude.{◌≡◌};
 ghost use Rattle.uses.specs.code.Uses.{record_value, use_in};
 

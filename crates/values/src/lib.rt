@@ -1,12 +1,14 @@
 // What an item comes to, how its record holds it, and what a name comes to by that record or by the language. Every public function takes any
 // values.
+#![tactic(auto)]
+
 ghost use Rattle.std.specs.Prelude.{◌≡◌};
 ghost use Rattle.values.specs.Values.{language_value};
 ghost use Rattle.values.specs.ValueWords.{word_of, truth_word, state_of, value_kind, low_of, high_of};
 ghost use Rattle.values.specs.code.Used.{signed_number, used_constant, used_subtype, used_value};
 
 // What an item comes to: a number, a truth, a subtype's ends, the truths as a type; or the state that it is without one.
-#[derive(Drop)]
+#[derive(Clone, Copy)]
 pub enum Value {
     Number(i32),
     Truth(bool),

@@ -1,10 +1,12 @@
 // The synthesis verdict on a tree: passes, or the first row that is not supported.
+#![tactic(auto)]
+
 ghost use Rattle.std.specs.Prelude.{◌≡◌, ◌+◌, ◌/◌, ◌<◌, ◌*◌};
 ghost use Rattle.verdict.specs.code.Judging.{unsupported, verdict_of};
 
 use form_numbers::{BARE_LOOP, BLOCK_IS, EXIT, GUARD, LABEL, NEXT, NULL, ROW_NUMBERS, WHILE_LOOP};
 
-#[derive(Drop)]
+#[derive(Clone, Copy)]
 pub enum Verdict {
     Passes,
     NotSupported(usize),

@@ -1,5 +1,7 @@
 // Which reserved word or delimiter a stretch of bytes spells. Request 03 (look only at words of the same length and first letter) changes
 // `search` and its proof, and nothing outside this crate.
+#![tactic(auto)]
+
 ghost use Rattle.std.specs.Prelude.{◌≡◌, ◌&&◌, [], ◌∷◌, ◌≤◌, eqb, length};
 ghost use Rattle.words.specs.Words.{begins, place_in, reserved_words, delimiters};
 ghost use Rattle.words.specs.code.Packed.{delimiter_count, searched, byte_from};
@@ -8,7 +10,7 @@ ghost use Rattle.words.specs.code.Packed.{delimiter_count, searched, byte_from};
 const TWO_BYTE_DELIMITERS: usize = 7;
 
 // The number of a word in its list, counted from 0.
-#[derive(Drop)]
+#[derive(Clone, Copy)]
 pub enum Place {
     At(usize),
     Nowhere,

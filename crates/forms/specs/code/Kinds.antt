@@ -51,8 +51,8 @@ word_else = tok 14
 abbrev pub word_elsif : Sym
 word_elsif = tok 15
 
-abbrev pub word_end_lem : Sym
-word_end_lem = tok 16
+abbrev pub word_end : Sym
+word_end = tok 16
 
 abbrev pub word_entity : Sym
 word_entity = tok 17
@@ -217,7 +217,7 @@ symbols_by_kind =
     plus ∷ comma ∷ minus ∷ other ∷ slash ∷ colon ∷ semicolon ∷ less ∷ equal ∷ greater ∷ other ∷ other ∷ other ∷
     word_abs ∷ other ∷ other ∷ word_alias ∷ other ∷ word_and ∷ word_architecture ∷ other ∷ other ∷ other ∷
     other ∷ other ∷ word_begin ∷ word_block ∷ other ∷ other ∷ other ∷ other ∷ other ∷ other ∷
-    word_constant ∷ other ∷ other ∷ other ∷ other ∷ word_downto ∷ word_else ∷ word_elsif ∷ word_end_lem ∷ word_entity ∷
+    word_constant ∷ other ∷ other ∷ other ∷ other ∷ word_downto ∷ word_else ∷ word_elsif ∷ word_end ∷ word_entity ∷
     word_exit ∷ other ∷ other ∷ word_for ∷ other ∷ other ∷ other ∷ other ∷ other ∷ other ∷
     word_if ∷ other ∷ word_in ∷ other ∷ word_inout ∷ word_is ∷ other ∷ other ∷ other ∷ other ∷
     word_loop ∷ other ∷ word_mod ∷ word_nand ∷ other ∷ word_next ∷ word_nor ∷ word_not ∷ word_null ∷ word_of ∷

@@ -23,8 +23,8 @@ pub record State : Type 0 where
 
 -- why an action refuses: a closing name or label differs, or closes what had none (6); more than 32 open (7)
 pub data Refusal : Type 0 where
-  name_differs_lem : Refusal
-  too_deep_lem : Refusal
+  name_differs : Refusal
+  too_deep : Refusal
 
 pub data Action : Type 0 where
   opens : Action
@@ -88,8 +88,8 @@ do_action alike opens k s = go (record { frames = fresh k ∷ s.frames; depth = 
 do_action alike closes k s = go (record { frames = joined s.frames; depth = s.depth })
 do_action alike marks k s = go (record { frames = on_top (marked (k - 1)) s.frames; depth = s.depth })
 do_action alike names k s = go (record { frames = on_top (named k) s.frames; depth = s.depth })
-do_action alike same k s = cond (frame_is_named alike (top s.frames).name (k - 1)) (go s) (stop name_differs_lem)
-do_action alike deeper k s = cond (ltb s.depth most_open) (go (record { frames = s.frames; depth = s.depth + 1 })) (stop too_deep_lem)
+do_action alike same k s = cond (frame_is_named alike (top s.frames).name (k - 1)) (go s) (stop name_differs)
+do_action alike deeper k s = cond (ltb s.depth most_open) (go (record { frames = s.frames; depth = s.depth + 1 })) (stop too_deep)
 do_action alike shallower k s = go (record { frames = s.frames; depth = s.depth - 1 })
 do_action alike (row n) k s = go (record { frames = on_top (rowed n k) s.frames; depth = s.depth })
 

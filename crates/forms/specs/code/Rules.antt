@@ -3,7 +3,7 @@
 -- Assumes nothing: these are definitions.
 use Rattle.std.specs.Prelude.{ℕ, suc, cond, List, [], ◌∷◌, eqb, length, get_or}
 use Rattle.grammars.specs.code.Grammar.{Sym, tok, nt, act, Grammar}
-use Rattle.forms.specs.code.Kinds.{identifier, integer, real, character, string, word_abs, word_alias, word_and, word_architecture, word_begin, word_block, word_constant, word_downto, word_else, word_elsif, word_end_lem, word_entity, word_exit, word_for, word_if, word_in, word_inout, word_is, word_loop, word_mod, word_nand, word_next, word_nor, word_not, word_null, word_of, word_or, word_out, word_package, word_port, word_process, word_range, word_rem, word_signal, word_subtype, word_then, word_to, word_variable, word_when, word_while, word_xnor, word_xor, double_star, becomes, not_equal, at_least, at_most, ampersand, tick, left_paren, right_paren, star, plus, comma, minus, slash, colon, semicolon, less, equal, greater}
+use Rattle.forms.specs.code.Kinds.{identifier, integer, real, character, string, word_abs, word_alias, word_and, word_architecture, word_begin, word_block, word_constant, word_downto, word_else, word_elsif, word_end, word_entity, word_exit, word_for, word_if, word_in, word_inout, word_is, word_loop, word_mod, word_nand, word_next, word_nor, word_not, word_null, word_of, word_or, word_out, word_package, word_port, word_process, word_range, word_rem, word_signal, word_subtype, word_then, word_to, word_variable, word_when, word_while, word_xnor, word_xor, double_star, becomes, not_equal, at_least, at_most, ampersand, tick, left_paren, right_paren, star, plus, comma, minus, slash, colon, semicolon, less, equal, greater}
 use Rattle.forms.specs.code.RuleNames.{file, units, unit, package_unit, package_declarations, package_word, closing, entity_unit, ports, more_ports, entity_word, architecture_unit, declarations, architecture_word, constant, subtype, subtype_range, signal, variable, bounds, port, mode, alias, range, direction, concurrents, concurrent, after_name, labelled_concurrent, block, process, sensitivity, sensitive, more_sensitive, process_is, process_declarations, sequentials, sequential, after_first, assignment, if, branches, labelled, loop, next, exit, null, loop_name, condition, name, name_rest, attribute, target, target_rest, target_tick, expression, logic, and_chain, or_chain, xor_chain, xnor_chain, relation, compared, relational, simple, first_term, sign, added, adding, term, multiplied, multiplying, factor, raised, primary, literal, label, mark, guard, block_is, opens, closes, marks, names, same, deeper, shallower, row}
 
 -- A rule is of a name: what is no name takes no body.
@@ -27,7 +27,7 @@ rules =
     ∷ rule unit (entity_unit ∷ [])
     ∷ rule unit (architecture_unit ∷ [])
     -- 1 package: package N is, declarations 4 and 5, end [package] [N];
-    ∷ rule package_unit (opens ∷ word_package ∷ identifier ∷ names ∷ word_is ∷ package_declarations ∷ word_end_lem ∷ package_word ∷ closing ∷ semicolon ∷ row 1 ∷ closes ∷ [])
+    ∷ rule package_unit (opens ∷ word_package ∷ identifier ∷ names ∷ word_is ∷ package_declarations ∷ word_end ∷ package_word ∷ closing ∷ semicolon ∷ row 1 ∷ closes ∷ [])
     ∷ rule package_declarations (constant ∷ package_declarations ∷ [])
     ∷ rule package_declarations (subtype ∷ package_declarations ∷ [])
     ∷ rule package_declarations []
@@ -37,7 +37,7 @@ rules =
     ∷ rule closing (identifier ∷ same ∷ [])
     ∷ rule closing []
     -- 2 entity: entity N is, [port ( 8 separated by semicolons );], end [entity] [N];
-    ∷ rule entity_unit (opens ∷ word_entity ∷ identifier ∷ names ∷ word_is ∷ ports ∷ word_end_lem ∷ entity_word ∷ closing ∷ semicolon ∷ row 2 ∷ closes ∷ [])
+    ∷ rule entity_unit (opens ∷ word_entity ∷ identifier ∷ names ∷ word_is ∷ ports ∷ word_end ∷ entity_word ∷ closing ∷ semicolon ∷ row 2 ∷ closes ∷ [])
     ∷ rule ports (word_port ∷ left_paren ∷ deeper ∷ port ∷ more_ports ∷ right_paren ∷ shallower ∷ semicolon ∷ [])
     ∷ rule ports []
     ∷ rule more_ports (semicolon ∷ port ∷ more_ports ∷ [])
@@ -45,7 +45,7 @@ rules =
     ∷ rule entity_word (word_entity ∷ [])
     ∷ rule entity_word []
     -- 3 architecture: architecture N of E is, declarations 4, 5, 6, 9, begin, concurrent, end [architecture] [N];
-    ∷ rule architecture_unit (opens ∷ word_architecture ∷ identifier ∷ names ∷ word_of ∷ identifier ∷ word_is ∷ declarations ∷ word_begin ∷ concurrents ∷ word_end_lem ∷ architecture_word ∷ closing ∷ semicolon ∷ row 3 ∷ closes ∷ [])
+    ∷ rule architecture_unit (opens ∷ word_architecture ∷ identifier ∷ names ∷ word_of ∷ identifier ∷ word_is ∷ declarations ∷ word_begin ∷ concurrents ∷ word_end ∷ architecture_word ∷ closing ∷ semicolon ∷ row 3 ∷ closes ∷ [])
     ∷ rule declarations (constant ∷ declarations ∷ [])
     ∷ rule declarations (subtype ∷ declarations ∷ [])
     ∷ rule declarations (signal ∷ declarations ∷ [])
@@ -86,9 +86,9 @@ rules =
     ∷ rule labelled_concurrent (block ∷ [])
     ∷ rule labelled_concurrent (process ∷ [])
     -- 12 block: label : block [guard 32] [is, form 33], declarations as in 3, begin, concurrent, end block [label];
-    ∷ rule block (word_block ∷ deeper ∷ guard ∷ block_is ∷ declarations ∷ word_begin ∷ concurrents ∷ word_end_lem ∷ word_block ∷ shallower ∷ closing ∷ semicolon ∷ row 12 ∷ [])
+    ∷ rule block (word_block ∷ deeper ∷ guard ∷ block_is ∷ declarations ∷ word_begin ∷ concurrents ∷ word_end ∷ word_block ∷ shallower ∷ closing ∷ semicolon ∷ row 12 ∷ [])
     -- 13 process: [label :] process [( names )] [is], declarations 4 and 7, begin, sequential, end process [label];
-    ∷ rule process (word_process ∷ deeper ∷ sensitivity ∷ process_is ∷ process_declarations ∷ word_begin ∷ sequentials ∷ word_end_lem ∷ word_process ∷ shallower ∷ closing ∷ semicolon ∷ row 13 ∷ [])
+    ∷ rule process (word_process ∷ deeper ∷ sensitivity ∷ process_is ∷ process_declarations ∷ word_begin ∷ sequentials ∷ word_end ∷ word_process ∷ shallower ∷ closing ∷ semicolon ∷ row 13 ∷ [])
     ∷ rule sensitivity (left_paren ∷ deeper ∷ sensitive ∷ more_sensitive ∷ right_paren ∷ shallower ∷ [])
     ∷ rule sensitivity []
     ∷ rule sensitive (opens ∷ identifier ∷ row 24 ∷ closes ∷ [])
@@ -110,7 +110,7 @@ rules =
     ∷ rule assignment (at_most ∷ expression ∷ semicolon ∷ row 14 ∷ [])
     ∷ rule assignment (becomes ∷ expression ∷ semicolon ∷ row 15 ∷ [])
     -- 16 if: branches 17 (if, any elsif, perhaps else), end if;   elsif and else close one and open one: no action.
-    ∷ rule if (opens ∷ opens ∷ word_if ∷ deeper ∷ expression ∷ word_then ∷ sequentials ∷ row 17 ∷ closes ∷ branches ∷ word_end_lem ∷ word_if ∷ shallower ∷ semicolon ∷ row 16 ∷ closes ∷ [])
+    ∷ rule if (opens ∷ opens ∷ word_if ∷ deeper ∷ expression ∷ word_then ∷ sequentials ∷ row 17 ∷ closes ∷ branches ∷ word_end ∷ word_if ∷ shallower ∷ semicolon ∷ row 16 ∷ closes ∷ [])
     ∷ rule branches (opens ∷ word_elsif ∷ expression ∷ word_then ∷ sequentials ∷ row 17 ∷ closes ∷ branches ∷ [])
     ∷ rule branches (opens ∷ word_else ∷ sequentials ∷ row 17 ∷ closes ∷ [])
     ∷ rule branches []
@@ -119,9 +119,9 @@ rules =
     ∷ rule labelled (next ∷ [])
     ∷ rule labelled (exit ∷ [])
     ∷ rule labelled (null ∷ [])
-    ∷ rule loop (word_for ∷ deeper ∷ identifier ∷ word_in ∷ range ∷ word_loop ∷ sequentials ∷ word_end_lem ∷ word_loop ∷ shallower ∷ closing ∷ semicolon ∷ row 18 ∷ [])
-    ∷ rule loop (word_while ∷ deeper ∷ expression ∷ word_loop ∷ sequentials ∷ word_end_lem ∷ word_loop ∷ shallower ∷ closing ∷ semicolon ∷ row 19 ∷ [])
-    ∷ rule loop (word_loop ∷ deeper ∷ sequentials ∷ word_end_lem ∷ word_loop ∷ shallower ∷ closing ∷ semicolon ∷ row 20 ∷ [])
+    ∷ rule loop (word_for ∷ deeper ∷ identifier ∷ word_in ∷ range ∷ word_loop ∷ sequentials ∷ word_end ∷ word_loop ∷ shallower ∷ closing ∷ semicolon ∷ row 18 ∷ [])
+    ∷ rule loop (word_while ∷ deeper ∷ expression ∷ word_loop ∷ sequentials ∷ word_end ∷ word_loop ∷ shallower ∷ closing ∷ semicolon ∷ row 19 ∷ [])
+    ∷ rule loop (word_loop ∷ deeper ∷ sequentials ∷ word_end ∷ word_loop ∷ shallower ∷ closing ∷ semicolon ∷ row 20 ∷ [])
     -- 21, 22: [label :] next or exit [loop name] [when expression];   23 null: [label :] null;
     ∷ rule next (word_next ∷ loop_name ∷ condition ∷ semicolon ∷ row 21 ∷ [])
     ∷ rule exit (word_exit ∷ loop_name ∷ condition ∷ semicolon ∷ row 22 ∷ [])

@@ -5,7 +5,6 @@ use Rattle.stored.specs.StoredItems.{StoredItem, value_size}
 use Rattle.stored.specs.code.Decode.{Table, broken, table}
 use Rattle.stored_reading.specs.StoredRows.{head_size, size_of, stored_row_words, stored_rows_from}
 use Rattle.stored_reading.specs.Permitted.{stored_rows_in}
-use Rattle.stored_reading.specs.declared.StoredRefusal.{StoredRefusal}
 use Rattle.stored_reading.specs.declared.StoredRefusal.TheVariants.{NotStored, ItemsShort}
 use Rattle.stored_reading.specs.declared.StoredReading.{StoredReading}
 use Rattle.stored_reading.specs.declared.StoredReading.TheVariants.{Read, Refused}
@@ -36,7 +35,7 @@ sizes_at (some is) = sizes_from is
 -- where the items begin, and how many there are
 unfoldable pub examined_of : Table → Examined
 examined_of broken = Nowhere
-examined_of (table n is) = Holding (record { 0 = head_size + length n }) (length is)
+examined_of (table n is) = Holding (head_size + length n) (length is)
 
 -- what reading into a table of w words answers, and leaves there
 unfoldable pub stored_answer : Table → ℕ → StoredReading

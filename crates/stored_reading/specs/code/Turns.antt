@@ -1,5 +1,5 @@
 -- One field at the front of bytes, and one item. Assumes nothing.
-use Rattle.std.specs.Prelude.{ℕ, ◌+◌, Bool, true, false, cond, List, [], ◌∷◌, map, ltb, eqb, length, get_or, take, drop}
+use Rattle.std.specs.Prelude.{ℕ, ◌+◌, Bool, true, false, cond, List, ltb, eqb, length, get_or, take, drop}
 use Rattle.std.proofs.Math.Option.{Option, none, some}
 use Rattle.stored.specs.Fields.{Field, end_tag}
 use Rattle.stored.specs.StoredItems.{StoredItem}

@@ -7,7 +7,7 @@ use Rattle.grammars.specs.code.Actions.{End, read, bad, stopped, spent}
 use Rattle.same_names.specs.Alike.{same_name}
 use Rattle.forms.specs.code.Kinds.{terminal_of}
 use Rattle.forms.specs.RowWords.{row_numbers}
-use Rattle.forms.specs.code.RuleActions.{State, Refusal, name_differs_lem, too_deep_lem, state_rows}
+use Rattle.forms.specs.code.RuleActions.{State, Refusal, name_differs, too_deep, state_rows}
 use Rattle.forms.specs.code.Reading.{file_reading}
 use Rattle.tree.specs.declared.Answer.{Answer}
 use Rattle.tree.specs.declared.Answer.TheVariants.{Tree, Refused}
@@ -33,29 +33,29 @@ abbrev pub reading_in : List ℕ → List ℕ → ℕ → End State Refusal
 reading_in text table n = file_reading (same_name text table) (terminals_of n table)
 
 -- refusals 5, 6 and 7 with their element, and 8 with the rows that the tree table has
-abbrev pub no_file : ℕ → Answer
-no_file k = Refused (refusal.NoFile (record { 0 = k }))
+abbrev pub no_file_answer : ℕ → Answer
+no_file_answer k = Refused (refusal.NoFile (record { 0 = k }))
 
-abbrev pub name_differs : ℕ → Answer
-name_differs k = Refused (refusal.NameDiffers (record { 0 = k }))
+abbrev pub name_differs_answer : ℕ → Answer
+name_differs_answer k = Refused (refusal.NameDiffers (record { 0 = k }))
 
-abbrev pub too_deep : ℕ → Answer
-too_deep k = Refused (refusal.TooDeep (record { 0 = k }))
+abbrev pub too_deep_answer : ℕ → Answer
+too_deep_answer k = Refused (refusal.TooDeep (record { 0 = k }))
 
 abbrev pub table_short : ℕ → Answer
 table_short rows = Refused (refusal.TreeShort rows)
 
 -- an action that stops when k elements were read: refusal 6 or 7, at the last of them
 abbrev pub stopped_at : ℕ → Refusal → StrictRefusal
-stopped_at k name_differs_lem = refusal.NameDiffers (record { 0 = k - 1 })
-stopped_at k too_deep_lem = refusal.TooDeep (record { 0 = k - 1 })
+stopped_at k name_differs = refusal.NameDiffers (record { 0 = k - 1 })
+stopped_at k too_deep = refusal.TooDeep (record { 0 = k - 1 })
 
 -- the answer, if the tree table has room for `room` words
 abbrev pub tree_answer_of : ℕ → End State Refusal → Answer
 tree_answer_of room (read s) = cond (leb (row_numbers * length (state_rows s)) room) (Tree (length (state_rows s))) (table_short (room / row_numbers))
-tree_answer_of room (bad k) = no_file k
+tree_answer_of room (bad k) = no_file_answer k
 tree_answer_of room (stopped k x) = Refused (stopped_at k x)
-tree_answer_of room spent = no_file 0
+tree_answer_of room spent = no_file_answer 0
 
 -- the tree table afterwards: the rows and then zeros; on a refusal zeros
 abbrev pub tree_table_of : ℕ → End State Refusal → List ℕ

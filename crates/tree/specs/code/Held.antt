@@ -2,7 +2,7 @@
 -- there were when its frame began: `heads` has each base's list, `next` the links, 0 ending one, a row's number and one more else. The
 -- rows of a frame are the lists of the bases from its own to that of the frame inside it. What stands after the base of the next row is
 -- of no account: the arrays are lent, and hold any words at the start. Assumes nothing: these are definitions.
-use Rattle.std.specs.Prelude.{ℕ, suc, ◌+◌, ◌-◌, ◌*◌, ◌≤◌, ◌≡◌, ◌⊎◌, Bool, true, false, List, [], ◌∷◌, ◌++◌, leb, length, get_or, drop}
+use Rattle.std.specs.Prelude.{ℕ, suc, ◌+◌, ◌*◌, ◌≤◌, ◌≡◌, ◌⊎◌, Bool, true, false, List, [], ◌∷◌, ◌++◌, leb, length, get_or, drop}
 use Rattle.places.specs.Sizes.{most_elements}
 use Rattle.grammars.specs.code.Actions.{Step, go, stop, End, read, bad, stopped, spent}
 use Rattle.forms.specs.code.RuleNames.{first_row, file, constant, subtype}

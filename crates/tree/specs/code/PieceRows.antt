@@ -1,6 +1,6 @@
 -- What reading each constant and subtype of a package by itself leaves in the lent row table: the rows of a piece stand from its first
 -- element's row on, counted from the piece's first element (01, "Pieces, items, states"). Assumes nothing: these are definitions.
-use Rattle.std.specs.Prelude.{ℕ, ◌+◌, ◌-◌, ◌*◌, ◌/◌, min, Bool, false, cond, List, [], ◌∷◌, ◌++◌, eqb, length, get_or, replicate}
+use Rattle.std.specs.Prelude.{ℕ, ◌-◌, ◌*◌, ◌/◌, min, Bool, false, cond, List, [], ◌∷◌, ◌++◌, eqb, length, get_or, replicate}
 use Rattle.places.specs.Sizes.{most_elements}
 use Rattle.grammars.specs.code.Actions.{End, read, bad, stopped, spent}
 use Rattle.forms.specs.code.RuleNames.{constant, subtype}

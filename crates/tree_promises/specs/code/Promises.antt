@@ -8,7 +8,7 @@ use Rattle.forms.specs.Files.{Tiled, TreeFits}
 use Rattle.forms.specs.OperatorElements.{OperatorsRight}
 use Rattle.forms.specs.Owners.{AllOwned, OwnedOnce, LeavesAre}
 use Rattle.forms.specs.Labels.{LabelsLead}
-use Rattle.tree.specs.code.Answers.{terminals_of, reading_in, tree_answer_of, tree_table_of, no_file, name_differs, too_deep, table_short}
+use Rattle.tree.specs.code.Answers.{terminals_of, reading_in, tree_answer_of, tree_table_of, no_file_answer, name_differs_answer, too_deep_answer, table_short}
 use Rattle.forms.specs.RowWords.{words_of}
 use Rattle.tree.specs.declared.Answer.{Answer}
 use Rattle.tree.specs.declared.Answer.TheVariants.{Tree}
@@ -48,13 +48,13 @@ OneTree = (text table : List ℕ) (n : ℕ) (s t : State) → ReadsAsFile text t
 -- Refusals 5, 6 and 7 are answered exactly where 01 says: at the first place at which one of them is due, and of those that are due there
 -- the one that 01's table has first. Due.antt says when each is due, of the elements alone.
 abbrev pub NoFileExactly : Type 0
-NoFileExactly = (text table : List ℕ) (n room k : ℕ) → (tree_answer text table n room ≡ no_file k) ↔ NoFileFirst (same_name text table) (FirstElements table n) k
+NoFileExactly = (text table : List ℕ) (n room k : ℕ) → (tree_answer text table n room ≡ no_file_answer k) ↔ NoFileFirst (same_name text table) (FirstElements table n) k
 
 abbrev pub NameDiffersExactly : Type 0
-NameDiffersExactly = (text table : List ℕ) (n room k : ℕ) → (tree_answer text table n room ≡ name_differs k) ↔ NameFirst (same_name text table) (FirstElements table n) k
+NameDiffersExactly = (text table : List ℕ) (n room k : ℕ) → (tree_answer text table n room ≡ name_differs_answer k) ↔ NameFirst (same_name text table) (FirstElements table n) k
 
 abbrev pub TooDeepExactly : Type 0
-TooDeepExactly = (text table : List ℕ) (n room k : ℕ) → (tree_answer text table n room ≡ too_deep k) ↔ DepthFirst (same_name text table) (FirstElements table n) k
+TooDeepExactly = (text table : List ℕ) (n room k : ℕ) → (tree_answer text table n room ≡ too_deep_answer k) ↔ DepthFirst (same_name text table) (FirstElements table n) k
 
 -- The elements are a file, with names that agree and never more than 32 open, exactly where none of the three is due at any place.
 abbrev pub FileExactly : Type 0
