@@ -103,7 +103,7 @@ finds_first s t u name x l g =
     let q = left_so s t u l in
     says_first name (pieces_of s) x
     ((found_exactly s t name u x).0 g
-    ∙ ap₂ (λ (a b : List ℕ). found_of s a name b) q.elements-are q.items-are
+    ∙ ap₂ (λ (a b : List ℕ). found_of s a name b) q.elements_are q.items_are
     ∙ found_after s q.element_words q.item_words q.summary q.done name)
 
 at_nothing : (i : ℕ) → At i ≡ Nothing → ⊥
@@ -162,7 +162,7 @@ finds_number s t u name x l g = go x (length u / record_words) room (finds_first
     room : length (pieces_of s) ≤ length u / record_words
     room =
         let q = left_so s t u l in
-        rw (q.items-are ∙ (says_of_records s q.element_words q.item_words q.summary q.done).0) (room_held s name q.item_words)
+        rw (q.items_are ∙ (says_of_records s q.element_words q.item_words q.summary q.done).0) (room_held s name q.item_words)
 
     go : (f : Found) (none : ℕ) → length (pieces_of s) ≤ none → SaysFirst name (pieces_of s) f
         → ((k : ℕ) → k < length (pieces_of s) → (found_number f none ≡ k) ↔ FirstClaims name (pieces_of s) k) × ((length (pieces_of s) ≤ found_number f none) ↔ NoneClaims name (pieces_of s))

@@ -26,6 +26,7 @@ not_append r [] q f g = g
 not_append r (x ∷ p) q f g = (f.0, not_append r p q f.1 g)
 
 not_in : (r : ℕ) (x : Placed) (p : PlacedPiece) → AllNot r p → In x p → region x.line ≡ r → ⊥
+not_in r x [] h k = elim k [ ]
 not_in r x (y ∷ p) h (inl e) = subst (λ z. region z.line ≡ r → ⊥) e h.0
 not_in r x (y ∷ p) h (inr k) = not_in r x p h.1 k
 
@@ -83,7 +84,7 @@ module _ (S T : PlacedPiece) (d : Parted S T) where
   others x h o = subst (λ l. In x l) (sym d.first) (go (in_either x d.above (d.new ++ d.below) (subst (λ l. In x l) d.second h)))
     where
       next : In x d.new ⊎ In x d.below → In x (d.above ++ (d.old ++ d.below))
-      next (inl m) = absurd (o (lying_in 1 0 x d.new d.new-lies m).0)
+      next (inl m) = absurd (o (lying_in 1 0 x d.new d.new_lies m).0)
       next (inr m) = in_right x d.above (d.old ++ d.below) (in_right x d.old d.below m)
 
       go : In x d.above ⊎ In x (d.new ++ d.below) → In x (d.above ++ (d.old ++ d.below))
@@ -202,7 +203,7 @@ module _ (S T : PlacedPiece) (d : Parted S T) (ps : List PlacedPiece) (p : Place
           (last_behind ahead stood.1.first stood.1.rest (subst (λ l. LastAbove l) stood.1.some (last_closed p h)))
 
       low : AllNot 0 (d.old ++ d.below)
-      low = not_append 0 d.old d.below (lying_not 1 0 0 d.old (λ z. omega arith) d.old-lies) (lying_not 2 0 0 d.below (λ z. omega arith) d.below-lies)
+      low = not_append 0 d.old d.below (lying_not 1 0 0 d.old (λ z. omega arith) d.old_lies) (lying_not 2 0 0 d.below (λ z. omega arith) d.below_lies)
 
       go : ((w : PlacedPiece) × (d.above ≡ (ahead ++ p) ++ w) × (behind ≡ w ++ (d.old ++ d.below)))
           ⊎ ((y : Placed) × (w : PlacedPiece) × (ahead ++ p ≡ d.above ++ y ∷ w) × (d.old ++ d.below ≡ y ∷ (w ++ behind)))
@@ -210,7 +211,7 @@ module _ (S T : PlacedPiece) (d : Parted S T) (ps : List PlacedPiece) (p : Place
       go (inl (w, f, g)) = (
         lone_in ahead p (w ++ (d.new ++ d.below)) T (lone (w ++ (d.new ++ d.below)))
             (d.second ∙ ap (λ (l : PlacedPiece). l ++ (d.new ++ d.below)) f ∙ append_assoc (ahead ++ p) w (d.new ++ d.below) ∙ append_assoc ahead p (w ++ (d.new ++ d.below))),
-        lying_right 0 0 ahead p (lying_left 0 0 (ahead ++ p) w (subst (λ l. Lying 0 0 l) f d.above-lies)),
+        lying_right 0 0 ahead p (lying_left 0 0 (ahead ++ p) w (subst (λ l. Lying 0 0 l) f d.above_lies)),
       )
       go (inr (y, w, f, g)) = absurd (last_low y w behind (last_part d.above y w (subst (λ l. LastAbove l) f last)) (subst (λ l. AllNot 0 l) g low))
 
@@ -230,7 +231,7 @@ module _ (S T : PlacedPiece) (d : Parted S T) (ps : List PlacedPiece) (p : Place
           }
 
       high : AllNot 2 (d.above ++ d.old)
-      high = not_append 2 d.above d.old (lying_not 0 0 2 d.above (λ z. omega arith) d.above-lies) (lying_not 1 0 2 d.old (λ z. omega arith) d.old-lies)
+      high = not_append 2 d.above d.old (lying_not 0 0 2 d.above (λ z. omega arith) d.above_lies) (lying_not 1 0 2 d.old (λ z. omega arith) d.old_lies)
 
       go : ((w : PlacedPiece) × (ahead ≡ (d.above ++ d.old) ++ w) × (d.below ≡ w ++ (p ++ behind)))
           ⊎ ((y : Placed) × (w : PlacedPiece) × (d.above ++ d.old ≡ ahead ++ y ∷ w) × (p ++ behind ≡ y ∷ (w ++ d.below)))
@@ -238,7 +239,7 @@ module _ (S T : PlacedPiece) (d : Parted S T) (ps : List PlacedPiece) (p : Place
       go (inl (w, f, g)) = (
         lone_in ((d.above ++ d.new) ++ w) p behind T (lone ((d.above ++ d.new) ++ w))
             (d.second ∙ sym (append_assoc d.above d.new d.below) ∙ ap (λ (m : PlacedPiece). (d.above ++ d.new) ++ m) g ∙ sym (append_assoc (d.above ++ d.new) w (p ++ behind))),
-        lying_left 2 0 p behind (lying_right 2 0 w (p ++ behind) (subst (λ m. Lying 2 0 m) g d.below-lies)),
+        lying_left 2 0 p behind (lying_right 2 0 w (p ++ behind) (subst (λ m. Lying 2 0 m) g d.below_lies)),
       )
       go (inr (y, w, f, g)) =
           let z : x ∷ (r ++ behind) ≡ y ∷ (w ++ d.below) = ap (λ (m : PlacedPiece). m ++ behind) (sym s) ∙ g in

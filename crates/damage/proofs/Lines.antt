@@ -5,7 +5,8 @@ use mathlib.Core.Path.{◌≡◌, refl, ap, subst}
 use mathlib.Core.Logic.{◌⊎◌, inl, inr}
 use mathlib.Core.List.{List, [], ◌∷◌, ◌++◌}
 use native.Mathlib.Omega.{arith}
-use lib.ListN.{length}
+use lib.ListN.{length, take, drop}
+use Rattle.elements.specs.Kinds.{kind_number}
 use Rattle.element_reading.specs.Rows.{ElementRow, lines_of, rows_of}
 use Rattle.element_reading.specs.Promises.{InOrder}
 use Rattle.element_reading.proofs.Promises.{stand_in_order}
@@ -73,6 +74,7 @@ lying_right r m [] q h = h
 lying_right r m (x ∷ p) q h = lying_right r m p q h.2
 
 pub lying_in : (r m : ℕ) (x : Placed) (p : PlacedPiece) → Lying r m p → In x p → (region x.line ≡ r) × (m ≤ number x.line)
+lying_in r m x [] h k = elim k [ ]
 lying_in r m x (y ∷ p) h (inl e) = subst (λ z. (region z.line ≡ r) × (m ≤ number z.line)) e (h.0, h.1)
 lying_in r m x (y ∷ p) h (inr k) = lying_in r m x p h.2 k
 
@@ -92,6 +94,10 @@ later_first x r m (y ∷ q) e k = (inl (omega (arith, k.0)), later_first x r m q
 later_apart : (r m q n : ℕ) (p l : PlacedPiece) → r < q → Lying r m p → Lying q n l → Apart Before p l
 later_apart r m q n [] l h f g = tt
 later_apart r m q n (x ∷ p) l h f g = (later_first x q n l (omega (arith, f.0)) g, later_apart r m q n p l h f.2 g)
+
+-- a row of a line, with its place
+abbrev placed_row : LineNumber → List ℕ → ElementRow → Placed
+placed_row n l q = record { line = n; place = q.first; element = record { kind = kind_number q.kind; bytes = take q.size (drop q.first l) } }
 
 -- the lines of one region
 module _ (of : ℕ → LineNumber) (r : ℕ) (here : (k : ℕ) → region (of k) ≡ r) (counts : (k : ℕ) → number (of k) ≡ k) where
@@ -115,12 +121,12 @@ module _ (of : ℕ → LineNumber) (r : ℕ) (here : (k : ℕ) → region (of k)
   rows_rising : (n : ℕ) (l : List ℕ) (at end : ℕ) (rs : List ElementRow) → InOrder at rs end → Rising Before (placed_rows (of n) l rs)
   unfolding placed_rows
   rows_rising n l at end [] h = tt
-  rows_rising n l at end (q ∷ rs) h = (rows_first n l _ (q.first + q.size) end rs refl (omega (arith, h.1)) h.2, rows_rising n l (q.first + q.size) end rs h.2)
+  rows_rising n l at end (q ∷ rs) h = (rows_first n l (placed_row (of n) l q) (q.first + q.size) end rs refl (omega (arith, h.1)) h.2, rows_rising n l (q.first + q.size) end rs h.2)
 
   rows_apart : (n : ℕ) (l : List ℕ) (rs : List ElementRow) (p : PlacedPiece) → Lying r (suc n) p → Apart Before (placed_rows (of n) l rs) p
   unfolding placed_rows
   rows_apart n l [] p h = tt
-  rows_apart n l (q ∷ rs) p h = (lying_first _ r (suc n) p (here n) (omega (arith, counts n)) h, rows_apart n l rs p h)
+  rows_apart n l (q ∷ rs) p h = (lying_first (placed_row (of n) l q) r (suc n) p (here n) (omega (arith, counts n)) h, rows_apart n l rs p h)
 
   -- the elements of lines stand in order
   pub lines_rising : (n : ℕ) (ls : List (List ℕ)) → Rising Before (placed_lines of n ls)

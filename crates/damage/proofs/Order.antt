@@ -6,6 +6,7 @@ use mathlib.Core.List.{List, [], ◌∷◌, ◌++◌}
 use Rattle.damage.specs.PlacedElements.{In}
 
 pub in_left : {A : Type 0} (x : A) (l m : List A) → In x l → In x (l ++ m)
+in_left x [] m h = elim h [ ]
 in_left x (y ∷ l) m (inl e) = inl e
 in_left x (y ∷ l) m (inr h) = inr (in_left x l m h)
 
@@ -24,6 +25,7 @@ in_either x (y ∷ l) m (inr h) = go (in_either x l m h)
 
 -- a list split at a member
 pub in_split : {A : Type 0} (x : A) (l : List A) → In x l → (a : List A) × (b : List A) × (l ≡ a ++ x ∷ b)
+in_split x [] h = elim h [ ]
 in_split x (y ∷ l) (inl e) = ([], l, ap (λ z. z ∷ l) e)
 in_split x (y ∷ l) (inr h) = let s = in_split x l h in (y ∷ s.0, s.1, ap (λ z. y ∷ z) s.2)
 
@@ -47,6 +49,7 @@ module _ {A : Type 0} (Before : A → A → Type 0) where
   Apart (x ∷ l) m = First x m × Apart l m
 
   pub first_in_lem : (x y : A) (l : List A) → First x l → In y l → Before x y
+  first_in_lem x y [] f h = elim h [ ]
   first_in_lem x y (z ∷ l) f (inl e) = subst (λ w. Before x w) e f.0
   first_in_lem x y (z ∷ l) f (inr h) = first_in_lem x y l f.1 h
 
@@ -72,12 +75,14 @@ module _ {A : Type 0} (Before : A → A → Type 0) where
 
   -- what stands in the first list stands before what stands in the second
   pub rising_between : (l m : List A) (x y : A) → Rising (l ++ m) → In x l → In y m → Before x y
+  rising_between [] m x y r h k = elim h [ ]
   rising_between (z ∷ l) m x y r (inl e) k = subst (λ w. Before w y) e (first_in_lem z y (l ++ m) r.0 (in_right y l m k))
   rising_between (z ∷ l) m x y r (inr h) k = rising_between l m x y r.1 h k
 
   module _ (never : (x : A) → Before x x → ⊥) (both : (x y z : A) → Before x y → Before y z → Before x z) where
     -- two members stand one before the other, or are one
     pub ordered : (l : List A) (x y : A) → Rising l → In x l → In y l → Before x y ⊎ ((x ≡ y) ⊎ Before y x)
+    ordered [] x y r h k = elim h [ ]
     ordered (z ∷ l) x y r (inl e) (inl f) = inr (inl (sym e ∙ f))
     ordered (z ∷ l) x y r (inl e) (inr k) = inl (subst (λ w. Before w y) e (first_in_lem z y l r.0 k))
     ordered (z ∷ l) x y r (inr h) (inl f) = inr (inr (subst (λ w. Before w x) f (first_in_lem z x l r.0 h)))
@@ -98,6 +103,7 @@ module _ {A : Type 0} (Before : A → A → Type 0) where
     passing f (x ∷ l) = cond (f x) (x ∷ passing f l) (passing f l)
 
     pub passing_in : (f : A → Bool) (x : A) (l : List A) → In x (passing f l) → In x l × (f x ≡ true)
+    passing_in f x [] h = elim h [ ]
     passing_in f x (y ∷ l) h = go (f y) refl (λ k. passing_in f x l k) h
       where
         go : (b : Bool) → f y ≡ b → (In x (passing f l) → In x l × (f x ≡ true)) → In x (cond b (y ∷ passing f l) (passing f l)) → In x (y ∷ l) × (f x ≡ true)
@@ -106,6 +112,7 @@ module _ {A : Type 0} (Before : A → A → Type 0) where
         go false e ih k = let m = ih k in (inr m.0, m.1)
 
     pub in_passing : (f : A → Bool) (x : A) (l : List A) → In x l → f x ≡ true → In x (passing f l)
+    in_passing f x [] h t = elim h [ ]
     in_passing f x (y ∷ l) (inl e) t = let z : f y ≡ true = ap f e ∙ t in rw z (inl e)
     in_passing f x (y ∷ l) (inr h) t = go (f y) (in_passing f x l h t)
       where

@@ -262,5 +262,5 @@ pub same_answer : SameAnswer
 same_answer s t d p q i j e n u more others k low high =
     let z = same_worth d.before d.middle d.changed d.after p q i j e n u in
     let f = (places_added d.before d.middle d.after d.begun d.inside d.ended).1 ∙ ap pieces_of (sym d.first) in
-    let g = (places_added d.before d.changed d.after d.begun d.inside-changed d.ended).1 ∙ ap pieces_of (sym d.second) in
+    let g = (places_added d.before d.changed d.after d.begun d.inside_changed d.ended).1 ∙ ap pieces_of (sym d.second) in
     record_word s (olds d) f p i more k low high ∙ ap₂ (λ (r : PlacedPiece) (v : Value). answer r k v) z.0 z.1 ∙ sym (record_word t (news d) g q j others k low high)

@@ -41,6 +41,7 @@ module _ {A : Type 0} (f : A → Bool) where
   any (x ∷ l) = f x || any l
 
   every_in : (l : List A) (x : A) → every l ≡ true → In x l → f x ≡ true
+  every_in [] x h k = elim k [ ]
   every_in (y ∷ l) x h (inl e) = ap f (sym e) ∙ both_left (f y) (every l) h
   every_in (y ∷ l) x h (inr k) = every_in l x (both_right (f y) (every l) h) k
 
@@ -57,6 +58,7 @@ module _ {A : Type 0} (f : A → Bool) where
       go (inr e) ih = let z = ih e in (z.0, inr z.1, z.2)
 
   in_any : (l : List A) (x : A) → In x l → f x ≡ true → any l ≡ true
+  in_any [] x k h = elim k [ ]
   in_any (y ∷ l) x (inl e) h = rw (ap f e ∙ h)
   in_any (y ∷ l) x (inr k) h = go (f y) (in_any l x k h)
     where
@@ -115,7 +117,7 @@ module _ (p : Piece) where
       go false ih = in_cond (eqb q.form 24 || eqb q.form 31) (at p r.first) (at p q.first) (used_from p zero (c ++ r ∷ d)) (ih zero)
 
   used_in_lem : (x : Element) → UsesName p x → In x (used_in p (rows_of_piece (kinds_in_piece p)))
-  used_in_lem x u = subst (λ (z : Element). In z (used_in p (rows_of_piece (kinds_in_piece p)))) (sym u.named) (subst (λ (l : List Row). In (at p u.row.first) (used_in p l)) (sym (rows_are p _ u.tree)) (go u.looked-up))
+  used_in_lem x u = subst (λ (z : Element). In z (used_in p (rows_of_piece (kinds_in_piece p)))) (sym u.named) (subst (λ (l : List Row). In (at p u.row.first) (used_in p l)) (sym (rows_are p _ u.tree)) (go u.looked_up))
     where
       go : ((u.row.form ≡ 24) × NotWithin u.above) ⊎ (u.row.form ≡ 31) → In (at p u.row.first) (used_in p (u.above ++ u.row ∷ u.below))
       go (inl k) = used_name u.above u.row u.below zero k.0 k.1 (omega arith)
@@ -324,7 +326,7 @@ module _ (s t : List ℕ) (d : OneLine s t) (i j : ℕ) (h : Kept d i j) where
   this = part_at (olds d) i
 
   pub calm : Undisturbed (olds d) (news d) this
-  calm = undisturbed s t d this h.names h.own h.shut h.apart-old h.apart-new
+  calm = undisturbed s t d this h.names h.own h.shut h.apart_old h.apart_new
 
   each : SameEach this (part_at (news d) j)
   each = subst (λ q. SameEach this q) h.same (same_each this)

@@ -354,6 +354,7 @@ stood_append n [] q f g = g
 stood_append n (x ∷ p) q f g = (f.0, stood_append n p q f.1 g)
 
 stood_in : (n : ℕ) (x : Placed) (p : PlacedPiece) → AllStood n p → In x p → Stood n x.line
+stood_in n x [] h k = elim k [ ]
 stood_in n x (y ∷ p) h (inl e) = subst (λ z. Stood n z.line) e h.0
 stood_in n x (y ∷ p) h (inr k) = stood_in n x p h.1 k
 

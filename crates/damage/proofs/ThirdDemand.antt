@@ -24,6 +24,6 @@ pub third_demand : ThirdDemand
 third_demand s t elements items elements' items' l m d p q i j same none calm k a b =
     let x = left_so s elements items l in
     let y = left_so t elements' items' m in
-    ap (λ (u : List ℕ). word_at u (length i.above) k) (x.items-are ∙ table_is s x.element_words x.item_words x.summary x.done)
+    ap (λ (u : List ℕ). word_at u (length i.above) k) (x.items_are ∙ table_is s x.element_words x.item_words x.summary x.done)
     ∙ same_answer s t d p q i j same none calm (replicate (x.item_words - record_words * length (pieces_of s)) 0) (replicate (y.item_words - record_words * length (pieces_of t)) 0) k a b
-    ∙ ap (λ (u : List ℕ). word_at u (length j.above) k) (sym (y.items-are ∙ table_is t y.element_words y.item_words y.summary y.done))
+    ∙ ap (λ (u : List ℕ). word_at u (length j.above) k) (sym (y.items_are ∙ table_is t y.element_words y.item_words y.summary y.done))

@@ -3,7 +3,7 @@
 use mathlib.Core.Path.{◌≡◌, refl, sym, ap, ◌∙◌}
 use mathlib.Core.Bool.{Bool, true, false, cond, not, ◌&&◌, ◌||◌}
 use mathlib.Core.List.{List, [], ◌∷◌}
-use Prim.Native.Nat.{ℕ, zero, suc, ◌+◌, ◌-◌, ◌≤◌, ◌<◌, zero-le, suc-le-suc}
+use Prim.Native.Nat.{ℕ, zero, suc, ◌+◌, ◌-◌, ◌≤◌, ◌<◌, zero-le}
 use native.Mathlib.Omega.{arith}
 use lib.ListN.{length}
 use Rattle.laws.proofs.Laws.{clash, both_left, both_right}
@@ -11,7 +11,7 @@ use Rattle.stored.specs.Stored.{same_bytes, among, distinct}
 use Rattle.stored.proofs.Names.{same_is, same_self}
 use Rattle.different_names.specs.StandingNames.{names_from}
 use Rattle.different_names.specs.code.Orders.{order_of}
-use Rattle.different_names.specs.declared.Order.TheVariants.{Below, Same, Above}
+use Rattle.different_names.specs.declared.Order.TheVariants.{Below}
 use Rattle.different_names.proofs.Orders.{below_next, below_other}
 
 abbrev pub AllIn : List (List ℕ) → List (List ℕ) → Type 0

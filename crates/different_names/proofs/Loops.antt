@@ -1,6 +1,6 @@
 -- The turns of the loops, in the code's terms. Assumes nothing.
 use mathlib.Core.Path.{◌≡◌, refl, sym, ap, subst, ◌∙◌}
-use mathlib.Core.Bool.{Bool, true, false, not, ◌&&◌, ◌||◌}
+use mathlib.Core.Bool.{Bool, true, false, not, ◌&&◌}
 use mathlib.Core.List.{List, [], ◌∷◌}
 use Prim.Native.Nat.{ℕ, zero, suc, ◌+◌, ◌-◌, ◌≤◌, ◌<◌}
 use native.Mathlib.Numerals.{add-one}
@@ -11,7 +11,7 @@ use Rattle.stored.specs.Stored.{among, distinct}
 use Rattle.different_names.specs.StandingNames.{name_at, names_from}
 use Rattle.different_names.specs.code.Orders.{order_of, ToldRight}
 use Rattle.different_names.specs.declared.Told.{Told}
-use Rattle.different_names.specs.declared.Told.TheVariants.{Different, Twice, Unsure}
+use Rattle.different_names.specs.declared.Told.TheVariants.{Different, Twice}
 use Rattle.different_names.specs.declared.Order.{Order}
 use Rattle.different_names.specs.declared.Order.TheVariants.{Below, Same, Above}
 use Rattle.different_names.proofs.Orders.{cons_below, cons_above, cons_same, order_same, below_differs, above_differs, same_yes}

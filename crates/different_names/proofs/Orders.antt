@@ -1,6 +1,6 @@
 -- Byte order is an order: two names are the same where neither is below the other, and what is below a name is below those above it. Assumes
 -- nothing.
-use mathlib.Core.Path.{◌≡◌, refl, sym, ap, ◌∙◌}
+use mathlib.Core.Path.{◌≡◌, refl, ◌∙◌}
 use mathlib.Core.Bool.{Bool, true, false, cond}
 use mathlib.Core.List.{List, [], ◌∷◌}
 use Prim.Native.Nat.{ℕ, ◌≤◌, ◌<◌}
@@ -12,7 +12,6 @@ use Rattle.laws.proofs.Laws.{clash}
 use Rattle.stored.specs.Stored.{same_bytes}
 use Rattle.stored.proofs.Names.{same_is, same_self}
 use Rattle.different_names.specs.code.Orders.{order_of}
-use Rattle.different_names.specs.declared.Order.{Order}
 use Rattle.different_names.specs.declared.Order.TheVariants.{Below, Same, Above}
 
 pub order_self : (a : List ℕ) → order_of a a ≡ Same

@@ -78,9 +78,9 @@ module _ (text table items links rows : List ℕ) (i k : ℕ) (x y r : Outcome) 
   Row' = folded_row text table items links i (row_at rows k) x y
 
   module _ (form : ℕ) (f : form ≡ (row_at rows k).form) where
-    pub is_name_lem : (j : ℕ) → form ≡ forms.name → j ≡ (row_at rows k).first → r ≡ name_in text table items links i j → r ≡ Row'
+    pub is_name : (j : ℕ) → form ≡ forms.name → j ≡ (row_at rows k).first → r ≡ name_in text table items links i j → r ≡ Row'
     unfolding row_outcome
-    is_name_lem j h g z = rw (← f, h, ← g) z
+    is_name j h g z = rw (← f, h, ← g) z
 
     pub is_literal : (j : ℕ) → form ≡ forms.literal → j ≡ (row_at rows k).first → r ≡ literal_at text table items i j → r ≡ Row'
     unfolding row_outcome

@@ -14,7 +14,7 @@ use Rattle.grammars.specs.code.Actions.{go, stop, End, read, bad, stopped, spent
 use Rattle.grammars.proofs.Trail.{Trail, whole, more, other, none, refuses, eats, acts, grows}
 use Rattle.forms.specs.code.RuleNames.{file}
 use Rattle.forms.specs.code.Rules.{forms}
-use Rattle.forms.specs.code.RuleActions.{Frame, State, Refusal, name_differs_lem, too_deep_lem, fresh, top, on_top, joined, marked, rowed, frame_is_named, does}
+use Rattle.forms.specs.code.RuleActions.{Frame, State, Refusal, name_differs, too_deep, fresh, top, on_top, joined, marked, rowed, frame_is_named, does}
 use Rattle.forms.specs.code.RuleActions as machine
 use Rattle.forms.specs.code.Reading.{file_reading}
 use Rattle.forms.specs.Closing.{Name, is_named_as}
@@ -65,7 +65,7 @@ module _ (alike : ℕ → ℕ → Bool) (k : ℕ) (s t : State) (x : Walk) (r : 
   of : (u : State) → u ≡ t → (l : List ℕ) → names_in u.frames ≡ l → names_in t.frames ≡ l
   of u e l h = ap (λ (y : State). names_in y.frames) (sym e) ∙ h
 
-  compared : (b : Bool) → frame_is_named alike (top s.frames).name (k - 1) ≡ b → cond b (go s) (stop name_differs_lem) ≡ go t → r ≡ named g → Good x nothing g G α → Goes
+  compared : (b : Bool) → frame_is_named alike (top s.frames).name (k - 1) ≡ b → cond b (go s) (stop name_differs) ≡ go t → r ≡ named g → Good x nothing g G α → Goes
   compared true q e n h =
       let z : s ≡ t = cc in
       to g G h (of s z (g ∷ G) are)
@@ -74,7 +74,7 @@ module _ (alike : ℕ → ℕ → Bool) (k : ℕ) (s t : State) (x : Walk) (r : 
       ap (λ (m : ℕ). frame_is_named alike m (k - 1)) (sym i ∙ sym (top_name s.frames g G are)) ∙ q)
   compared false q e n h = let z : ◌≡◌ {A = ℕ} 0 1 = cc in clash z
 
-  deeper : (b : Bool) → cond b (go (record { frames = s.frames; depth = s.depth + 1 })) (stop too_deep_lem) ≡ go t → names_in t.frames ≡ g ∷ G
+  deeper : (b : Bool) → cond b (go (record { frames = s.frames; depth = s.depth + 1 })) (stop too_deep) ≡ go t → names_in t.frames ≡ g ∷ G
   deeper true e = of (record { frames = s.frames; depth = s.depth + 1 }) (cc) (g ∷ G) are
   deeper false e = let z : ◌≡◌ {A = ℕ} 0 1 = cc in clash z
 
@@ -97,22 +97,22 @@ module _ (alike : ℕ → ℕ → Bool) (k : ℕ) (s t : State) (x : Walk) (r : 
   goes_on_lem (suc (suc (suc (suc (suc (suc (suc n))))))) e h =
       to g G h.1 (of (record { frames = on_top (rowed n k) s.frames; depth = s.depth }) (cc) (g ∷ G) (kept_names (rowed n k) s.frames (λ f. refl) ∙ are)) (plainly h.0)
 
-  differing : (b : Bool) → frame_is_named alike (top s.frames).name (k - 1) ≡ b → cond b (go s) (stop name_differs_lem) ≡ stop name_differs_lem → frame_is_named alike g (k - 1) ≡ false
+  differing : (b : Bool) → frame_is_named alike (top s.frames).name (k - 1) ≡ b → cond b (go s) (stop name_differs) ≡ stop name_differs → frame_is_named alike g (k - 1) ≡ false
   differing true q e = let z : ◌≡◌ {A = ℕ} 0 1 = cc in clash z
   differing false q e = ap (λ (m : ℕ). frame_is_named alike m (k - 1)) (sym (top_name s.frames g G are)) ∙ q
 
-  stops : (a : ℕ) → does alike a k s ≡ stop name_differs_lem → Good x r g G (act a ∷ α) → (r ≡ named g) × (frame_is_named alike g (k - 1) ≡ false)
+  stops : (a : ℕ) → does alike a k s ≡ stop name_differs → Good x r g G (act a ∷ α) → (r ≡ named g) × (frame_is_named alike g (k - 1) ≡ false)
   unfolding does
   stops a e h =
       let z : a ≡ 4 = compares alike k s a e in
-      ((subst (λ (y : ℕ). Good x r g G (act y ∷ α)) z h).0, differing (frame_is_named alike (top s.frames).name (k - 1)) refl (subst (λ (y : ℕ). does alike y k s ≡ stop name_differs_lem) z e))
+      ((subst (λ (y : ℕ). Good x r g G (act y ∷ α)) z h).0, differing (frame_is_named alike (top s.frames).name (k - 1)) refl (subst (λ (y : ℕ). does alike y k s ≡ stop name_differs) z e))
 
 -- a reading that ends so compared each closing name among its first m elements
 abbrev pub Compared : End State Refusal → ℕ → Type 0
 Compared (read s) m = Unit {0}
 Compared (bad j) m = m ≤ j
-Compared (stopped j name_differs_lem) m = m < j
-Compared (stopped j too_deep_lem) m = m ≤ j
+Compared (stopped j name_differs) m = m < j
+Compared (stopped j too_deep) m = m ≤ j
 Compared spent m = ⊥
 
 module _ (alike : ℕ → ℕ → Bool) where
@@ -137,8 +137,8 @@ module _ (alike : ℕ → ℕ → Bool) where
   agree x r g G more h c e = record { now = λ v q m. silent r v h q; later = λ i v q m. absurd (omega arith) }
   agree x r g G other h c e = record { now = λ v q m. silent r v h.0 q; later = λ i v q m. absurd (omega arith) }
   agree x r g G none h c e = record { now = λ v q m. silent r v h.0 q; later = λ i v q m. absurd (omega arith) }
-  agree x r g G (refuses {r = name_differs_lem} d) h c e = record { now = λ v q m. absurd (omega arith); later = λ i v q m. absurd (omega arith) }
-  agree x r g G (refuses {a = a} {k = k} {α = α} {s = s} {r = too_deep_lem} d) h c e =
+  agree x r g G (refuses {r = name_differs} d) h c e = record { now = λ v q m. absurd (omega arith); later = λ i v q m. absurd (omega arith) }
+  agree x r g G (refuses {a = a} {k = k} {α = α} {s = s} {r = too_deep} d) h c e =
       record {
         now = λ v q m. silent r v (subst (λ (y : ℕ). Good x r g G (act y ∷ α)) (deepens alike k s a d).0 h).0 q;
         later = λ i v q m. absurd (omega arith);
@@ -158,7 +158,7 @@ module _ (alike : ℕ → ℕ → Bool) where
           subst (λ (n : ℕ). frame_is_named alike v n ≡ true) z (rec.later i v q (subst (Compared o) y m))
   agree x r g G (acts {a = a} {k = k} {α = α} {s = s} {t = t} d way) h c e =
       let u = goes_on_lem alike k s t x r g G α c e a d h in
-      let rec = agree x nothing u.name u.others way u.good c u.are-named in
+      let rec = agree x nothing u.name u.others way u.good c u.are_named in
       record { now = λ v q m. u.agreed v q; later = rec.later }
   agree x r g G (grows {n = n} {α = α} p l q way) h c e = agree x r g G way (good_grow p l n q x r g G α h) c e
 
@@ -167,15 +167,15 @@ module _ (alike : ℕ → ℕ → Bool) where
   Differs k x r w j =
       (v : ℕ) × ((frame_is_named alike v (j - 1) ≡ false) × (((r ≡ named v) × (j ≡ k)) ⊎ ((i : ℕ) × ((closes x w i ≡ named v) × (j ≡ k + suc i)))))
 
-  differs : {α : List Sym} {k : ℕ} {s : State} {w : List ℕ} {o : End State Refusal} (j : ℕ) (x : Walk) (r : Closed) (g : ℕ) (G : List ℕ) → Way α k s w o → o ≡ stopped j name_differs_lem → Good x r g G α → x.count ≡ k
+  differs : {α : List Sym} {k : ℕ} {s : State} {w : List ℕ} {o : End State Refusal} (j : ℕ) (x : Walk) (r : Closed) (g : ℕ) (G : List ℕ) → Way α k s w o → o ≡ stopped j name_differs → Good x r g G α → x.count ≡ k
       → names_in s.frames ≡ g ∷ G → Differs k x r w j
   unfolding walk_over
   differs j x r g G whole u h c e = let z : ◌≡◌ {A = ℕ} 0 1 = cc in clash z
   differs j x r g G more u h c e = let z : ◌≡◌ {A = ℕ} 0 1 = cc in clash z
   differs j x r g G other u h c e = let z : ◌≡◌ {A = ℕ} 0 1 = cc in clash z
   differs j x r g G none u h c e = let z : ◌≡◌ {A = ℕ} 0 1 = cc in clash z
-  differs j x r g G (refuses {r = too_deep_lem} d) u h c e = let z : ◌≡◌ {A = ℕ} 0 1 = cc in clash z
-  differs j x r g G (refuses {a = a} {k = k} {α = α} {s = s} {r = name_differs_lem} d) u h c e =
+  differs j x r g G (refuses {r = too_deep} d) u h c e = let z : ◌≡◌ {A = ℕ} 0 1 = cc in clash z
+  differs j x r g G (refuses {a = a} {k = k} {α = α} {s = s} {r = name_differs} d) u h c e =
       let z : k ≡ j = cc in
       let f = stops alike k s s x r g G α c e a d h in
       (g, (subst (λ (y : ℕ). frame_is_named alike g (y - 1) ≡ false) z f.1, inl (f.0, sym z)))
@@ -191,7 +191,7 @@ module _ (alike : ℕ → ℕ → Bool) where
       further i q = omega arith
   differs j x r g G (acts {a = a} {k = k} {α = α} {s = s} {t = t} d way) u h c e =
       let f = goes_on_lem alike k s t x r g G α c e a d h in
-      let rec = differs j x nothing f.name f.others way u f.good c f.are-named in
+      let rec = differs j x nothing f.name f.others way u f.good c f.are_named in
       (rec.0, (rec.1.0, ⊎_elim (λ y. silent nothing rec.0 refl y.0) (λ y. inr y) rec.1.1))
   differs j x r g G (grows {n = n} {α = α} p l q way) u h c e = differs j x r g G way u (good_grow p l n q x r g G α h) c e
 
@@ -200,7 +200,7 @@ begun : Good unwalked nothing 0 [] (file ∷ [])
 begun = (refl, record { at = tt; end = refl; known = tt }, λ x g l. refl)
 
 -- refusal 6, when j elements were read: the last of them is a closing name, and what it closes had none, or another
-pub name_differs_at : (alike : ℕ → ℕ → Bool) (w : List ℕ) (j : ℕ) → file_reading alike w ≡ stopped j name_differs_lem
+pub name_differs_at : (alike : ℕ → ℕ → Bool) (w : List ℕ) (j : ℕ) → file_reading alike w ≡ stopped j name_differs
     → (k : ℕ) × ((j ≡ suc k) × ((name : Name) × ((paper.closes_at w k ≡ paper.named name) × (is_named_as alike name k ≡ false))))
 name_differs_at alike w j e =
     let r = differs alike j unwalked nothing 0 [] (trailed alike w) e begun refl refl in

@@ -5,10 +5,10 @@ use mathlib.Core.Bool.{true, false}
 use mathlib.Core.List.{List, [], ◌∷◌}
 use Rattle.grammars.specs.code.Grammar.{Sym}
 use Rattle.grammars.specs.code.Actions.{End, read, bad, stopped, spent, runs}
-use Rattle.forms.specs.code.Kinds.{number_of, becomes, colon, identifier, integer, left_paren, minus, right_paren, semicolon, tick, word_architecture, word_begin, word_constant, word_end_lem, word_is, word_loop, word_mod, word_of, word_package, word_process, word_range, word_subtype}
+use Rattle.forms.specs.code.Kinds.{number_of, becomes, colon, identifier, integer, left_paren, minus, right_paren, semicolon, tick, word_architecture, word_begin, word_constant, word_end, word_is, word_loop, word_mod, word_of, word_package, word_process, word_range, word_subtype}
 use Rattle.forms.specs.code.RuleNames.{constant, subtype}
 use Rattle.forms.specs.Tree.{Row}
-use Rattle.forms.specs.code.RuleActions.{State, Refusal, name_differs_lem, too_deep_lem, state_rows, does}
+use Rattle.forms.specs.code.RuleActions.{State, Refusal, name_differs, too_deep, state_rows, does}
 use Rattle.forms.specs.code.Reading.{reading_from, file_reading}
 use Rattle.forms.specs.Closing.{element, named, closes_at, walk_over}
 
@@ -28,7 +28,7 @@ rows_in spent = []
 
 -- a - b - d groups to the left: the first operator's row is the second's child
 abbrev left_grouped_text : List Sym
-left_grouped_text = word_package ∷ identifier ∷ word_is ∷ word_constant ∷ identifier ∷ colon ∷ identifier ∷ becomes ∷ identifier ∷ minus ∷ identifier ∷ minus ∷ identifier ∷ semicolon ∷ word_end_lem ∷ identifier ∷ semicolon ∷ []
+left_grouped_text = word_package ∷ identifier ∷ word_is ∷ word_constant ∷ identifier ∷ colon ∷ identifier ∷ becomes ∷ identifier ∷ minus ∷ identifier ∷ minus ∷ identifier ∷ semicolon ∷ word_end ∷ identifier ∷ semicolon ∷ []
 
 pub left_grouped : rows_in (file_reading (λ i j. true) (numbers left_grouped_text)) ≡ (1 ∷ 0 ∷ 17 ∷ 8 ∷ 0 ∷ []) ∷ (4 ∷ 3 ∷ 11 ∷ 7 ∷ 3 ∷ []) ∷ (31 ∷ 6 ∷ 1 ∷ 1 ∷ 6 ∷ []) ∷ (29 ∷ 8 ∷ 5 ∷ 5 ∷ 11 ∷ []) ∷ (29 ∷ 8 ∷ 3 ∷ 3 ∷ 9 ∷ []) ∷ (24 ∷ 8 ∷ 1 ∷ 1 ∷ 8 ∷ []) ∷ (24 ∷ 10 ∷ 1 ∷ 1 ∷ 10 ∷ []) ∷ (24 ∷ 12 ∷ 1 ∷ 1 ∷ 12 ∷ []) ∷ []
 unfolding reading_from runs does
@@ -36,7 +36,7 @@ left_grouped = refl
 
 -- -5 mod 3 is the sign over the whole term
 abbrev sign_over_term_text : List Sym
-sign_over_term_text = word_package ∷ identifier ∷ word_is ∷ word_constant ∷ identifier ∷ colon ∷ identifier ∷ becomes ∷ minus ∷ integer ∷ word_mod ∷ integer ∷ semicolon ∷ word_end_lem ∷ identifier ∷ semicolon ∷ []
+sign_over_term_text = word_package ∷ identifier ∷ word_is ∷ word_constant ∷ identifier ∷ colon ∷ identifier ∷ becomes ∷ minus ∷ integer ∷ word_mod ∷ integer ∷ semicolon ∷ word_end ∷ identifier ∷ semicolon ∷ []
 
 pub sign_over_term : rows_in (file_reading (λ i j. true) (numbers sign_over_term_text)) ≡ (1 ∷ 0 ∷ 16 ∷ 7 ∷ 0 ∷ []) ∷ (4 ∷ 3 ∷ 10 ∷ 6 ∷ 3 ∷ []) ∷ (31 ∷ 6 ∷ 1 ∷ 1 ∷ 6 ∷ []) ∷ (28 ∷ 8 ∷ 4 ∷ 4 ∷ 8 ∷ []) ∷ (29 ∷ 9 ∷ 3 ∷ 3 ∷ 10 ∷ []) ∷ (27 ∷ 9 ∷ 1 ∷ 1 ∷ 9 ∷ []) ∷ (27 ∷ 11 ∷ 1 ∷ 1 ∷ 11 ∷ []) ∷ []
 unfolding reading_from runs does
@@ -44,7 +44,7 @@ sign_over_term = refl
 
 -- a ( 1 ) ' range : each step of a name over the one before
 abbrev postfix_text : List Sym
-postfix_text = word_package ∷ identifier ∷ word_is ∷ word_constant ∷ identifier ∷ colon ∷ identifier ∷ becomes ∷ identifier ∷ left_paren ∷ integer ∷ right_paren ∷ tick ∷ word_range ∷ semicolon ∷ word_end_lem ∷ identifier ∷ semicolon ∷ []
+postfix_text = word_package ∷ identifier ∷ word_is ∷ word_constant ∷ identifier ∷ colon ∷ identifier ∷ becomes ∷ identifier ∷ left_paren ∷ integer ∷ right_paren ∷ tick ∷ word_range ∷ semicolon ∷ word_end ∷ identifier ∷ semicolon ∷ []
 
 pub postfix : rows_in (file_reading (λ i j. true) (numbers postfix_text)) ≡ (1 ∷ 0 ∷ 18 ∷ 7 ∷ 0 ∷ []) ∷ (4 ∷ 3 ∷ 12 ∷ 6 ∷ 3 ∷ []) ∷ (31 ∷ 6 ∷ 1 ∷ 1 ∷ 6 ∷ []) ∷ (26 ∷ 8 ∷ 6 ∷ 4 ∷ 8 ∷ []) ∷ (25 ∷ 8 ∷ 4 ∷ 3 ∷ 8 ∷ []) ∷ (24 ∷ 8 ∷ 1 ∷ 1 ∷ 8 ∷ []) ∷ (27 ∷ 10 ∷ 1 ∷ 1 ∷ 10 ∷ []) ∷ []
 unfolding reading_from runs does
@@ -52,9 +52,9 @@ postfix = refl
 
 -- a closing name that differs: refusal 6 at it
 abbrev closing_differs_text : List Sym
-closing_differs_text = word_package ∷ identifier ∷ word_is ∷ word_constant ∷ identifier ∷ colon ∷ identifier ∷ becomes ∷ identifier ∷ semicolon ∷ word_end_lem ∷ identifier ∷ semicolon ∷ []
+closing_differs_text = word_package ∷ identifier ∷ word_is ∷ word_constant ∷ identifier ∷ colon ∷ identifier ∷ becomes ∷ identifier ∷ semicolon ∷ word_end ∷ identifier ∷ semicolon ∷ []
 
-pub closing_differs : file_reading (λ i j. false) (numbers closing_differs_text) ≡ stopped 12 name_differs_lem
+pub closing_differs : file_reading (λ i j. false) (numbers closing_differs_text) ≡ stopped 12 name_differs
 unfolding reading_from runs does
 closing_differs = refl
 
@@ -68,7 +68,7 @@ ends_early = refl
 
 -- no operand: refusal 5 at the semicolon
 abbrev first_wrong_text : List Sym
-first_wrong_text = word_package ∷ identifier ∷ word_is ∷ word_constant ∷ identifier ∷ colon ∷ identifier ∷ becomes ∷ semicolon ∷ word_end_lem ∷ identifier ∷ semicolon ∷ []
+first_wrong_text = word_package ∷ identifier ∷ word_is ∷ word_constant ∷ identifier ∷ colon ∷ identifier ∷ becomes ∷ semicolon ∷ word_end ∷ identifier ∷ semicolon ∷ []
 
 pub first_wrong : file_reading (λ i j. true) (numbers first_wrong_text) ≡ bad 8
 unfolding reading_from runs does
@@ -76,7 +76,7 @@ first_wrong = refl
 
 -- a labelled loop: its label is its first child
 abbrev labelled_text : List Sym
-labelled_text = word_architecture ∷ identifier ∷ word_of ∷ identifier ∷ word_is ∷ word_begin ∷ word_process ∷ word_begin ∷ identifier ∷ colon ∷ word_loop ∷ word_end_lem ∷ word_loop ∷ identifier ∷ semicolon ∷ word_end_lem ∷ word_process ∷ semicolon ∷ word_end_lem ∷ semicolon ∷ []
+labelled_text = word_architecture ∷ identifier ∷ word_of ∷ identifier ∷ word_is ∷ word_begin ∷ word_process ∷ word_begin ∷ identifier ∷ colon ∷ word_loop ∷ word_end ∷ word_loop ∷ identifier ∷ semicolon ∷ word_end ∷ word_process ∷ semicolon ∷ word_end ∷ semicolon ∷ []
 
 pub labelled : rows_in (file_reading (λ i j. true) (numbers labelled_text)) ≡ (3 ∷ 0 ∷ 20 ∷ 4 ∷ 0 ∷ []) ∷ (13 ∷ 6 ∷ 12 ∷ 3 ∷ 6 ∷ []) ∷ (20 ∷ 8 ∷ 7 ∷ 2 ∷ 8 ∷ []) ∷ (30 ∷ 8 ∷ 1 ∷ 1 ∷ 8 ∷ []) ∷ []
 unfolding reading_from runs does
@@ -87,9 +87,9 @@ abbrev closing_text : List Sym
 closing_text =
     word_architecture ∷ identifier ∷ word_of ∷ identifier ∷ word_is ∷ word_begin
     ∷ identifier ∷ colon ∷ word_process ∷ word_begin
-    ∷ identifier ∷ colon ∷ word_loop ∷ word_end_lem ∷ word_loop ∷ identifier ∷ semicolon
-    ∷ word_end_lem ∷ word_process ∷ identifier ∷ semicolon
-    ∷ word_end_lem ∷ identifier ∷ semicolon ∷ []
+    ∷ identifier ∷ colon ∷ word_loop ∷ word_end ∷ word_loop ∷ identifier ∷ semicolon
+    ∷ word_end ∷ word_process ∷ identifier ∷ semicolon
+    ∷ word_end ∷ identifier ∷ semicolon ∷ []
 
 pub closing : (closes_at (numbers closing_text) 15 ≡ named (element 10)) × (closes_at (numbers closing_text) 19 ≡ named (element 6)) × (closes_at (numbers closing_text) 22 ≡ named (element 1))
 unfolding walk_over
@@ -99,7 +99,7 @@ closing = (refl, refl, refl)
 abbrev too_many_open_text : List Sym
 too_many_open_text = word_package ∷ identifier ∷ word_is ∷ word_constant ∷ identifier ∷ colon ∷ identifier ∷ becomes ∷ left_paren ∷ left_paren ∷ left_paren ∷ left_paren ∷ left_paren ∷ left_paren ∷ left_paren ∷ left_paren ∷ left_paren ∷ left_paren ∷ left_paren ∷ left_paren ∷ left_paren ∷ left_paren ∷ left_paren ∷ left_paren ∷ left_paren ∷ left_paren ∷ left_paren ∷ left_paren ∷ left_paren ∷ left_paren ∷ left_paren ∷ left_paren ∷ left_paren ∷ left_paren ∷ left_paren ∷ left_paren ∷ left_paren ∷ left_paren ∷ left_paren ∷ left_paren ∷ left_paren ∷ []
 
-pub too_many_open : file_reading (λ i j. true) (numbers too_many_open_text) ≡ stopped 41 too_deep_lem
+pub too_many_open : file_reading (λ i j. true) (numbers too_many_open_text) ≡ stopped 41 too_deep
 unfolding reading_from runs does
 too_many_open = refl
 

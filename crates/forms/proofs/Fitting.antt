@@ -9,11 +9,11 @@ use lib.Dec.{T, ltb}
 use lib.ListN.{get_or, drop, take, length, length-append}
 use Rattle.laws.proofs.Laws.{clash}
 use Rattle.grammars.specs.code.Grammar.{Sym, nt, act}
-use Rattle.grammars.specs.code.Actions.{go, stop, Reads, done, eat, acts, grow}
+use Rattle.grammars.specs.code.Actions.{go, Reads, done, eat, acts, grow}
 use Rattle.grammars.proofs.Check.{imp}
 use Rattle.forms.specs.code.Rules.{forms}
 use Rattle.forms.specs.Tree.{Row, Forest, bare, tree}
-use Rattle.forms.specs.code.RuleActions.{Frame, State, Refusal, name_differs_lem, too_deep_lem, fresh, top, on_top, joined, marked, named, frame_row, rowed, frame_is_named, does, start, state_rows, Reading}
+use Rattle.forms.specs.code.RuleActions.{Frame, State, Refusal, fresh, top, on_top, joined, marked, named, frame_row, rowed, frame_is_named, does, start, state_rows, Reading}
 use Rattle.forms.specs.code.RuleNames.{file, constant, subtype, name_number}
 use Rattle.forms.specs.code.ItemReading.{ItemReading}
 use Rattle.forms.specs.FormLines.{OwnItem, at, row, operates, is_branch, sort, rows, form_line, Fits, elements, sort_of, items_in, own_items, operator_at, RowsFit}

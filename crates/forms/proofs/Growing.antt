@@ -1,17 +1,16 @@
 -- A reading's rows are a forest within its elements: every action keeps the rows of each open frame one. Assumes nothing.
 use Prim.Native.Nat.{ℕ, zero, suc, ◌+◌, ◌-◌, ◌≤◌}
 use mathlib.Core.Path.{◌≡◌, refl, sym, ◌∙◌, ap, subst}
-use mathlib.Core.Bool.{Bool, true, false, cond}
+use mathlib.Core.Bool.{Bool}
 use mathlib.Core.List.{List, [], ◌∷◌, ◌++◌, append_assoc, append-nil}
 use native.Mathlib.Omega.{arith}
 use lib.Dec.{ltb}
 use lib.ListN.{length}
-use Rattle.laws.proofs.Laws.{clash}
 use Rattle.grammars.specs.code.Grammar.{Sym, nt}
-use Rattle.grammars.specs.code.Actions.{go, stop, Reads, done, eat, acts, grow}
+use Rattle.grammars.specs.code.Actions.{go, Reads, done, eat, acts, grow}
 use Rattle.forms.specs.code.Rules.{forms}
 use Rattle.forms.specs.Tree.{Row, Forest, bare, tree}
-use Rattle.forms.specs.code.RuleActions.{Frame, State, Refusal, name_differs_lem, too_deep_lem, fresh, top, on_top, joined, marked, named, frame_row, rowed, does, start, frame_is_named, state_rows, Reading}
+use Rattle.forms.specs.code.RuleActions.{Frame, State, Refusal, fresh, top, on_top, joined, marked, named, frame_row, rowed, does, start, frame_is_named, state_rows, Reading}
 use Rattle.forms.proofs.Nesting.{Nested, nested_eat, nested_act, nested_grow, nested_from, frame_left}
 use Rattle.forms.proofs.Steps.{same_name_lem, deeper_frames}
 
@@ -81,7 +80,7 @@ stands : (alike : ℕ → ℕ → Bool) {α : List Sym} {k : ℕ} {s t : State} 
 stands alike {k = k} {t = t} done n h = let z : k ≡ k + 0 = omega arith in subst (λ (x : ℕ). Standing x t.frames) z h
 stands alike (eat {a = a} {k = k} {α = α} {w = w} {s = s} {s' = t} r) n h =
     let z : suc k + length w ≡ k + suc (length w) = omega arith in
-    let i = n.inner-is in
+    let i = n.inner_is in
     subst (λ (x : ℕ). Standing x t.frames) z (stands alike r (nested_eat a α s n) (standing_eat k s.frames h (omega arith)))
 stands alike (acts {a = a} {k = k} {α = α} {s = s} {t = u} e r) n h = stands alike r (nested_act alike k a α s u e n) (kept alike k s u a e h)
 stands alike (grow {n = m} {α = α} {s = s} p l e r) n h = stands alike r (nested_grow p l m α s n) h

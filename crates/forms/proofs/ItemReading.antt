@@ -21,9 +21,9 @@ use Rattle.grammars.proofs.Spare.{Fewer, credit, debit, fewer_grow, fewer_done}
 use Rattle.forms.specs.code.RuleNames.{constant, subtype, subtype_range, range, direction, name, name_rest, attribute, expression, logic, and_chain, or_chain, xor_chain, xnor_chain, relation, compared, relational, simple, first_term, sign, added, adding, term, multiplied, multiplying, factor, raised, primary, literal, mark, name_count, name_number, name_numbers, first_row}
 use Rattle.forms.specs.code.Rules.{forms, body}
 use Rattle.forms.specs.code.Picks.{predict}
-use Rattle.forms.specs.code.RuleActions.{Frame, State, Refusal, name_differs_lem, too_deep_lem, fresh, top, on_top, joined, marked, named, rowed, frame_is_named, does, start}
+use Rattle.forms.specs.code.RuleActions.{Frame, State, Refusal, name_differs, too_deep, fresh, top, on_top, joined, marked, named, rowed, frame_is_named, does, start}
 use Rattle.forms.specs.code.Reading.{steps, reading_from}
-use Rattle.forms.specs.code.ItemReading.{IsItem, ItemReading, ReadsItems, ItemsAnswer, KindsAlone, OneItem, FewerRows}
+use Rattle.forms.specs.code.ItemReading.{IsItem, ItemReading, ReadsItems, KindsAlone, OneItem, FewerRows}
 use Rattle.forms.proofs.Positive.{picked}
 use Rattle.forms.proofs.Tests.{tables, forms_ll, weight, leads, steps_paid, is_row, spare, rows_spare}
 
@@ -189,10 +189,10 @@ few_act alike (suc (suc (suc zero))) k s t α e h =
     let z : ◌≡◌ {A = State} (record { frames = on_top (named k) s.frames; depth = s.depth }) t = cc in
     omega (arith, ap (λ (x : State). rows_in x.frames) z, rows_named k s.frames)
 few_act alike (suc (suc (suc (suc zero)))) k s t α e h =
-    let z : s ≡ t = picked (frame_is_named alike (top s.frames).name (k - 1)) s name_differs_lem t e in
+    let z : s ≡ t = picked (frame_is_named alike (top s.frames).name (k - 1)) s name_differs t e in
     omega (arith, ap (λ (x : State). rows_in x.frames) z)
 few_act alike (suc (suc (suc (suc (suc zero))))) k s t α e h =
-    let z = picked (ltb s.depth 32) (record { frames = s.frames; depth = s.depth + 1 }) too_deep_lem t e in
+    let z = picked (ltb s.depth 32) (record { frames = s.frames; depth = s.depth + 1 }) too_deep t e in
     omega (arith, ap (λ (x : State). rows_in x.frames) z)
 few_act alike (suc (suc (suc (suc (suc (suc zero)))))) k s t α e h =
     let z : ◌≡◌ {A = State} (record { frames = s.frames; depth = s.depth - 1 }) t = cc in

@@ -66,7 +66,7 @@ wrong_at : (w : List ℕ) (j : ℕ) → alone w ≡ plain.Out.bad j → (j ≤ l
 wrong_at w j e =
     let r = theory.viable forms predict tables forms_ll (steps (length w)) (file ∷ []) w 0 j begun e in
     let z : r.more ≡ j = omega (arith, r.place) in (
-      subst (λ (x : ℕ). x ≤ length w) z r.inside-text,
+      subst (λ (x : ℕ). x ≤ length w) z r.inside_text,
       subst (λ (x : ℕ). BeginsFile w x) z (r.rest, r.begins),
       (λ l b. r.no_more b.0 (omega arith) (subst (λ (x : ℕ). IsFile (take (suc x) w ++ b.0)) (sym z) b.1)),
       λ l g. ⊎_elim (λ q. let y : ◌≡◌ {A = ℕ} 0 1 = cc in clash y) (never w) (theory.complete forms predict tables forms_ll (steps (length w)) 0 g begun),
@@ -94,6 +94,6 @@ still_begins alike w j r e = go (alone w) refl
     go plain.Out.spent q = absurd (never w q)
 
 -- where refusal 5 comes there is no file
-pub no_file_lem : (alike : ℕ → ℕ → Bool) (w : List ℕ) (j : ℕ) → file_reading alike w ≡ bad j → IsFile w → ⊥
-no_file_lem alike w j e g =
+pub no_file : (alike : ℕ → ℕ → Bool) (w : List ℕ) (j : ℕ) → file_reading alike w ≡ bad j → IsFile w → ⊥
+no_file alike w j e g =
     ⊎_elim (λ q. let y : ◌≡◌ {A = ℕ} 0 1 = cc (agrees alike w (bad j) e) in clash y) (never w) (theory.complete forms predict tables forms_ll (steps (length w)) 0 g begun)

@@ -15,7 +15,7 @@ use Rattle.grammars.specs.code.Actions.{go, stop, Reads, done, eat, acts, grow}
 use Rattle.grammars.proofs.Room as room
 use Rattle.forms.specs.code.RuleNames.{file}
 use Rattle.forms.specs.code.Rules.{forms, body}
-use Rattle.forms.specs.code.RuleActions.{Frame, State, Refusal, name_differs_lem, too_deep_lem, fresh, top, on_top, joined, marked, named, rowed, does, start, frame_is_named, Reading}
+use Rattle.forms.specs.code.RuleActions.{Frame, State, Refusal, too_deep, fresh, top, on_top, joined, marked, named, rowed, does, start, frame_is_named, Reading}
 use Rattle.forms.proofs.Tests as tests
 use Rattle.forms.proofs.Steps.{same_name_lem}
 
@@ -60,7 +60,7 @@ module _ (alike : ℕ → ℕ → Bool) (k : ℕ) (s t : State) (α : List Sym) 
         most = omega arith;
       }
 
-  below_most : (b : Bool) → ltb s.depth 32 ≡ b → cond b (go (record { frames = s.frames; depth = s.depth + 1 })) (stop too_deep_lem) ≡ go t
+  below_most : (b : Bool) → ltb s.depth 32 ≡ b → cond b (go (record { frames = s.frames; depth = s.depth + 1 })) (stop too_deep) ≡ go t
       → (◌≡◌ {A = State} (record { frames = s.frames; depth = s.depth + 1 }) t) × (s.depth < 32)
   below_most true q e = (cc, ltb-true s.depth 32 q)
   below_most false q e = let z : ◌≡◌ {A = ℕ} 0 1 = cc in clash z
@@ -132,17 +132,17 @@ pub nested_grow : (p : ℕ) → p < forms.count → (n : ℕ) (α : List Sym) (s
 nested_grow p b n α s h =
     record {
       inner = h.inner;
-      inner_is = h.inner-is;
-      frame_nest = room.nest_grow tests.opening tests.closing 0 h.inner (body p) α (tests.frames_nest p b) h.frame-nest;
-      open_nest = room.nest_grow tests.deepening tests.ending 0 s.depth (body p) α (tests.open_nests p b) h.open-nest;
+      inner_is = h.inner_is;
+      frame_nest = room.nest_grow tests.opening tests.closing 0 h.inner (body p) α (tests.frames_nest p b) h.frame_nest;
+      open_nest = room.nest_grow tests.deepening tests.ending 0 s.depth (body p) α (tests.open_nests p b) h.open_nest;
       most = h.most;
     }
 
 pub nested_eat : (a : ℕ) (α : List Sym) (s : State) → Nested s (tok a ∷ α) → Nested s α
-nested_eat a α s h = record { inner = h.inner; inner_is = h.inner-is; frame_nest = h.frame-nest; open_nest = h.open-nest; most = h.most }
+nested_eat a α s h = record { inner = h.inner; inner_is = h.inner_is; frame_nest = h.frame_nest; open_nest = h.open_nest; most = h.most }
 
 pub nested_act : (alike : ℕ → ℕ → Bool) (k a : ℕ) (α : List Sym) (s t : State) → does alike a k s ≡ go t → Nested s (act a ∷ α) → Nested t α
-nested_act alike k a α s t e h = moved alike k s t α h.inner h.inner-is h.most a e h.frame-nest h.open-nest
+nested_act alike k a α s t e h = moved alike k s t α h.inner h.inner_is h.most a e h.frame_nest h.open_nest
 
 pub nested_from : (m : ℕ) → Nested start (nt m ∷ [])
 nested_from m = record { inner = 0; inner_is = refl; frame_nest = refl; open_nest = refl; most = omega arith }
@@ -157,7 +157,7 @@ nested_reads alike (acts {a = a} {k = k} {α = α} {s = s} {t = t} e r) h = nest
 nested_reads alike (grow {n = n} {α = α} {s = s} p l e r) h = nested_reads alike r (nested_grow p l n α s h)
 
 pub frame_left : (m : ℕ) (alike : ℕ → ℕ → Bool) (w : List ℕ) (s : State) → Reads State Refusal forms (does alike) (nt m ∷ []) 0 start w s → length s.frames ≡ 1
-frame_left m alike w s r = let n = nested_reads alike r (nested_from m) in n.inner-is ∙ ap suc n.frame-nest
+frame_left m alike w s r = let n = nested_reads alike r (nested_from m) in n.inner_is ∙ ap suc n.frame_nest
 
 pub one_frame : (alike : ℕ → ℕ → Bool) (w : List ℕ) (s : State) → Reading alike w s → length s.frames ≡ 1
 one_frame = frame_left 0

@@ -17,12 +17,12 @@ use Rattle.grammars.proofs.Check.{below_at, every, every_at}
 use Rattle.grammars.proofs.Trail.{Trail, whole, more, other, none, refuses, eats, acts, grows}
 use Rattle.forms.specs.code.RuleNames.{file}
 use Rattle.forms.specs.code.Rules.{forms, body}
-use Rattle.forms.specs.code.RuleActions.{State, Refusal, name_differs_lem, too_deep_lem, fresh, top, on_top, joined, marked, named, rowed, frame_is_named, does, Reading}
+use Rattle.forms.specs.code.RuleActions.{State, Refusal, name_differs, too_deep, fresh, top, on_top, joined, marked, named, rowed, frame_is_named, does}
 use Rattle.forms.specs.code.Reading.{file_reading}
 use Rattle.forms.specs.Open.{Role, opening, closing, neither, role, after, open_from, open_after}
 use Rattle.forms.proofs.Hints as hints
 use Rattle.forms.proofs.Tests as tests
-use Rattle.forms.proofs.Meaning.{trailed, reads_files}
+use Rattle.forms.proofs.Meaning.{trailed}
 use Rattle.forms.proofs.Steps.{same_name_lem, one_deeper}
 
 abbrev last : ℕ → List ℕ
@@ -200,7 +200,7 @@ module _ (alike : ℕ → ℕ → Bool) (k : ℕ) (s t : State) (α : List Sym) 
       other : (a : ℕ) → (a ≡ 5 → ⊥) → (a ≡ 6 → ⊥) → cond (eqb a 5) opening (cond (eqb a 6) closing neither) ≡ neither
       other a d e = rw (ne_eqb a 5 d, ne_eqb a 6 e)
 
-  low_deeper : (c : Bool) → ltb s.depth 32 ≡ c → cond {A = Step State Refusal} c (go (record { frames = s.frames; depth = s.depth + 1 })) (stop too_deep_lem) ≡ go t → t.depth ≤ 32
+  low_deeper : (c : Bool) → ltb s.depth 32 ≡ c → cond {A = Step State Refusal} c (go (record { frames = s.frames; depth = s.depth + 1 })) (stop too_deep) ≡ go t → t.depth ≤ 32
   low_deeper true q e =
       let z : ◌≡◌ {A = State} (record { frames = s.frames; depth = s.depth + 1 }) t = cc in
       let y : s.depth + 1 ≡ t.depth = ap (λ (x : State). x.depth) z in
@@ -219,15 +219,15 @@ module _ (alike : ℕ → ℕ → Bool) (k : ℕ) (s t : State) (α : List Sym) 
   low_kept (suc (suc (suc (suc (suc (suc (suc f))))))) e l = omega (arith, of (record { frames = on_top (rowed f k) s.frames; depth = s.depth }) (cc))
 
 -- an action refuses for depth only at the opening action
-named_not_deep : (s : State) (c : Bool) → cond c (go s) (stop name_differs_lem) ≡ stop too_deep_lem → ⊥
+named_not_deep : (s : State) (c : Bool) → cond c (go s) (stop name_differs) ≡ stop too_deep → ⊥
 named_not_deep s true e = let z : ◌≡◌ {A = ℕ} 0 1 = cc in clash z
 named_not_deep s false e = let z : ◌≡◌ {A = ℕ} 0 1 = cc in clash z
 
-full : (s : State) (c : Bool) → ltb s.depth 32 ≡ c → cond {A = Step State Refusal} c (go (record { frames = s.frames; depth = s.depth + 1 })) (stop too_deep_lem) ≡ stop too_deep_lem → 32 ≤ s.depth
+full : (s : State) (c : Bool) → ltb s.depth 32 ≡ c → cond {A = Step State Refusal} c (go (record { frames = s.frames; depth = s.depth + 1 })) (stop too_deep) ≡ stop too_deep → 32 ≤ s.depth
 full s true q e = let z : ◌≡◌ {A = ℕ} 0 1 = cc in clash z
 full s false q e = ltb-false s.depth 32 q
 
-pub deepens : (alike : ℕ → ℕ → Bool) (k : ℕ) (s : State) (a : ℕ) → does alike a k s ≡ stop too_deep_lem → (a ≡ 5) × (32 ≤ s.depth)
+pub deepens : (alike : ℕ → ℕ → Bool) (k : ℕ) (s : State) (a : ℕ) → does alike a k s ≡ stop too_deep → (a ≡ 5) × (32 ≤ s.depth)
 unfolding does
 deepens alike k s zero e = let z : ◌≡◌ {A = ℕ} 0 1 = cc in clash z
 deepens alike k s (suc zero) e = let z : ◌≡◌ {A = ℕ} 0 1 = cc in clash z
@@ -239,11 +239,11 @@ deepens alike k s (suc (suc (suc (suc (suc (suc zero)))))) e = let z : ◌≡◌
 deepens alike k s (suc (suc (suc (suc (suc (suc (suc f))))))) e = let z : ◌≡◌ {A = ℕ} 0 1 = cc in clash z
 
 -- an action refuses for a name only at the comparing action
-deep_not_named : (s : State) (c : Bool) → cond {A = Step State Refusal} c (go (record { frames = s.frames; depth = s.depth + 1 })) (stop too_deep_lem) ≡ stop name_differs_lem → ⊥
+deep_not_named : (s : State) (c : Bool) → cond {A = Step State Refusal} c (go (record { frames = s.frames; depth = s.depth + 1 })) (stop too_deep) ≡ stop name_differs → ⊥
 deep_not_named s true e = let z : ◌≡◌ {A = ℕ} 0 1 = cc in clash z
 deep_not_named s false e = let z : ◌≡◌ {A = ℕ} 0 1 = cc in clash z
 
-pub compares : (alike : ℕ → ℕ → Bool) (k : ℕ) (s : State) (a : ℕ) → does alike a k s ≡ stop name_differs_lem → a ≡ 4
+pub compares : (alike : ℕ → ℕ → Bool) (k : ℕ) (s : State) (a : ℕ) → does alike a k s ≡ stop name_differs → a ≡ 4
 unfolding does
 compares alike k s zero e = let z : ◌≡◌ {A = ℕ} 0 1 = cc in clash z
 compares alike k s (suc zero) e = let z : ◌≡◌ {A = ℕ} 0 1 = cc in clash z
@@ -261,8 +261,8 @@ grown_role q l α h = head_append (body q) α h ∙ same_role_lem (head_role (bo
 abbrev pub Within : End State Refusal → ℕ → Type 0
 Within (read s) m = Unit {0}
 Within (bad j) m = m ≤ j
-Within (stopped j name_differs_lem) m = m ≤ j
-Within (stopped j too_deep_lem) m = m < j
+Within (stopped j name_differs) m = m ≤ j
+Within (stopped j too_deep) m = m < j
 Within spent m = ⊥
 
 module _ (alike : ℕ → ℕ → Bool) where
@@ -281,11 +281,11 @@ module _ (alike : ℕ → ℕ → Bool) where
   low p d other fi c l (suc i) m = absurd (omega arith)
   low p d none fi c l zero m = omega arith
   low p d none fi c l (suc i) m = absurd (omega arith)
-  low p d (refuses {a = a} {k = k} {α = α} {s = s} {r = name_differs_lem} q) fi c l zero m =
+  low p d (refuses {a = a} {k = k} {α = α} {s = s} {r = name_differs} q) fi c l zero m =
       let z : after neither s.depth ≡ d = ap (λ (x : ℕ). after (head_role (act x ∷ α)) s.depth) (sym (compares alike k s a q)) ∙ c in
       omega arith
-  low p d (refuses {r = name_differs_lem} q) fi c l (suc i) m = absurd (omega arith)
-  low p d (refuses {r = too_deep_lem} q) fi c l i m = absurd (omega arith)
+  low p d (refuses {r = name_differs} q) fi c l (suc i) m = absurd (omega arith)
+  low p d (refuses {r = too_deep} q) fi c l i m = absurd (omega arith)
   low p d (eats r) fi c l zero m = omega arith
   low p d (eats {a = a} {k = k} {α = α} {w = w} {s = s} {o = o} r) fi c l (suc i) m =
       let z : k + suc i ≡ suc k + i = omega arith in
@@ -297,15 +297,15 @@ module _ (alike : ℕ → ℕ → Bool) where
       low p d r (fine_grow q b n e p α fi) (ap (λ (x : Role). after x s.depth) (grown_role q b α fi.0) ∙ c) l i m
 
   -- a refusal for depth at j
-  deep : {α : List Sym} {k : ℕ} {s : State} {w : List ℕ} {o : End State Refusal} (p d j : ℕ) → Way α k s w o → o ≡ stopped j too_deep_lem → Fine (one p) α → after (head_role α) s.depth ≡ d → s.depth ≤ 32
+  deep : {α : List Sym} {k : ℕ} {s : State} {w : List ℕ} {o : End State Refusal} (p d j : ℕ) → Way α k s w o → o ≡ stopped j too_deep → Fine (one p) α → after (head_role α) s.depth ≡ d → s.depth ≤ 32
       → (i : ℕ) × ((j ≡ k + i) × (open_from p d w i ≡ 33))
   unfolding open_from
   deep p d j whole u fi c l = let z : ◌≡◌ {A = ℕ} 0 1 = cc in clash z
   deep p d j more u fi c l = let z : ◌≡◌ {A = ℕ} 0 1 = cc in clash z
   deep p d j other u fi c l = let z : ◌≡◌ {A = ℕ} 0 1 = cc in clash z
   deep p d j none u fi c l = let z : ◌≡◌ {A = ℕ} 0 1 = cc in clash z
-  deep p d j (refuses {r = name_differs_lem} q) u fi c l = let z : ◌≡◌ {A = ℕ} 0 1 = cc in clash z
-  deep p d j (refuses {a = a} {k = k} {α = α} {s = s} {r = too_deep_lem} q) u fi c l =
+  deep p d j (refuses {r = name_differs} q) u fi c l = let z : ◌≡◌ {A = ℕ} 0 1 = cc in clash z
+  deep p d j (refuses {a = a} {k = k} {α = α} {s = s} {r = too_deep} q) u fi c l =
       let r = deepens alike k s a q in
       let z : k ≡ j = cc in
       let y : after opening s.depth ≡ d = ap (λ (x : ℕ). after (head_role (act x ∷ α)) s.depth) (sym r.0) ∙ c in
@@ -334,9 +334,9 @@ within alike w o e i m =
     low alike 0 0 (trailed alike w) begun refl (omega arith) i (subst (λ (x : End State Refusal). Within x (0 + i)) (sym e) (subst (Within o) z m))
 
 -- refusal 7, when j elements were read: they leave 33 open, and none before them did
-pub too_deep_at : (alike : ℕ → ℕ → Bool) (w : List ℕ) (j : ℕ) → file_reading alike w ≡ stopped j too_deep_lem → (open_after w j ≡ 33) × ((i : ℕ) → i < j → open_after w i ≤ 32)
+pub too_deep_at : (alike : ℕ → ℕ → Bool) (w : List ℕ) (j : ℕ) → file_reading alike w ≡ stopped j too_deep → (open_after w j ≡ 33) × ((i : ℕ) → i < j → open_after w i ≤ 32)
 too_deep_at alike w j e =
     let r = deep alike 0 0 j (trailed alike w) e begun refl (omega arith) in
     let l = r.1.0 in
     let z : r.0 ≡ j = omega arith in
-    (subst (λ (x : ℕ). open_after w x ≡ 33) z r.1.1, within alike w (stopped j too_deep_lem) e)
+    (subst (λ (x : ℕ). open_after w x ≡ 33) z r.1.1, within alike w (stopped j too_deep) e)

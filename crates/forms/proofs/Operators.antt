@@ -10,12 +10,12 @@ use lib.Dec.{T, eqb, ltb, eqb→eq}
 use lib.ListN.{get_or, drop}
 use Rattle.laws.proofs.Laws.{clash, is_true}
 use Rattle.grammars.specs.code.Grammar.{Sym, tok, nt, act}
-use Rattle.grammars.specs.code.Actions.{go, stop, Reads, done, eat, acts, grow}
+use Rattle.grammars.specs.code.Actions.{go, Reads, done, eat, acts, grow}
 use Rattle.grammars.proofs.Theory.{mem, and_left, and_right, one_of, is_one_lem}
 use Rattle.grammars.proofs.Check.{below_at, every, every_at}
 use Rattle.forms.specs.code.Rules.{forms, body}
 use Rattle.forms.specs.Tree.{Row, EachRow}
-use Rattle.forms.specs.code.RuleActions.{Frame, State, Refusal, name_differs_lem, too_deep_lem, fresh, top, on_top, joined, marked, named, frame_row, rowed, frame_is_named, does, state_rows, Reading}
+use Rattle.forms.specs.code.RuleActions.{Frame, State, Refusal, fresh, top, on_top, joined, marked, named, frame_row, rowed, frame_is_named, does, state_rows, Reading}
 use Rattle.forms.specs.Spellings.{spelled_among}
 use Rattle.forms.specs.OperatorElements.{unary_operators, binary_operators}
 use Rattle.forms.proofs.Hints as hints
@@ -201,7 +201,7 @@ module _ (W : List ℕ) where
         just_read = 0;
         operator = h.operator;
         around = h.around;
-        marks = marks_grow p l n e h.operator h.just-read h.around α h.marks;
+        marks = marks_grow p l n e h.operator h.just_read h.around α h.marks;
         stand = h.stand;
         just = tt;
       }
@@ -275,27 +275,27 @@ module _ (W : List ℕ) where
 
     over : (a : ℕ) (g : Frame → Frame) → ((f : Frame) → (g f).first ≡ f.first) → on_top g s.frames ≡ t.frames → (h : Held k s (act a ∷ α)) (q' : ℕ)
         → ((f : Frame) → f.first ≡ (top s.frames).first → Operates k f.first f.operator h.operator → EachRow (MarkRight W) f.rows → Operates k f.first (g f).operator q' × EachRow (MarkRight W) (g f).rows)
-        → Marks h.just-read q' h.around α → Held k t α
+        → Marks h.just_read q' h.around α → Held k t α
     over a g e z h q' fits m =
-        to (on_top g s.frames) z h.just-read q' h.around m (stand_top g k h.operator q' s.frames h.around e fits h.stand)
-        (subst (λ (x : ℕ). Just k x h.just-read) (top_first g s.frames e) h.just)
+        to (on_top g s.frames) z h.just_read q' h.around m (stand_top g k h.operator q' s.frames h.around e fits h.stand)
+        (subst (λ (x : ℕ). Just k x h.just_read) (top_first g s.frames e) h.just)
 
     held_act : (a : ℕ) → does alike a k s ≡ go t → Held k s (act a ∷ α) → Held k t α
     unfolding does
     held_act zero e h =
         to (fresh k ∷ s.frames) (of (record { frames = fresh k ∷ s.frames; depth = s.depth }) (cc)) 0 0 (h.operator ∷ h.around) h.marks (omega arith, refl, tt, h.stand) tt
-    held_act (suc zero) e h = close h.just-read h.operator h.around (of (record { frames = joined s.frames; depth = s.depth }) (cc)) h.marks h.stand h.just
+    held_act (suc zero) e h = close h.just_read h.operator h.around (of (record { frames = joined s.frames; depth = s.depth }) (cc)) h.marks h.stand h.just
     held_act (suc (suc zero)) e h =
-        over 2 (marked (k - 1)) (λ f. refl) (of (record { frames = on_top (marked (k - 1)) s.frames; depth = s.depth }) (cc)) h h.just-read
-        (λ f z o r. (mark_fits k h.just-read f.first h.marks.0 (subst (λ (x : ℕ). Just k x h.just-read) (sym z) h.just), r)) h.marks.1
+        over 2 (marked (k - 1)) (λ f. refl) (of (record { frames = on_top (marked (k - 1)) s.frames; depth = s.depth }) (cc)) h h.just_read
+        (λ f z o r. (mark_fits k h.just_read f.first h.marks.0 (subst (λ (x : ℕ). Just k x h.just_read) (sym z) h.just), r)) h.marks.1
     held_act (suc (suc (suc zero))) e h =
         over 3 (named k) (λ f. refl) (of (record { frames = on_top (named k) s.frames; depth = s.depth }) (cc)) h h.operator (λ f z o r. (o, r)) h.marks
     held_act (suc (suc (suc (suc zero)))) e h =
-        to s.frames (named_frames s t (frame_is_named alike (top s.frames).name (k - 1)) e) h.just-read h.operator h.around h.marks h.stand h.just
+        to s.frames (named_frames s t (frame_is_named alike (top s.frames).name (k - 1)) e) h.just_read h.operator h.around h.marks h.stand h.just
     held_act (suc (suc (suc (suc (suc zero))))) e h =
-        to s.frames (deeper_frames s t (ltb s.depth 32) e) h.just-read h.operator h.around h.marks h.stand h.just
+        to s.frames (deeper_frames s t (ltb s.depth 32) e) h.just_read h.operator h.around h.marks h.stand h.just
     held_act (suc (suc (suc (suc (suc (suc zero)))))) e h =
-        to s.frames (of (record { frames = s.frames; depth = s.depth - 1 }) (cc)) h.just-read h.operator h.around h.marks h.stand h.just
+        to s.frames (of (record { frames = s.frames; depth = s.depth - 1 }) (cc)) h.just_read h.operator h.around h.marks h.stand h.just
     held_act (suc (suc (suc (suc (suc (suc (suc n))))))) e h =
         over (suc (suc (suc (suc (suc (suc (suc n))))))) (rowed n k) (λ f. refl) (of (record { frames = on_top (rowed n k) s.frames; depth = s.depth }) (cc)) h h.operator
         (λ f z o r. (o, (row_right n k h.operator f h.marks.0 o, r))) h.marks.1

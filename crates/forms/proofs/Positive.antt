@@ -12,7 +12,7 @@ use Rattle.grammars.proofs.Theory.{and_left, and_right}
 use Rattle.grammars.proofs.Check.{below_at}
 use Rattle.forms.specs.code.Rules.{forms, body}
 use Rattle.forms.specs.Tree.{Row}
-use Rattle.forms.specs.code.RuleActions.{Frame, State, Refusal, name_differs_lem, too_deep_lem, fresh, top, on_top, joined, marked, named, rowed, frame_is_named, does}
+use Rattle.forms.specs.code.RuleActions.{Frame, State, Refusal, name_differs, too_deep, fresh, top, on_top, joined, marked, named, rowed, frame_is_named, does}
 
 abbrev pub Positive : List Row → Type 0
 Positive [] = Unit {0}
@@ -69,8 +69,8 @@ module _ (alike : ℕ → ℕ → Bool) (k : ℕ) (s t : State) where
   kept (suc zero) e q h = to (record { frames = joined s.frames; depth = s.depth }) (cc) (all_joined s.frames h)
   kept (suc (suc zero)) e q h = to (record { frames = on_top (marked (k - 1)) s.frames; depth = s.depth }) (cc) (all_top (marked (k - 1)) s.frames (λ f x. x) h)
   kept (suc (suc (suc zero))) e q h = to (record { frames = on_top (named k) s.frames; depth = s.depth }) (cc) (all_top (named k) s.frames (λ f x. x) h)
-  kept (suc (suc (suc (suc zero)))) e q h = to s (picked (frame_is_named alike (top s.frames).name (k - 1)) s name_differs_lem t e) h
-  kept (suc (suc (suc (suc (suc zero))))) e q h = to (record { frames = s.frames; depth = s.depth + 1 }) (picked (ltb s.depth 32) (record { frames = s.frames; depth = s.depth + 1 }) too_deep_lem t e) h
+  kept (suc (suc (suc (suc zero)))) e q h = to s (picked (frame_is_named alike (top s.frames).name (k - 1)) s name_differs t e) h
+  kept (suc (suc (suc (suc (suc zero))))) e q h = to (record { frames = s.frames; depth = s.depth + 1 }) (picked (ltb s.depth 32) (record { frames = s.frames; depth = s.depth + 1 }) too_deep t e) h
   kept (suc (suc (suc (suc (suc (suc zero)))))) e q h = to (record { frames = s.frames; depth = s.depth - 1 }) (cc) h
   kept (suc (suc (suc (suc (suc (suc (suc zero))))))) e q h = absurd q
   kept (suc (suc (suc (suc (suc (suc (suc (suc n)))))))) e q h =

@@ -18,7 +18,7 @@ use Rattle.forms.specs.code.Kinds.{number_of, identifier, word_constant, word_is
 use Rattle.forms.specs.code.RuleNames.{constant, subtype, subtype_range, range, expression, mark, name_number, name_numbers}
 use Rattle.forms.specs.code.Rules.{forms, body, rule_of}
 use Rattle.forms.specs.Tree.{Row}
-use Rattle.forms.specs.code.RuleActions.{Frame, State, Refusal, name_differs_lem, too_deep_lem, fresh, top, on_top, joined, marked, named, rowed, frame_is_named, does, start, state_rows}
+use Rattle.forms.specs.code.RuleActions.{Frame, State, Refusal, name_differs, too_deep, fresh, top, on_top, joined, marked, named, rowed, frame_is_named, does, start, state_rows}
 use Rattle.forms.specs.code.ItemReading.{ItemReading, item_row, mark_row, BeginWithMark}
 use Rattle.forms.proofs.Positive.{picked}
 use Rattle.forms.proofs.Tests as tests
@@ -138,9 +138,9 @@ module _ (alike : ℕ → ℕ → Bool) where
       let z : ◌≡◌ {A = State} (record { frames = on_top (named k) s.frames; depth = s.depth }) t = cc in
       subst (λ (x : State). Keeps (suc i) x.frames) z (keeps_top i (named k) s.frames h)
   keeps_act i (suc (suc zero)) k s t e h =
-      subst (λ (x : State). Keeps (suc i) x.frames) (picked (frame_is_named alike (top s.frames).name (k - 1)) s name_differs_lem t e) h
+      subst (λ (x : State). Keeps (suc i) x.frames) (picked (frame_is_named alike (top s.frames).name (k - 1)) s name_differs t e) h
   keeps_act i (suc (suc (suc zero))) k s t e h =
-      subst (λ (x : State). Keeps (suc i) x.frames) (picked (ltb s.depth 32) (record { frames = s.frames; depth = s.depth + 1 }) too_deep_lem t e) h
+      subst (λ (x : State). Keeps (suc i) x.frames) (picked (ltb s.depth 32) (record { frames = s.frames; depth = s.depth + 1 }) too_deep t e) h
   keeps_act i (suc (suc (suc (suc zero)))) k s t e h =
       let z : ◌≡◌ {A = State} (record { frames = s.frames; depth = s.depth - 1 }) t = cc in
       subst (λ (x : State). Keeps (suc i) x.frames) z h

@@ -2,7 +2,7 @@
 -- row over all of it. Both are computed tests of the rules. Assumes nothing.
 use Prim.Native.Nat.{ℕ, zero, suc, ◌+◌, ◌-◌, ◌≤◌}
 use mathlib.Core.Path.{◌≡◌, refl, sym, ◌∙◌, ap, subst}
-use mathlib.Core.Bool.{Bool, true, false, ◌&&◌, cond}
+use mathlib.Core.Bool.{Bool, true, false, ◌&&◌}
 use mathlib.Core.List.{List, [], ◌∷◌, ◌++◌, append_assoc, append-nil}
 use native.Mathlib.Omega.{arith}
 use lib.Dec.{T, eqb, ltb, eqb→eq, leb→le}
@@ -10,14 +10,14 @@ use lib.ListN.{length}
 use borrow.Author.Tests.{eq-eqb, ne_eqb, le-leb}
 use Rattle.laws.proofs.Laws.{clash}
 use Rattle.grammars.specs.code.Grammar.{Sym, tok, nt, act}
-use Rattle.grammars.specs.code.Actions.{go, stop, Reads, done, eat, acts, grow}
+use Rattle.grammars.specs.code.Actions.{go, Reads, done, eat, acts, grow}
 use Rattle.grammars.proofs.Theory.{mem, and_left, and_right}
 use Rattle.grammars.proofs.Check.{below_at, imp, imp_at}
 use Rattle.grammars.proofs.Room.{pick_t, pick_b, nested, nest_down}
 use Rattle.forms.specs.code.RuleNames.{file, units, unit, package_unit, entity_unit, architecture_unit, name_numbers, first_row}
 use Rattle.forms.specs.code.Rules.{forms, body}
 use Rattle.forms.specs.Tree.{Row, Forest, bare}
-use Rattle.forms.specs.code.RuleActions.{Frame, State, Refusal, name_differs_lem, too_deep_lem, fresh, top, on_top, joined, marked, named, frame_row, rowed, does, frame_is_named, state_rows, Reading}
+use Rattle.forms.specs.code.RuleActions.{Frame, State, Refusal, fresh, top, on_top, joined, marked, named, frame_row, rowed, does, frame_is_named, state_rows, Reading}
 use Rattle.forms.specs.Files.{Tiled, none}
 use Rattle.forms.specs.Files as files
 use Rattle.forms.proofs.Tests as tests
@@ -240,8 +240,8 @@ lowered b k (x ∷ d ∷ o ∷ fs) h = h
 
 inner_one : (a i : ℕ) (α : List Sym) (s : State) → Nested s (act a ∷ α) → length s.frames ≡ suc i → a ≡ 1 → 1 ≤ i
 inner_one a i α s n e z =
-    let m = (nest_down 0 1 0 n.inner a α (λ y. absurd (omega arith)) z n.frame-nest).0 in
-    let q = n.inner-is in
+    let m = (nest_down 0 1 0 n.inner a α (λ y. absurd (omega arith)) z n.frame_nest).0 in
+    let q = n.inner_is in
     omega arith
 
 tiles : (alike : ℕ → ℕ → Bool) {α : List Sym} {k : ℕ} {s t : State} {w : List ℕ} → Reads State Refusal forms (does alike) α k s w t → Nested s α

@@ -116,18 +116,26 @@ module _ {S R : Type 0} (G : Grammar) (predict : ℕ → ℕ → ℕ) (does : �
     found (suc f) (acts e r) φ = rw e (found f r φ)
     found (suc f) (grow {n = n} {α = α} {w = w} p l e r) φ = rw (picked G predict T L p l n e α w φ (kinds r)) (found f r (fol_grow G predict T L p l n e α φ))
 
-    -- one reading: the grammar gives a word one state at the end
-    pub one : {α : List Sym} {k : ℕ} {s a b : S} {w : List ℕ} → Fol G predict T L α → Reads S R G does α k s w a → Reads S R G does α k s w b → a ≡ b
-    one φ done done = refl
-    one φ (eat r) (eat t) = one φ r t
-    one {b = b} φ (acts {k = k} {α = α} {w = w} {t = u} e r) (acts {t = v} d t) =
+    -- one reading of one word under two names, that the words' first elements are the same by the equation alone
+    one_at : {α : List Sym} {k : ℕ} {s a b : S} {w v : List ℕ} → Fol G predict T L α → w ≡ v → Reads S R G does α k s w a → Reads S R G does α k s v b → a ≡ b
+    one_at φ q done done = refl
+    one_at φ q (eat r) (eat t) = one_at φ (tail_eq q) r t
+      where
+        tail_eq : {x y : ℕ} {xs ys : List ℕ} → ◌≡◌ {A = List ℕ} (x ∷ xs) (y ∷ ys) → xs ≡ ys
+        tail_eq h = cc
+    one_at {b = b} {v = w'} φ q (acts {k = k} {α = α} {t = u} e r) (acts {t = v} d t) =
         let z : v ≡ u = cc in
-        one {b = b} φ r (subst (λ (x : S). Reads S R G does α k x w b) z t)
-    one {b = b} φ (grow {n = n} {k = k} {α = α} {w = w} {s = s} p l e r) (grow p' l' e' t) =
+        one_at {b = b} φ q r (subst (λ (x : S). Reads S R G does α k x w' b) z t)
+    one_at {b = b} {w = w} {v = w'} φ q (grow {n = n} {k = k} {α = α} {s = s} p l e r) (grow p' l' e' t) =
         let c = picked G predict T L p l n e α w φ (kinds r) in
-        let c' = picked G predict T L p' l' n e' α w φ (kinds t) in
-        let z : p' ≡ p = inj (sym c' ∙ c) in
-        one {b = b} (fol_grow G predict T L p l n e α φ) r (subst (λ (x : ℕ). Reads S R G does (G.body x ++ α) k s w b) z t)
+        let c' = picked G predict T L p' l' n e' α w' φ (kinds t) in
+        let d : predict n (look w') ≡ suc p = rw (sym q) c in
+        let z : p' ≡ p = inj (sym c' ∙ d) in
+        one_at {b = b} (fol_grow G predict T L p l n e α φ) q r (subst (λ (x : ℕ). Reads S R G does (G.body x ++ α) k s w' b) z t)
       where
         inj : {x y : ℕ} → suc x ≡ suc y → x ≡ y
         inj h = omega arith
+
+    -- one reading: the grammar gives a word one state at the end
+    pub one : {α : List Sym} {k : ℕ} {s a b : S} {w : List ℕ} → Fol G predict T L α → Reads S R G does α k s w a → Reads S R G does α k s w b → a ≡ b
+    one φ r t = one_at φ refl r t

@@ -158,8 +158,8 @@ module _ (G : Grammar) (predict : ℕ → ℕ → ℕ) (S : Tables) where
         table = table;
         firsts = λ p l. every_at (λ t. mem t (S.first (G.lhs p))) (starts p) (below_at G.count first_ok h.2 p l);
         nulls = λ p l. imp_at (nullb S.null (G.body p)) (S.null (G.lhs p)) (below_at G.count null_ok h.4 p l);
-        by_first_lem = λ p l t m. eqb→eq _ _ (every_at (λ t. eqb (predict (G.lhs p) t) (suc p)) (starts p) (below_at G.count by_first h.3 p l) t m);
-        by_null_lem = λ p l z t m. eqb→eq _ _ (every_at (λ t. eqb (predict (G.lhs p) t) (suc p)) (S.follow (G.lhs p)) (imp_at (nullb S.null (G.body p)) _ (below_at G.count by_null h.5 p l) z) t m);
+        by_first = λ p l t m. eqb→eq _ _ (every_at (λ t. eqb (predict (G.lhs p) t) (suc p)) (starts p) (below_at G.count by_first h.3 p l) t m);
+        by_null = λ p l z t m. eqb→eq _ _ (every_at (λ t. eqb (predict (G.lhs p) t) (suc p)) (S.follow (G.lhs p)) (imp_at (nullb S.null (G.body p)) _ (below_at G.count by_null h.5 p l) z) t m);
         inside = λ p l. insideb_is (G.lhs p) (G.body p) (below_at G.count inside_ok h.6 p l);
         words = λ n l. sound G predict table 1000 (nt n ∷ []) (S.word n) 0 (good_is (run G.body predict 1000 (nt n ∷ []) (S.word n) 0) (below_at S.nts word_ok h.7 n l));
       }

@@ -302,18 +302,18 @@ module _ (down : ℕ) (h : ℕ → ℕ) (pos : (n : ℕ) → 1 ≤ h n) where
 
   pub lies_grow : (n : ℕ) (β α : List Sym) → T (part n β) → T (parts n β) → Lies (nt n ∷ α) → Lies (β ++ α)
   lies_grow n β α t u l =
-      let g : high (nt n ∷ α) ≤ 63 = l.now-low in
-      record { now_low = part_ok n β α t (omega arith) (omega arith); then_low = parts_ok n β α u (omega arith) (omega arith) l.then-low }
+      let g : high (nt n ∷ α) ≤ 63 = l.now_low in
+      record { now_low = part_ok n β α t (omega arith) (omega arith); then_low = parts_ok n β α u (omega arith) (omega arith) l.then_low }
 
   pub lies_eat : (a : ℕ) (α : List Sym) → Lies (tok a ∷ α) → Lies α
-  lies_eat a α l = let g : high (tok a ∷ α) ≤ 63 = l.now-low in record { now_low = omega arith; then_low = l.then-low }
+  lies_eat a α l = let g : high (tok a ∷ α) ≤ 63 = l.now_low in record { now_low = omega arith; then_low = l.then_low }
 
   pub lies_act : (a : ℕ) (α : List Sym) → Lies (act a ∷ α) → Lies α
-  lies_act a α l = go (eqb a down) l.now-low l.then-low
+  lies_act a α l = go (eqb a down) l.now_low l.then_low
     where
       go : (b : Bool) → pick_n b 0 (max (1 + sl α) (high α)) ≤ 63 → pick_t b ((high α ≤ 63) × Low α) (Low α) → Lies α
       go true g k = record { now_low = k.0; then_low = k.1 }
       go false g k = record { now_low = omega arith; then_low = k }
 
   pub lies_length : (α : List Sym) → Lies α → length α ≤ 63 + 64 * times down α
-  lies_length α l = omega (arith, room α l.then-low, sl_high α, l.now-low)
+  lies_length α l = omega (arith, room α l.then_low, sl_high α, l.now_low)

@@ -111,8 +111,8 @@ pub record LL (G : Grammar) (predict : ℕ → ℕ → ℕ) (S : Tables) : Type 
   pub table : (n t p : ℕ) → predict n t ≡ suc p → (p < G.count) × (G.lhs p ≡ n)
   pub firsts : (p : ℕ) → p < G.count → (t : ℕ) → T (mem t (inits S.first S.null (G.body p))) → T (mem t (S.first (G.lhs p)))
   pub nulls : (p : ℕ) → p < G.count → T (nullb S.null (G.body p)) → T (S.null (G.lhs p))
-  pub by_first_lem : (p : ℕ) → p < G.count → (t : ℕ) → T (mem t (inits S.first S.null (G.body p))) → predict (G.lhs p) t ≡ suc p
-  pub by_null_lem : (p : ℕ) → p < G.count → T (nullb S.null (G.body p)) → (t : ℕ) → T (mem t (S.follow (G.lhs p))) → predict (G.lhs p) t ≡ suc p
+  pub by_first : (p : ℕ) → p < G.count → (t : ℕ) → T (mem t (inits S.first S.null (G.body p))) → predict (G.lhs p) t ≡ suc p
+  pub by_null : (p : ℕ) → p < G.count → T (nullb S.null (G.body p)) → (t : ℕ) → T (mem t (S.follow (G.lhs p))) → predict (G.lhs p) t ≡ suc p
   pub inside : (p : ℕ) → p < G.count → Inside S.first S.null S.follow S.nts (G.lhs p) (G.body p)
   pub words : (n : ℕ) → n < S.nts → Gen G (nt n ∷ []) (S.word n)
 
@@ -226,7 +226,7 @@ module _ (G : Grammar) (predict : ℕ → ℕ → ℕ) (S : Tables) (L : LL G pr
   picked p l n e α w f g =
       subst (λ (x : ℕ). predict x (look w) ≡ suc p) e
       (⊎_elim (L.by_first p l (look w))
-      (λ r. L.by-null p l r.0 (look w) (subst (λ (x : ℕ). T (mem (look w) (S.follow x))) (sym e) (f.0 (look w) r.1)))
+      (λ r. L.by_null p l r.0 (look w) (subst (λ (x : ℕ). T (mem (look w) (S.follow x))) (sym e) (f.0 (look w) r.1)))
       (may_append S.first S.null (look w) (G.body p) α (may_gen g)))
 
   -- a word that the grammar reads is never refused: it is read, or the steps run out
@@ -270,7 +270,7 @@ module _ (G : Grammar) (predict : ℕ → ℕ → ℕ) (S : Tables) (L : LL G pr
   viable_tok a t α w k j o φ ih true q e =
       let r = ih e in
       let pl = r.place in
-      let it = r.inside-text in
+      let it = r.inside_text in
       let s : a ≡ t = eqb-true a t q in
       record {
         more = suc r.more;
@@ -309,14 +309,14 @@ module _ (G : Grammar) (predict : ℕ → ℕ → ℕ) (S : Tables) (L : LL G pr
   viable_nt n α [] k j f φ ih (suc p) q e =
       let h = L.table n 0 p q in
       let r = ih p (fol_grow p h.0 n h.1 α φ) e in
-      record { more = r.more; place = r.place; inside_text = r.inside-text; rest = r.rest; begins = grow p h.0 h.1 r.begins; no_more = λ v l g. absurd (omega arith) }
+      record { more = r.more; place = r.place; inside_text = r.inside_text; rest = r.rest; begins = grow p h.0 h.1 r.begins; no_more = λ v l g. absurd (omega arith) }
   viable_nt n α (t ∷ w) k j f φ ih (suc p) q e =
       let h = L.table n t p q in
       let r = ih p (fol_grow p h.0 n h.1 α φ) e in
       record {
         more = r.more;
         place = r.place;
-        inside_text = r.inside-text;
+        inside_text = r.inside_text;
         rest = r.rest;
         begins = grow p h.0 h.1 r.begins;
         no_more = λ v l g. r.no_more v l (same_rule n t p α (take r.more w ++ v) φ q g);
@@ -335,7 +335,7 @@ module _ (G : Grammar) (predict : ℕ → ℕ → ℕ) (S : Tables) (L : LL G pr
       viable_tok a t α w k j (run G.body predict f α w (suc k)) φ (viable f α w (suc k) j φ) (eqb a t) refl e
   viable (suc f) (act a ∷ α) w k j φ e =
       let r = viable f α w k j φ e in
-      record { more = r.more; place = r.place; inside_text = r.inside-text; rest = r.rest; begins = skip r.begins; no_more = λ v l g. r.no_more v l (unskip g) }
+      record { more = r.more; place = r.place; inside_text = r.inside_text; rest = r.rest; begins = skip r.begins; no_more = λ v l g. r.no_more v l (unskip g) }
     where
       unskip : {u : List ℕ} → Gen G (act a ∷ α) u → Gen G α u
       unskip (skip g) = g

@@ -86,7 +86,7 @@ fits_sound class (Without s) (inr f) = omega arith
 
 module _ (K : Keeps) where
   ends_six : K.ended state.kind
-  ends_six = K.stop-ends state.kind (K.sort-stops state.kind K.six)
+  ends_six = K.stop_ends state.kind (K.sort_stops state.kind K.six)
 
   -- ---- constants
 
@@ -97,24 +97,24 @@ module _ (K : Keeps) where
   without_constant : (f : Folded) → SoundFolded K f → Constant K (without_of f)
   without_constant (F.Whole z) h = ends_six
   without_constant (F.Truth t) h = ends_six
-  without_constant (F.Stopped s) h = K.stop-ends s h
+  without_constant (F.Stopped s) h = K.stop_ends s h
 
   value_fits : (mark : Value) (f : Folded) → SoundFolded K f → Constant K (value_in mark f)
   value_fits (Number y) f h = without_constant f h
   value_fits (Truth u) f h = without_constant f h
   value_fits (Range low high) (F.Whole z) h = held_fits (le_z low z && le_z z high) z h
   value_fits (Range low high) (F.Truth t) h = ends_six
-  value_fits (Range low high) (F.Stopped s) h = K.stop-ends s h
+  value_fits (Range low high) (F.Stopped s) h = K.stop_ends s h
   value_fits Truths (F.Whole z) h = ends_six
   value_fits Truths (F.Truth t) h = tt
-  value_fits Truths (F.Stopped s) h = K.stop-ends s h
+  value_fits Truths (F.Stopped s) h = K.stop_ends s h
   value_fits (Without s) f h = without_constant f h
 
   pub constant_fits : (mark : Value) (x : Outcome) → Sound K mark → SoundOutcome K x → Constant K (constant_of mark x)
   unfolding constant_of
   constant_fits mark x m h =
       value_fits mark (beside_mark mark x)
-      (settle_sound K (operator_sort (O.Relation Equal) (mark_sort mark) x.sort) x.folded (sort_sound K (O.Relation Equal) (mark_sort mark) x.sort (mark_sound K mark m) h.of-sort) h.of-folded)
+      (settle_sound K (operator_sort (O.Relation Equal) (mark_sort mark) x.sort) x.folded (sort_sound K (O.Relation Equal) (mark_sort mark) x.sort (mark_sound K mark m) h.of_sort) h.of_folded)
 
   -- ---- subtypes
 
@@ -123,7 +123,7 @@ module _ (K : Keeps) where
   subtype_fits (Truth t) m = ends_six
   subtype_fits (Range low high) m = m
   subtype_fits Truths m = tt
-  subtype_fits (Without s) m = K.stop-ends s (K.sort-stops s m)
+  subtype_fits (Without s) m = K.stop_ends s (K.sort_stops s m)
 
   choose_fits : (t : Bool) (v u : Value) → Subtype K v → Subtype K u → Subtype K (cond t v u)
   choose_fits true v u h k = h
@@ -144,14 +144,14 @@ module _ (K : Keeps) where
   bounds_fit mark false (F.Whole x) (F.Whole y) h k = range_fits x y h k mark
   bounds_fit mark true (F.Whole x) (F.Whole y) h k = range_fits y x k h mark
   bounds_fit mark down (F.Whole x) (F.Truth u) h k = ends_six
-  bounds_fit mark down (F.Whole x) (F.Stopped s) h k = K.stop-ends s k
+  bounds_fit mark down (F.Whole x) (F.Stopped s) h k = K.stop_ends s k
   bounds_fit mark down (F.Truth t) g h k = ends_six
-  bounds_fit mark down (F.Stopped s) g h k = K.stop-ends s h
+  bounds_fit mark down (F.Stopped s) g h k = K.stop_ends s h
 
   pub ranged_fits : (mark : Value) (a b : Outcome) (down : Bool) → Sound K mark → SoundOutcome K a → SoundOutcome K b → Subtype K (ranged_of mark a b down)
   unfolding ranged_of
   ranged_fits mark a b down m h k =
       let bounds = operator_sort (O.Arithmetic Add) a.sort b.sort in
       bounds_fit mark down (first_bound mark a b) b.folded
-      (settle_sound K (operator_sort (O.Arithmetic Add) (mark_sort mark) bounds) a.folded (sort_sound K (O.Arithmetic Add) (mark_sort mark) bounds (mark_sound K mark m) (sort_sound K (O.Arithmetic Add) a.sort b.sort h.of-sort k.of-sort)) h.of-folded)
-      k.of-folded
+      (settle_sound K (operator_sort (O.Arithmetic Add) (mark_sort mark) bounds) a.folded (sort_sound K (O.Arithmetic Add) (mark_sort mark) bounds (mark_sound K mark m) (sort_sound K (O.Arithmetic Add) a.sort b.sort h.of_sort k.of_sort)) h.of_folded)
+      k.of_folded

@@ -132,10 +132,10 @@ module _ (K : Keeps) where
   Sound (Without s) = K.sorted s
 
   stops_three : K.stopped state.unfolded
-  stops_three = K.sort-stops state.unfolded K.three
+  stops_three = K.sort_stops state.unfolded K.three
 
   stops_six : K.stopped state.kind
-  stops_six = K.sort-stops state.kind K.six
+  stops_six = K.sort_stops state.kind K.six
 
   -- ---- folding
 
@@ -256,24 +256,24 @@ module _ (K : Keeps) where
   pub settle_sound : (x : Sort) (f : Folded) → SoundSort x → SoundFolded f → SoundFolded (settle x f)
   settle_sound (S.Of Kind.Integer) f h k = k
   settle_sound (S.Of Kind.Truth) f h k = k
-  settle_sound (S.Wrong s) f h k = K.sort-stops s h
+  settle_sound (S.Wrong s) f h k = K.sort_stops s h
 
   -- ---- outcomes
 
   pub wrong_leaf_sound : (s : ℕ) → K.sorted s → SoundOutcome (wrong_leaf s)
-  wrong_leaf_sound s h = record { of_sort = h; of_folded = K.sort-stops s h }
+  wrong_leaf_sound s h = record { of_sort = h; of_folded = K.sort_stops s h }
 
   pub literal_sound : (s : List ℕ) → SoundOutcome (literal_leaf s)
   literal_sound s = let e = literal_sized s in record { of_sort = tt; of_folded = subst SoundFolded (sym e.1) (sized_sound (pos e.0)) }
 
   pub combined_sound : (op : Operator) (x y : Outcome) → SoundOutcome x → SoundOutcome y → SoundOutcome (combined_of op x y)
   combined_sound op x y h k = record {
-    of_sort = sort_sound op x.sort y.sort h.of-sort k.of-sort;
-    of_folded = binary_sound op x.folded y.folded h.of-folded k.of-folded;
+    of_sort = sort_sound op x.sort y.sort h.of_sort k.of_sort;
+    of_folded = binary_sound op x.folded y.folded h.of_folded k.of_folded;
   }
 
   pub signed_sound : (op : Sign) (x : Outcome) → SoundOutcome x → SoundOutcome (signed_of op x)
-  signed_sound op x h = record { of_sort = sign_sound op x.sort h.of-sort; of_folded = unary_sound op x.folded h.of-folded }
+  signed_sound op x h = record { of_sort = sign_sound op x.sort h.of_sort; of_folded = unary_sound op x.folded h.of_folded }
 
   -- ---- values
 

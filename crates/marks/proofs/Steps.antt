@@ -31,10 +31,10 @@ held_below low high z p = rw p
 
 -- ---- a range in its parent's
 
-pub inside_none : (mark : Value) (low high : ℤ) → OneOf (0 ∷ 1 ∷ 3 ∷ 4 ∷ []) (tag_of Val.the_type mark) → Without state.range ≡ inside_of mark low high
+pub inside_none : (mark : Value) (low high : ℤ) → ((a b : ℤ) → mark ≡ Range a b → ⊥) → Without state.range ≡ inside_of mark low high
 inside_none (Number z) low high k = refl
 inside_none (Truth t) low high k = refl
-inside_none (Range least most) low high k = absurd (⊎_elim (λ e. omega arith) (λ k. ⊎_elim (λ e. omega arith) (λ k. ⊎_elim (λ e. omega arith) (λ e. omega arith) k) k) k)
+inside_none (Range least most) low high k = absurd (k least most refl)
 inside_none Truths low high k = refl
 inside_none (Without s) low high k = refl
 
@@ -56,24 +56,24 @@ range_inside mark low high p = rw p
 
 -- ---- an answer that is not what its place wants
 
-pub no_number : (low high : ℤ) (f : Folded) → OneOf (1 ∷ 2 ∷ []) (tag_of Fold.the_type f) → without_of f ≡ value_in (Range low high) f
-no_number low high (F.Whole z) k = absurd (⊎_elim (λ e. omega arith) (λ e. omega arith) k)
+pub no_number : (low high : ℤ) (f : Folded) → ((z : ℤ) → f ≡ F.Whole z → ⊥) → without_of f ≡ value_in (Range low high) f
+no_number low high (F.Whole z) k = absurd (k z refl)
 no_number low high (F.Truth t) k = refl
 no_number low high (F.Stopped s) k = refl
 
-pub no_truth_lem : (f : Folded) → OneOf (0 ∷ 2 ∷ []) (tag_of Fold.the_type f) → without_of f ≡ value_in Truths f
+pub no_truth_lem : (f : Folded) → ((t : Bool) → f ≡ F.Truth t → ⊥) → without_of f ≡ value_in Truths f
 no_truth_lem (F.Whole z) k = refl
-no_truth_lem (F.Truth t) k = absurd (⊎_elim (λ e. omega arith) (λ e. omega arith) k)
+no_truth_lem (F.Truth t) k = absurd (k t refl)
 no_truth_lem (F.Stopped s) k = refl
 
 module _ (mark : Value) where
-  pub first_none : (down : Bool) (f g : Folded) → OneOf (1 ∷ 2 ∷ []) (tag_of Fold.the_type f) → without_of f ≡ bounds_in mark down f g
-  first_none down (F.Whole z) g k = absurd (⊎_elim (λ e. omega arith) (λ e. omega arith) k)
+  pub first_none : (down : Bool) (f g : Folded) → ((z : ℤ) → f ≡ F.Whole z → ⊥) → without_of f ≡ bounds_in mark down f g
+  first_none down (F.Whole z) g k = absurd (k z refl)
   first_none down (F.Truth t) g k = refl
   first_none down (F.Stopped s) g k = refl
 
-  pub second_none : (down : Bool) (x : ℤ) (g : Folded) → OneOf (1 ∷ 2 ∷ []) (tag_of Fold.the_type g) → without_of g ≡ bounds_in mark down (F.Whole x) g
-  second_none down x (F.Whole z) k = absurd (⊎_elim (λ e. omega arith) (λ e. omega arith) k)
+  pub second_none : (down : Bool) (x : ℤ) (g : Folded) → ((z : ℤ) → g ≡ F.Whole z → ⊥) → without_of g ≡ bounds_in mark down (F.Whole x) g
+  second_none down x (F.Whole z) k = absurd (k z refl)
   second_none down x (F.Truth t) k = refl
   second_none down x (F.Stopped s) k = refl
 
@@ -84,11 +84,11 @@ unfolding constant_of
 constant_by mark m x f e q = ap (λ (m : Value). value_in m f) (sym q) ∙ ap (value_in mark) e
 
 module _ (mark : Value) (a b : Outcome) (down : Bool) (f : Folded) (e : f ≡ first_bound mark a b) where
-  pub ranged_first : OneOf (1 ∷ 2 ∷ []) (tag_of Fold.the_type f) → without_of f ≡ ranged_of mark a b down
+  pub ranged_first : ((z : ℤ) → f ≡ F.Whole z → ⊥) → without_of f ≡ ranged_of mark a b down
   unfolding ranged_of
   ranged_first k = first_none mark down f b.folded k ∙ ap (λ (f : Folded). bounds_in mark down f b.folded) e
 
-  pub ranged_second : (x : ℤ) → f ≡ F.Whole x → OneOf (1 ∷ 2 ∷ []) (tag_of Fold.the_type b.folded) → without_of b.folded ≡ ranged_of mark a b down
+  pub ranged_second : (x : ℤ) → f ≡ F.Whole x → ((z : ℤ) → b.folded ≡ F.Whole z → ⊥) → without_of b.folded ≡ ranged_of mark a b down
   unfolding ranged_of
   ranged_second x q k = second_none mark down x b.folded k ∙ ap (λ (f : Folded). bounds_in mark down f b.folded) (sym q ∙ e)
 

@@ -2,10 +2,9 @@
 use Prim.Native.Nat.{ℕ, ◌≤◌}
 use mathlib.Core.Path.{◌≡◌, refl, sym, ap, ap₂, subst, ◌∙◌}
 use mathlib.Core.Logic.{◌⊎◌, inl, inr}
-use mathlib.Core.Bool.{Bool, true, false, cond}
+use mathlib.Core.Bool.{Bool, true, false}
 use mathlib.Core.List.{List, [], ◌∷◌, ◌++◌}
 use native.Mathlib.Omega.{arith}
-use lib.Dec.{eqb}
 use Rattle.laws.proofs.Laws.{clash}
 use Rattle.forms.specs.Tree.{Row}
 use Rattle.pieces.specs.Kinds.{any_down}
@@ -14,7 +13,6 @@ use Rattle.tree.proofs.ItemRows.{constant_read, subtype_read}
 use Rattle.folding.specs.declared.Sort.{Sort}
 use Rattle.folding.specs.declared.Sort.TheVariants as S
 use Rattle.marks.specs.code.Marks.{constant_of}
-use Rattle.marks.proofs.Sound.{late}
 use Rattle.values.specs.ValueWords.{state_of}
 use Rattle.values.specs.declared.Value.{Value}
 use Rattle.values.specs.declared.Value.TheVariants.{Without}
@@ -26,8 +24,7 @@ use Rattle.meaning.specs.ItemForms.{ItemForm, ranged, HasForm, is_constant, is_s
 use Rattle.meaning.specs.States.{ItemMeets, Met, broken, doubled, by_form, Least, NoneMet}
 use Rattle.meaning.specs.Values.{Gives}
 use Rattle.meaning.specs.Meaning.{Comes, stands, gives, Come, none, more}
-use Rattle.meaning.specs.code.PieceValues.{valued, bounded, marked, formed, unless_doubled, value_of, done_of, dones_from}
-use Rattle.meaning.specs.FittingPieces.{FitsAForm}
+use Rattle.meaning.specs.code.PieceValues.{valued, bounded, formed, unless_doubled, value_of, done_of, dones_from}
 use Rattle.meaning.specs.code.Promises.{ComesExactly, ComeExactly, ClassByForm}
 use Rattle.meaning.proofs.States.{Late, use_late, marked_late}
 use Rattle.meaning.proofs.Least.{Exact}
@@ -36,7 +33,7 @@ use Rattle.meaning.proofs.Readings.{constant_reading, subtype_reading}
 use Rattle.meaning.proofs.Begins.{constant_tree_begins, subtype_tree_begins}
 use Rattle.meaning.proofs.Directions.{direction}
 use Rattle.meaning.proofs.Made.{Made, constant_made, subtype_made, ranged_made}
-use Rattle.meaning.proofs.Promises.{first_kind, HasRows, Ways, ways, form_class_lem, broken_value, doubled_value}
+use Rattle.meaning.proofs.Promises.{first_kind, HasRows, Ways, ways, broken_value, doubled_value}
 
 pub class_by_form : ClassByForm
 class_by_form p i (is_constant t x) = (constant_tree_begins p _ t).classed

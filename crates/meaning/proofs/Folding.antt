@@ -2,21 +2,17 @@
 -- Assumes nothing.
 use Prim.Native.Nat.{ℕ, zero, suc, ◌≤◌}
 use mathlib.Core.Path.{◌≡◌, refl, sym, ap, ap₂, subst, ◌∙◌}
-use mathlib.Core.Logic.{◌⊎◌, inl, inr}
-use mathlib.Core.Bool.{Bool, true, false, cond, not}
-use mathlib.Core.List.{List, [], ◌∷◌}
+use mathlib.Core.Bool.{Bool, true, false}
+use mathlib.Core.List.{List, ◌∷◌}
 use native.Mathlib.Omega.{arith}
-use borrow.Author.Tests.{eq-eqb, eqb-true, eqb-false}
+use borrow.Author.Tests.{eqb-true, eqb-false}
 use lib.Dec.{eqb}
-use lib.IntN.{ℤ, pos, nat_abs, neg_ℤ}
 use lib.ListN.{length}
-use Rattle.laws.proofs.Laws.{clash}
 use Rattle.forms.specs.Tree.{Row}
-use Rattle.integers.specs.Integers.{sized_of, arithmetic_of}
 use Rattle.integers.specs.declared.Folded.{Folded}
 use Rattle.integers.specs.declared.Folded.TheVariants.{Whole, Truth, Stopped}
 use Rattle.literals.specs.Literals.{literal_of}
-use Rattle.folding.specs.Operators.{relation_of, truth_place, logic_of, decides}
+use Rattle.folding.specs.Operators.{logic_of, decides}
 use Rattle.folding.specs.code.Folding.{binary_of, unary_of}
 use Rattle.folding.specs.declared.Logic as L
 use Rattle.folding.specs.declared.Operator.{Operator}
@@ -25,7 +21,6 @@ use Rattle.folding.specs.declared.Sign.{Sign}
 use Rattle.folding.specs.declared.Sign.TheVariants.{Plus, Minus, Absolute, Not}
 use Rattle.folding.specs.declared.Sort.{Sort}
 use Rattle.folding.specs.declared.Sort.TheVariants as S
-use Rattle.folding.specs.declared.Outcome.{Outcome}
 use Rattle.operands.specs.SpelledOperators.{operator_of, sign_of}
 use Rattle.operands.specs.code.Operands.{literal_by}
 use Rattle.marks.specs.code.Marks.{operand_of}
@@ -36,13 +31,13 @@ use Rattle.values.specs.declared.Value.{Value}
 use Rattle.values.specs.declared.Value.TheVariants as value
 use Rattle.integers.specs.declared.Kind.TheVariants as K
 use Rattle.meaning.specs.Elements.{Element, Piece, at}
-use Rattle.meaning.specs.ItemForms.{Expression, name, literal, unfolded, unary, binary, Is, is_name_lem, is_called, is_attribute, is_literal, is_unary, is_binary}
+use Rattle.meaning.specs.ItemForms.{Expression, name, literal, unary, binary, Is, is_name, is_called, is_attribute, is_literal, is_unary, is_binary}
 use Rattle.meaning.specs.States as met
 use Rattle.meaning.specs.States.{Kind, integer, truth, expression_kind, Meets, NoneMet}
 use Rattle.meaning.specs.Values.{skips, Folds, number_used, truth_used, spelled, stops, plus, minus, absolute, opposite, left_stops, skipped, right_stops, right_stops_too, computed, related, truths_related, connected}
 use Rattle.meaning.specs.code.PieceValues.{valued}
 use Rattle.meaning.proofs.Sound.{SoundUse}
-use Rattle.meaning.proofs.Least.{Exact, out, row_name, row_called, row_attribute, row_literal, row_unary, row_binary, behind_less, exact_in}
+use Rattle.meaning.proofs.Least.{Exact, out, row_name, row_literal, row_unary, row_binary, behind_less, exact_in}
 use Rattle.meaning.proofs.Later.{Fit, operand_fit, literal_by_fit, outcome_fit}
 
 module _ (p : Piece) (used : Element → Value) where
@@ -101,8 +96,8 @@ module _ (p : Piece) (used : Element → Value) where
   passed Join t s e = refl
 
   sound : {x : Expression} {v : Folded} → Folds used x v → (rs : List Row) → Is p rs x → (f : ℕ) → length rs ≤ f → (out p used f rs).folded ≡ v
-  sound (number_used q) _ (is_name_lem {r = r} {rs = rs} e) f h = at_name f r rs h e ∙ ap (λ (v : Value). (operand_of v).folded) q
-  sound (truth_used q) _ (is_name_lem {r = r} {rs = rs} e) f h = at_name f r rs h e ∙ ap (λ (v : Value). (operand_of v).folded) q
+  sound (number_used q) _ (is_name {r = r} {rs = rs} e) f h = at_name f r rs h e ∙ ap (λ (v : Value). (operand_of v).folded) q
+  sound (truth_used q) _ (is_name {r = r} {rs = rs} e) f h = at_name f r rs h e ∙ ap (λ (v : Value). (operand_of v).folded) q
   sound (spelled q) _ (is_literal {r = r} {rs = rs} e) f h = at_literal f r rs h e ∙ literal_folded (at p r.first).kind (at p r.first).bytes q
   sound (stops {o = o} d) _ (is_unary {r = r} {rs = rs} e q i) f h = at_unary f r rs o h e q ∙ ap (unary_of o) (sound d rs i (less f) (room f rs h).0)
   sound (plus d) _ (is_unary {r = r} {rs = rs} e q i) f h = at_unary f r rs Plus h e q ∙ ap (unary_of Plus) (sound d rs i (less f) (room f rs h).0)
@@ -205,7 +200,7 @@ module _ (p : Piece) (used : Element → Value) where
         (outcome_fit _ _ _ (λ k. operand_fit (used (at p k))) (λ k. literal_by_fit (at p k).kind (at p k).bytes) f rs)
 
     complete : {rs : List Row} {x : Expression} → Is p rs x → (f : ℕ) → length rs ≤ f → NoneMet (Meets used x) → Folds used x (out p used f rs).folded
-    complete (is_name_lem {r = r} {rs = rs} e) f h n = subst (Folds used (name (at p r.first))) (sym (at_name f r rs h e)) (name_folds (at p r.first) (used (at p r.first)) refl n)
+    complete (is_name {r = r} {rs = rs} e) f h n = subst (Folds used (name (at p r.first))) (sym (at_name f r rs h e)) (name_folds (at p r.first) (used (at p r.first)) refl n)
     complete (is_called e) f h n = absurd (n 3 met.other_form)
     complete (is_attribute e) f h n = absurd (n 3 met.other_form)
     complete (is_literal {r = r} {rs = rs} e) f h n = subst (Folds used (literal (at p r.first))) (sym (at_literal f r rs h e)) (literal_folds (at p r.first) n)

@@ -8,7 +8,6 @@ use native.Mathlib.Omega.{arith}
 use lib.Dec.{eqb, leb}
 use lib.IntN.{ℤ, pos, negsuc, nat_abs}
 use lib.Signed.{lt_z, le_z, quot_z, rem_z}
-use Rattle.laws.proofs.Laws.{clash}
 use Rattle.forms.specs.Tree.{Row}
 use Rattle.integers.specs.Integers.{sized_of, divided_of, to_sign, power_of, arithmetic_of}
 use Rattle.integers.specs.declared.Folded.{Folded}

@@ -1,15 +1,14 @@
 -- "The smallest of 1 to 6 wins", exactly: an expression's sort, as the code combines it, is the least of the states that it meets, and its kind
 -- where it meets none. Assumes nothing.
 use Prim.Native.Nat.{ℕ, zero, suc, ◌≤◌, min}
-use mathlib.Core.Path.{◌≡◌, refl, sym, ap, subst, ◌∙◌}
+use mathlib.Core.Path.{◌≡◌, refl, sym, subst}
 use mathlib.Core.Logic.{◌⊎◌, inl, inr}
-use mathlib.Core.Bool.{Bool, true, false, cond}
+use mathlib.Core.Bool.{Bool, true, false}
 use mathlib.Core.List.{List, [], ◌∷◌}
 use native.Mathlib.Omega.{arith}
-use borrow.Author.Tests.{leb-true, leb-false, eq-eqb, ne_eqb, eqb-true, eqb-false}
+use borrow.Author.Tests.{leb-true, leb-false, eqb-true, eqb-false}
 use lib.Dec.{eqb, leb}
 use lib.ListN.{length, length-drop}
-use Rattle.laws.proofs.Laws.{clash}
 use Rattle.forms.specs.Tree.{Row}
 use Rattle.folding.specs.declared.Operator.{Operator}
 use Rattle.folding.specs.declared.Operator.TheVariants.{Arithmetic, Relation, Logic, Join}
@@ -31,7 +30,7 @@ use Rattle.values.specs.declared.Value.TheVariants.{Number, Truth, Range, Truths
 use Rattle.states.specs.States as state
 use Rattle.integers.specs.declared.Kind.TheVariants as K
 use Rattle.meaning.specs.Elements.{Element, Piece, at}
-use Rattle.meaning.specs.ItemForms.{Expression, name, literal, unfolded, unary, binary, Is, is_name_lem, is_called, is_attribute, is_literal, is_unary, is_binary}
+use Rattle.meaning.specs.ItemForms.{Expression, name, literal, unfolded, unary, binary, Is, is_name, is_called, is_attribute, is_literal, is_unary, is_binary}
 use Rattle.meaning.specs.States.{Kind, integer, truth, neither, name_kind, sign_kind, operator_kind, expression_kind, Least, NoneMet}
 use Rattle.meaning.specs.States.{Meets, other_literal, join, other_form, without, mixed_left, mixed_right, plus_truth, minus_truth, absolute_truth, truth_left, truth_right, not_integer, integer_left, integer_right, range_as_number, boolean_as_number, operand, left, right}
 use Rattle.meaning.specs.code.PieceValues.{valued}
@@ -448,8 +447,8 @@ module _ (p : Piece) (used : Element → Value) where
   module _ (u : SoundUse late used) where
     pub exact_in : {rs : List Row} {x : Expression} → Is p rs x → (f : ℕ) → length rs ≤ f → Exact (out f rs).sort (expression_kind used x) (Meets used x)
     unfolding outcome_in
-    exact_in (is_name_lem {r = r} {rs = rs} e) zero h = absurd (omega arith)
-    exact_in (is_name_lem {r = r} {rs = rs} e) (suc f) h = rw (row_name r (out f rs) (out f (behind rs)) e) (name_exact used (at p r.first) (u (at p r.first)))
+    exact_in (is_name {r = r} {rs = rs} e) zero h = absurd (omega arith)
+    exact_in (is_name {r = r} {rs = rs} e) (suc f) h = rw (row_name r (out f rs) (out f (behind rs)) e) (name_exact used (at p r.first) (u (at p r.first)))
     exact_in (is_called {r = r} {rs = rs} e) zero h = absurd (omega arith)
     exact_in (is_called {r = r} {rs = rs} e) (suc f) h = rw (row_called r (out f rs) (out f (behind rs)) e) (form_exact used)
     exact_in (is_attribute {r = r} {rs = rs} e) zero h = absurd (omega arith)

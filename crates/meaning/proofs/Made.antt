@@ -1,12 +1,11 @@
 -- What the code makes of an item's mark and expressions is what the definitions say: the least state that the item meets, and its value, or one of
 -- 7 to 10, where it meets none. Assumes nothing.
-use Prim.Native.Nat.{ℕ, ◌≤◌}
+use Prim.Native.Nat.{ℕ}
 use mathlib.Core.Path.{◌≡◌, refl, sym, ap, ap₂, subst, ◌∙◌}
 use mathlib.Core.Logic.{◌⊎◌, inl, inr}
-use mathlib.Core.Bool.{Bool, true, false, cond}
+use mathlib.Core.Bool.{Bool, true, false}
 use mathlib.Core.List.{List, [], ◌∷◌}
 use native.Mathlib.Omega.{arith}
-use lib.IntN.{ℤ}
 use Rattle.laws.proofs.Laws.{clash}
 use Rattle.forms.specs.Tree.{Row}
 use Rattle.integers.specs.declared.Folded.{Folded}
@@ -26,14 +25,14 @@ use Rattle.values.specs.declared.Value.TheVariants.{Number, Truth, Range, Truths
 use Rattle.integers.specs.declared.Kind.TheVariants as K
 use Rattle.meaning.specs.Elements.{Element, Piece}
 use Rattle.meaning.specs.ItemForms.{Expression, Is, ItemForm, constant, subtype, ranged}
-use Rattle.meaning.specs.States.{Kind, integer, truth, neither, expression_kind, Meets, mark_of, Least, NoneMet}
+use Rattle.meaning.specs.States.{Kind, integer, truth, neither, expression_kind, Meets, mark_of, NoneMet}
 use Rattle.meaning.specs.States.{ItemMeets, mark_without, number_as_type, truth_as_type, value, truth_in_range, integer_in_boolean, range_on_boolean, first, first_truth, second, second_truth}
 use Rattle.meaning.specs.Values.{Folds, Gives, value_stops, first_stops, second_stops, number_held, truth_held, same_range, boolean, upward, downward}
 use Rattle.meaning.specs.code.PieceValues.{valued}
 use Rattle.meaning.proofs.Sound.{SoundUse}
 use Rattle.meaning.proofs.Least.{Among, mixed, no_truth, Exact, exact_via, operator_exact, valued_exact, one_least, truth_of, truth_met, mixed_of, mixed_met}
 use Rattle.meaning.proofs.Folding.{OfKind, folds_sound, folds_complete, folded_kind_lem}
-use Rattle.meaning.proofs.Later.{Later, Ends, valued_fit, constant_ends, subtype_ends, ranged_ends}
+use Rattle.meaning.proofs.Later.{Ends, valued_fit, constant_ends, subtype_ends, ranged_ends}
 
 -- an item and what the code makes of it
 pub record Made (used : Element → Value) (i : ItemForm) (v : Value) : Type 0 where

@@ -8,7 +8,7 @@ use mathlib.Core.List.{List, [], ◌∷◌, ◌++◌}
 use native.Mathlib.Omega.{arith}
 use borrow.Author.Tests.{eqb-true, eqb-false, ltb-true}
 use lib.Dec.{T, eqb, leb, ltb, eqb→eq, leb→le}
-use lib.ListN.{length, get_or, take, drop, length-drop}
+use lib.ListN.{length, get_or, take, drop}
 use Rattle.laws.proofs.Laws.{clash, is_true}
 use Rattle.grammars.proofs.Theory.{or_cases, and_left, and_right}
 use Rattle.forms.specs.code.Kinds.{number_of, word_range, word_to, word_downto, semicolon}
@@ -29,7 +29,7 @@ use Rattle.meaning.specs.Elements as worded
 use Rattle.tree.specs.code.Answers.{terminals_in}
 use Rattle.tree.specs.code.PieceRows.{unlike}
 use Rattle.meaning.specs.ItemForms.{ItemForm as Item', constant, subtype, ranged, Goes, to, downto, HasForm, is_constant, is_subtype, is_ranged}
-use Rattle.meaning.specs.ItemForms.{Expression, name, literal, unfolded, unary, binary, Is, is_name_lem, is_called, is_attribute, is_literal, is_unary, is_binary}
+use Rattle.meaning.specs.ItemForms.{Expression, name, literal, unfolded, unary, binary, Is, is_name, is_called, is_attribute, is_literal, is_unary, is_binary}
 use Rattle.meaning.proofs.Readings.{to_forms_lem, constant_reading, subtype_reading}
 use Rattle.meaning.proofs.Least.{behind_less}
 
@@ -334,7 +334,7 @@ module _ (w : List ℕ) where
 
     by_form : (p : Piece) (r : Row) (rs : List Row) → SixForms r.form → Fits w (operator_at r) (form_line r.form) (own_items w r rs)
         → ((Headed rs) → Some p rs) → ((Headed (behind rs)) → Some p (behind rs)) → Some p (r ∷ rs)
-    by_form p r rs (inl e) f g h = (name (worded.at p r.first), is_name_lem e)
+    by_form p r rs (inl e) f g h = (name (worded.at p r.first), is_name e)
     by_form p r rs (inr (inl e)) f g h = (unfolded, is_called e)
     by_form p r rs (inr (inr (inl e))) f g h = (unfolded, is_attribute e)
     by_form p r rs (inr (inr (inr (inl e)))) f g h = (literal (worded.at p r.first), is_literal e)

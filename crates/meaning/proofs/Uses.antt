@@ -45,7 +45,7 @@ record Found (x : Element) (ds : List Done) (rest : List Piece) (j : ℕ) : Type
   inside : number < length ds
   claimed : claims x (done_at ds number).piece ≡ true
   first : first_in x (pieces_done ds ++ rest) j ≡ suc (j + number)
-  is_above_lem : claimed_above x ds ≡ true
+  is_above : claimed_above x ds ≡ true
   comes_to : first_above x ds ≡ (done_at ds number).value
 
 -- none above but perhaps the language
@@ -68,7 +68,7 @@ module _ (x : Element) where
             inside = omega arith;
             claimed = e;
             first = let o : suc j ≡ suc (j + 0) = omega arith in rw e o;
-            is_above_lem = rw e;
+            is_above = rw e;
             comes_to = rw (e, first_above);
           }
       go false e (inl r) =
@@ -78,12 +78,12 @@ module _ (x : Element) where
             inside = omega (arith, r.inside);
             claimed = r.claimed;
             first = rw e (r.first ∙ n);
-            is_above_lem = rw e r.is-above;
-            comes_to = rw (e, first_above) r.comes-to;
+            is_above = rw e r.is_above;
+            comes_to = rw (e, first_above) r.comes_to;
           }
       go false e (inr r) =
           let n : suc j + length ds ≡ j + suc (length ds) = omega arith in
-          inr record { later = rw e (r.later ∙ ap (first_in x rest) n); spoken = rw e r.spoken; spoken_as = rw (e, first_above) r.spoken-as }
+          inr record { later = rw e (r.later ∙ ap (first_in x rest) n); spoken = rw e r.spoken; spoken_as = rw (e, first_above) r.spoken_as }
 
   -- a first one is not before where it is looked for
   first_from_lem : (ps : List Piece) (j f : ℕ) → first_in x ps j ≡ suc f → j ≤ f
@@ -243,13 +243,13 @@ module _ (s : List ℕ) (z y : ℕ) (ds more : List Done) (cuts : pieces_done (d
       ∙ ap (record_value items) o
       ∙ found_gives r
       ∙ found_use r (is_doubled (pieces_of s) x) refl
-      ∙ sym (use_of_lem (pieces_of s) ds x true (is_doubled (pieces_of s) x) (done_at ds f).value r.is-above refl r.comes-to)
+      ∙ sym (use_of_lem (pieces_of s) ds x true (is_doubled (pieces_of s) x) (done_at ds f).value r.is_above refl r.comes_to)
   use_found r false k =
       let x = at (elements s) e in
       let f = r.number in
       let w = first_some x (pieces_of s) 0 f (found_first r) in
       sym (claimed_too s (table_of s z) (item_table (ds ++ more) y) links (length ds) e (language x) (suc f) spoken_at (linked_at (suc f) (found_first r)) (eqb-false (language x) 0 k) (λ v. omega arith))
-      ∙ sym (use_of_lem (pieces_of s) ds x true true (first_above x ds) r.is-above (spoken_twice (pieces_of s) x w.0 w.1 k) refl)
+      ∙ sym (use_of_lem (pieces_of s) ds x true true (first_above x ds) r.is_above (spoken_twice (pieces_of s) x w.0 w.1 k) refl)
 
   use_none : (r : None (at (elements s) e) ds (pieces_done more) 0) (l : ℕ) → first_in (at (elements s) e) (pieces_of s) 0 ≡ l → (b : Bool) → eqb (language (at (elements s) e)) 0 ≡ b
       → use_in s (table_of s z) (item_table (ds ++ more) y) links (length ds) e ≡ use_of (pieces_of s) ds (at (elements s) e)
@@ -265,7 +265,7 @@ module _ (s : List ℕ) (z y : ℕ) (ds more : List Done) (cuts : pieces_done (d
   use_none r zero h false k =
       let x = at (elements s) e in
       sym (of_language s (table_of s z) (item_table (ds ++ more) y) links (length ds) e (language x) 0 spoken_at (linked_at 0 h) (language_value (language x)) (eqb-false (language x) 0 k) refl refl)
-      ∙ sym (use_of_lem (pieces_of s) ds x true false (language_value (language x)) (r.spoken ∙ ap not k) (spoken_once (pieces_of s) x (first_none x (pieces_of s) 0 h)) r.spoken-as
+      ∙ sym (use_of_lem (pieces_of s) ds x true false (language_value (language x)) (r.spoken ∙ ap not k) (spoken_once (pieces_of s) x (first_none x (pieces_of s) 0 h)) r.spoken_as
       ∙ language_lean (language x) (language_most x) (eqb-false (language x) 0 k))
   use_none r (suc f) h false k =
       let x = at (elements s) e in

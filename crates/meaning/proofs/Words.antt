@@ -4,7 +4,7 @@ use mathlib.Core.List.{List, [], ◌∷◌, ◌++◌}
 use Prim.Native.Nat.{ℕ, zero, suc, ◌+◌, ◌*◌, ◌≤◌, ◌<◌}
 use native.Mathlib.Omega.{arith}
 use lib.ListN.{length, get_or, take, drop, replicate, length-append, length-replicate}
-use lib.Seq.{split_at, length-take-le, get_or-append_seam, get_or-append-add}
+use lib.Seq.{split_at, length-take-le, get_or-append-add}
 use Rattle.pieces.specs.Kinds.{piece_class}
 use Rattle.pieces.specs.Records.{name_of}
 use Rattle.records.specs.Records.{word_at, is_item}

@@ -67,7 +67,7 @@ same_bucket s l a b h =
     let k = how_counted (cell_at l a 0) o.basic o.kind in
     let z : hash_from o.basic s (cell_at l a 1) (cell_at l a 2) 0 ≡ hash_from o.basic s (cell_at l b 1) (cell_at l a 2) 0 =
     hash_agrees o.basic s (cell_at l a 1) (cell_at l b 1) (cell_at l a 2) 0 o.agrees in
-    rw (le-leb (cell_at l a 1 + cell_at l a 2) (length s) o.first-in, le-leb (cell_at l b 1 + cell_at l b 2) (length s) o.second-in, ← o.kinds, ← o.sizes, ← k) (ap chain_of z)
+    rw (le-leb (cell_at l a 1 + cell_at l a 2) (length s) o.first_in, le-leb (cell_at l b 1 + cell_at l b 2) (length s) o.second_in, ← o.kinds, ← o.sizes, ← k) (ap chain_of z)
 
 -- bytes that stand in the text
 pub stands_in : (s : List ℕ) (x n : ℕ) (t : Bool) → t ≡ within s x n → t ≡ true → x + n ≤ length s

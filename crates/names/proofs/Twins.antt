@@ -145,7 +145,7 @@ module _ (own : List ℕ) (n : ℕ) where
         where
           at : Dec (k ≡ f) → (get_or flags k 0 ≡ 1) × (any ≡ true)
           at (yes y) =
-              let c = m.complete t.other k t.other-inside (sym t.shared ∙ e ∙ ap suc (sym y)) (λ z. t.differs (sym z)) in (c.1, c.2)
+              let c = m.complete t.other k t.other_inside (sym t.shared ∙ e ∙ ap suc (sym y)) (λ z. t.differs (sym z)) in (c.1, c.2)
           at (no y) = let c = m.complete k f t.inside e y in (c.0, c.2)
 
 -- the flags are the records that share their name with another
@@ -164,8 +164,8 @@ module _ (text table items own : List ℕ) (n : ℕ) (all : n ≡ records_in ite
       go : (v : ℕ) → own_of text table items k ≡ v → any_from (another (share text table items) k) 0 (records_in items) ≡ true
       go zero e = absurd (t.named (owned k t.inside ∙ e))
       go (suc f) e =
-          let s = owns_shared text table items k t.other f e (sym (owned t.other t.other-inside) ∙ sym t.shared ∙ owned k t.inside ∙ e) in
-          any_at (another (share text table items) k) 0 (records_in items) t.other (omega arith) (omega (arith, t.other-inside)) (rw (ne_eqb k t.other t.differs, s))
+          let s = owns_shared text table items k t.other f e (sym (owned t.other t.other_inside) ∙ sym t.shared ∙ owned k t.inside ∙ e) in
+          any_at (another (share text table items) k) 0 (records_in items) t.other (omega arith) (omega (arith, t.other_inside)) (rw (ne_eqb k t.other t.differs, s))
 
   shares_twin : (k : ℕ) → k < n → twin_of text table items k ≡ true → Twin own n k
   unfolding twin_of

@@ -2,28 +2,23 @@
 -- no more than 32 parentheses ever stand open; and no more than one to or downto. A computed test to a rule says both. Assumes nothing.
 use Prim.Native.Nat.{ℕ, zero, suc, ◌+◌, ◌-◌, ◌≤◌, ◌<◌}
 use mathlib.Core.Path.{◌≡◌, refl, sym, ◌∙◌, ap, subst}
-use mathlib.Core.Logic.{inl, inr}
 use mathlib.Core.Bool.{Bool, true, false, not, ◌&&◌, ◌||◌, cond}
 use mathlib.Core.List.{List, [], ◌∷◌, ◌++◌}
 use native.Mathlib.Omega.{arith}
 use lib.Dec.{T, eqb, leb, leb→le}
 use lib.ListN.{get_or}
 use borrow.Author.Tests.{lt-ltb}
-use Rattle.laws.proofs.Laws.{clash}
 use Rattle.grammars.specs.code.Grammar.{Sym, tok, nt, act, Gen}
 use Rattle.grammars.specs.code.Grammar as plainly
 use Rattle.grammars.specs.code.Actions.{go, Reads, done, eat, acts, grow}
 use Rattle.grammars.proofs.Theory.{mem, and_left, and_right, and_both}
 use Rattle.grammars.proofs.Check.{below_at, imp, imp_at}
-use Rattle.grammars.proofs.Acting as acting
 use Rattle.forms.specs.code.Kinds.{number_of, left_paren, right_paren, word_to, word_downto}
-use Rattle.forms.specs.code.RuleNames.{constant, subtype, subtype_range, range, direction, name_numbers}
+use Rattle.forms.specs.code.RuleNames.{subtype, subtype_range, range, direction, name_numbers}
 use Rattle.forms.specs.code.Rules.{forms, body}
-use Rattle.forms.specs.code.Picks.{predict}
 use Rattle.forms.specs.Tree.{Row}
-use Rattle.forms.specs.code.RuleActions.{State, Refusal, fresh, top, on_top, joined, marked, named, rowed, does, start, state_rows}
+use Rattle.forms.specs.code.RuleActions.{State, Refusal, does, start, state_rows}
 use Rattle.forms.specs.Open.{Role, opening, closing, neither, after}
-use Rattle.forms.specs.code.ItemReading.{ItemReading}
 use Rattle.forms.proofs.Opening.{same_role, same_role_lem, head_role, plain, head_append, plain_append, grown_role, counted, low_kept}
 use Rattle.forms.proofs.ItemReading.{reached}
 use Rattle.one_tree.specs.Trees.{IsConstant, IsSubtype, parens_after, Shallow}
@@ -217,15 +212,15 @@ same_one (t ∷ w) (suc i) (suc j) l h k = same_one w i j (omega arith) h k
 -- a subtype's elements have to or downto, and not both
 pub one_direction : (w : List ℕ) (l : List Row) → IsSubtype w l → (i j : ℕ) → get_or w i 0 ≡ number_of word_to → get_or w j 0 ≡ number_of word_downto → ⊥
 one_direction w l t i j a b =
-    let s = same_one w i j (few ((subtype_tree.read-exactly w).1 (l, t)) tt) (subst (λ (x : ℕ). T (is_direction x)) (sym a) tt) (subst (λ (x : ℕ). T (is_direction x)) (sym b) tt) in
+    let s = same_one w i j (few ((subtype_tree.read_exactly w).1 (l, t)) tt) (subst (λ (x : ℕ). T (is_direction x)) (sym a) tt) (subst (λ (x : ℕ). T (is_direction x)) (sym b) tt) in
     absurd (omega arith)
 
 -- ---- the two, by their trees
 
 alone : (n : ℕ) (Is : List ℕ → List Row → Type 0) → TreeOf (nt n) Is → T (fine (nt n ∷ [])) → ReadAlone (nt n) Is
 alone n Is t f alike w l = (
-  (λ h. let r = reads alike ((t.read-exactly w).1 (l, h.0)) f 0 start 0 refl h.1 in (r.0, (r.1, t.only-such w (state_rows r.0) l (t.reads-trees alike w r.0 r.1) h.0))),
-  λ r. (subst (Is w) r.1.1 (t.reads-trees alike w r.0 r.1.0), shallow alike r.1.0 f 0 refl (omega arith)),
+  (λ h. let r = reads alike ((t.read_exactly w).1 (l, h.0)) f 0 start 0 refl h.1 in (r.0, (r.1, t.only_such w (state_rows r.0) l (t.reads_trees alike w r.0 r.1) h.0))),
+  λ r. (subst (Is w) r.1.1 (t.reads_trees alike w r.0 r.1.0), shallow alike r.1.0 f 0 refl (omega arith)),
 )
 
 pub constant_alone : ConstantAlone

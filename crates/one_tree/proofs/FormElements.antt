@@ -5,7 +5,7 @@ use mathlib.Core.Path.{◌≡◌, refl, sym, ap, ◌∙◌}
 use mathlib.Core.Bool.{Bool, true, false, cond, ◌&&◌, ◌||◌}
 use mathlib.Core.List.{List, [], ◌∷◌}
 use native.Mathlib.Omega.{arith}
-use lib.Dec.{T, eqb, ltb, eqb→eq, leb→le}
+use lib.Dec.{T, eqb, ltb, eqb→eq}
 use lib.ListN.{get_or, length}
 use borrow.Author.Tests.{ne_eqb, ltb-true, ltb-false}
 use Rattle.spelled.proofs.Spelling.{spelling}

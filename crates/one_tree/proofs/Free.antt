@@ -2,17 +2,16 @@
 -- Assumes nothing.
 use Prim.Native.Nat.{ℕ, zero, suc, ◌+◌, ◌-◌, ◌<◌}
 use mathlib.Core.Path.{◌≡◌, refl, sym, ◌∙◌, ap, subst}
-use mathlib.Core.Bool.{Bool, true, false, cond}
+use mathlib.Core.Bool.{Bool}
 use mathlib.Core.List.{List, [], ◌∷◌, ◌++◌}
 use lib.Dec.{ltb}
 use lib.ListN.{length, drop, get_or}
 use lib.Seq.{drop-cons}
-use Rattle.laws.proofs.Laws.{clash}
 use Rattle.grammars.specs.code.Grammar.{Sym, tok}
-use Rattle.grammars.specs.code.Actions.{Step, go, stop, Reads, done, eat, acts, grow}
+use Rattle.grammars.specs.code.Actions.{Step, go, Reads, done, eat, acts, grow}
 use Rattle.forms.specs.code.Rules.{forms}
 use Rattle.forms.specs.Tree.{Row}
-use Rattle.forms.specs.code.RuleActions.{State, Refusal, name_differs_lem, too_deep_lem, fresh, top, on_top, joined, marked, named, rowed, does, frame_is_named}
+use Rattle.forms.specs.code.RuleActions.{State, Refusal, name_differs, too_deep, fresh, top, on_top, joined, marked, named, rowed, does, frame_is_named}
 use Rattle.forms.specs.code.RuleActions as strict
 use Rattle.forms.proofs.Steps.{named_frames, deeper_frames}
 

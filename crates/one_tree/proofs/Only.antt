@@ -3,7 +3,7 @@
 use Prim.Native.Nat.{ℕ, zero, suc, ◌<◌}
 use mathlib.Core.Path.{◌≡◌, refl, sym, ◌∙◌, ap, subst}
 use mathlib.Core.Logic.{◌⊎◌, inl, inr}
-use mathlib.Core.Bool.{Bool, true, false}
+use mathlib.Core.Bool.{true, false}
 use mathlib.Core.List.{List, [], ◌∷◌, ◌++◌, append-nil}
 use native.Mathlib.Omega.{arith}
 use lib.Dec.{T, eqb, lit<}
@@ -24,7 +24,7 @@ use Rattle.forms.specs.code.Reading.{file_reading}
 use Rattle.forms.specs.Spellings.{is_in}
 use Rattle.forms.specs.FormLines.{Pattern, rows, an_expression, form_line, Fits, sort_of, operator_at}
 use Rattle.forms.proofs.Tests.{tables, forms_ll}
-use Rattle.forms.proofs.Meaning.{reads_files, no_file_lem, always_answers}
+use Rattle.forms.proofs.Meaning.{reads_files, no_file, always_answers}
 use Rattle.forms.proofs.Summaries.{Fit}
 use Rattle.one_tree.specs.Trees.{Stands}
 use Rattle.one_tree.specs.Files.{IsTree}
@@ -123,14 +123,14 @@ subtype_tree = tree_of (name_number subtype) (rows (5 ∷ [])) (lit< tt) tt (λ 
 
 -- of a file
 pub only_such : OnlySuch
-only_such = file_tree.only-such
+only_such = file_tree.only_such
 
 pub files_have_trees : FilesHaveTrees
-files_have_trees = file_tree.read-exactly
+files_have_trees = file_tree.read_exactly
 
 pub reads_the_tree : ReadsTheTree
 reads_the_tree alike w s l r =
-    let h = file_tree.reads-trees alike w s r in
+    let h = file_tree.reads_trees alike w s r in
     ((λ t. only_such w l (state_rows s) t h), λ e. subst (IsTree w) (sym e) h)
 
 pub begin_alike : BeginAlike
@@ -144,6 +144,6 @@ trees_are_read alike w l h = by (file_reading alike w) refl
   where
     by : (o : End State Refusal) → file_reading alike w ≡ o → ((s : State) × (Reading alike w s × (state_rows s ≡ l))) ⊎ ((k : ℕ) × ((r : Refusal) × (file_reading alike w ≡ stopped k r)))
     by (read s) e = let r = (reads_files alike w s).0 e in inl (s, (r, sym ((reads_the_tree alike w s l r).0 h)))
-    by (bad k) e = absurd (no_file_lem alike w k e ((files_have_trees w).1 (l, h)))
+    by (bad k) e = absurd (no_file alike w k e ((files_have_trees w).1 (l, h)))
     by (stopped k r) e = inr (k, (r, e))
     by spent e = absurd (always_answers alike w e)

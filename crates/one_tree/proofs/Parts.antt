@@ -1,7 +1,7 @@
 -- What strings of the rules' symbols read: a table of parts, and the computed test that a row of patterns is read by a string. It is the
 -- rules' test of the forms turned about: there a rule's body is within a line, here a line is within what the rules read. Nothing in the
 -- table is believed: each part is tested at each row that it claims. Assumes nothing.
-use Prim.Native.Nat.{ℕ, zero, suc, ◌+◌}
+use Prim.Native.Nat.{ℕ, zero, suc}
 use mathlib.Core.Bool.{Bool, true, false, not, ◌&&◌, ◌||◌, cond}
 use mathlib.Core.List.{List, [], ◌∷◌, ◌++◌}
 use lib.Dec.{eqb}

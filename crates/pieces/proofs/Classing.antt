@@ -12,7 +12,7 @@ use lib.ListN.{length, get_or, drop, length-drop, get_or-eq_default}
 use lib.Seq.{get_or-drop, get_or-take, length-take-le}
 use Rattle.classes.proofs.Laws.{by_test}
 use Rattle.pieces.specs.Classes as class
-use Rattle.pieces.specs.Kinds.{class_at, kinds_at, is_heading, behind_word, has_name, ends_at, is_closing, claim_class, piece_class, semicolon, word_constant, word_end_lem, word_is, word_package, word_subtype}
+use Rattle.pieces.specs.Kinds.{class_at, kinds_at, is_heading, behind_word, has_name, ends_at, is_closing, claim_class, piece_class, semicolon, word_constant, word_end, word_is, word_package, word_subtype}
 use Rattle.places.specs.Kinds.{is_name}
 use Rattle.places.specs.Places.{row_words, cell_at, kinds_of}
 use Rattle.pieces.specs.declared.PieceClass.{PieceClass}
@@ -40,7 +40,7 @@ module _ (n : ℕ) (t : List ℕ) (from count : ℕ) (r : from + count ≤ n) wh
   heading_is a b c x p q k y h = rw (piece_length, eq-eqb count 3 h, ← p, ← q, ← k, y)
 
   pub ends_at_lem : (at a b : ℕ) → a ≡ get_or (kinds_at n t from count) 0 0 → b ≡ get_or (kinds_at n t from count) at 0
-      → ((eqb a word_end_lem && eqb b semicolon) && eqb count (at + 1)) ≡ ends_at (kinds_at n t from count) at
+      → ((eqb a word_end && eqb b semicolon) && eqb count (at + 1)) ≡ ends_at (kinds_at n t from count) at
   unfolding ends_at
   ends_at_lem at a b p q = rw (piece_length, ← p, ← q)
 

@@ -5,7 +5,6 @@ use mathlib.Core.Logic.{◌↔◌}
 use mathlib.Core.List.{List, [], ◌∷◌}
 use native.Mathlib.Omega.{arith}
 use lib.ListN.{length, replicate}
-use Rattle.refusals.specs.declared.SurveyRefusal.{SurveyRefusal}
 use Rattle.element_reading.specs.Rows as elements
 use Rattle.element_reading.specs.Permitted.{Permitted as ElementsPermitted}
 use Rattle.element_reading.specs.Given.{element_count}
@@ -14,7 +13,6 @@ use Rattle.element_reading.specs.declared.Reading.{Reading}
 use Rattle.element_reading.specs.declared.Reading.TheVariants as reading
 use Rattle.element_reading.proofs.Promises as reads
 use Rattle.forms.specs.Tree.{Row}
-use Rattle.forms.specs.Tree as forms
 use Rattle.forms.specs.code.RuleActions as frames
 use Rattle.forms.specs.Files.{Tiled, TreeFits}
 use Rattle.forms.specs.OperatorElements.{OperatorsRight}
@@ -161,7 +159,7 @@ later_state =
     (λ all above p word h s a. state_held all above p word h s (by_later all above p s a))
 
 pub state_known : StateKnown
-state_known = of_items (λ all above p word. word column.state ≤ states.range) (λ all above p word h. omega (arith, h.state-is, by_known all above p))
+state_known = of_items (λ all above p word. word column.state ≤ states.range) (λ all above p word h. omega (arith, h.state_is, by_known all above p))
 
 pub number_exactly : NumberExactly
 number_exactly = of_items _ number_held

@@ -5,7 +5,7 @@ use native.Mathlib.Omega.{arith}
 use mathlib.Core.Path.{◌≡◌, refl, ap, sym, ◌∙◌}
 use mathlib.Core.List.{List, [], ◌∷◌, ◌++◌, append_assoc, append-nil}
 use borrow.Author.Tests.{lt-ltb, le-ltb}
-use lib.ListN.{length, take, set, replicate, length-append, length-replicate}
+use lib.ListN.{length, take, set, replicate, length-append}
 use lib.Seq.{sets, take-set-le}
 use Rattle.puts.specs.Puts.{Wrote}
 use Rattle.puts.specs.Lines.{lines_from, fitting, Part}

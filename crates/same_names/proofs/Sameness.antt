@@ -46,7 +46,7 @@ pub record OneName (s l : List ℕ) (a b : ℕ) : Type 0 where
   pub kind : by_kind (cell_at l a 0) basic (not basic) ≡ true
   pub kinds : cell_at l a 0 ≡ cell_at l b 0
   pub sizes : cell_at l a 2 ≡ cell_at l b 2
-  pub first_in_lem : cell_at l a 1 + cell_at l a 2 ≤ length s
+  pub first_in : cell_at l a 1 + cell_at l a 2 ≤ length s
   pub second_in : cell_at l b 1 + cell_at l b 2 ≤ length s
   pub agrees : agree basic s (cell_at l a 1) (cell_at l b 1) (cell_at l a 2) ≡ true
 
@@ -98,7 +98,7 @@ module _ (s l : List ℕ) (a b : ℕ) where
         kind = d.1;
         kinds = eqb-true (cell_at l a 0) (cell_at l b 0) k.0;
         sizes = z;
-        first_in_lem = leb-true (cell_at l a 1 + cell_at l a 2) (length s) x;
+        first_in = leb-true (cell_at l a 1 + cell_at l a 2) (length s) x;
         second_in = omega (arith, leb-true (cell_at l b 1 + cell_at l a 2) (length s) y, z);
         agrees = i.1;
       }
@@ -110,8 +110,8 @@ module _ (s l : List ℕ) (a b : ℕ) where
       (picked s l a b o.basic
       ∙ rw (
         eq-eqb (cell_at l a 2) (cell_at l b 2) o.sizes,
-        le-leb (cell_at l a 1 + cell_at l a 2) (length s) o.first-in,
-        le-leb (cell_at l b 1 + cell_at l a 2) (length s) (omega (arith, o.second-in, o.sizes)),
+        le-leb (cell_at l a 1 + cell_at l a 2) (length s) o.first_in,
+        le-leb (cell_at l b 1 + cell_at l a 2) (length s) (omega (arith, o.second_in, o.sizes)),
       ) o.agrees)
 
 pub same_flips : (s l : List ℕ) (a b : ℕ) → same_name s l a b ≡ true → same_name s l b a ≡ true
@@ -122,8 +122,8 @@ same_flips s l a b h =
       kind = rw (← o.kinds) o.kind;
       kinds = sym o.kinds;
       sizes = sym o.sizes;
-      first_in_lem = o.second-in;
-      second_in = o.first-in;
+      first_in = o.second_in;
+      second_in = o.first_in;
       agrees = rw (← o.sizes) (agree_flip o.basic s (cell_at l a 1) (cell_at l b 1) (cell_at l a 2) o.agrees);
     }
 
@@ -138,8 +138,8 @@ same_goes_on s l a b c h g =
       kind = o.kind;
       kinds = o.kinds ∙ p.kinds;
       sizes = o.sizes ∙ p.sizes;
-      first_in_lem = o.first-in;
-      second_in = p.second-in;
+      first_in = o.first_in;
+      second_in = p.second_in;
       agrees = agree_on o.basic s (cell_at l a 1) (cell_at l b 1) (cell_at l c 1) (cell_at l a 2) o.agrees q;
     }
 

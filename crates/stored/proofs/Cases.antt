@@ -1,7 +1,7 @@
 -- The ways through a field's contents, in the code's terms. Assumes nothing.
 use mathlib.Core.Path.{◌≡◌, refl, sym, ap, ◌∙◌}
-use mathlib.Core.Bool.{Bool, true, false}
-use mathlib.Core.List.{List, [], ◌∷◌}
+use mathlib.Core.Bool.{true, false}
+use mathlib.Core.List.{List}
 use Prim.Native.Nat.{ℕ, zero, suc, ◌+◌, ◌-◌, ◌*◌, ◌^◌, ◌≤◌, ◌<◌}
 use native.Mathlib.Omega.{arith}
 use borrow.Author.Tests.{eq-eqb, ne_eqb, lt-ltb, le-ltb}
@@ -11,7 +11,6 @@ use mir.Val.{of_z, to_z, SFits}
 use mir.Syntax.{w32}
 use mir.ValLaws.{to_z-of_z, to_z_pos, to_z-neg}
 use Rattle.stored.specs.code.Decode.{word_in, held_number, held_truth, held_range, held_truths, held_subtype, held_value}
-use Rattle.stored.specs.declared.StoredValue.{StoredValue}
 use Rattle.stored.specs.declared.StoredValue.TheVariants.{Number, Truth, Range, Truths}
 use Rattle.stored.specs.declared.Held.{Held}
 use Rattle.stored.specs.declared.Held.TheVariants.{Nothing, Holds}

@@ -1,5 +1,5 @@
 -- The tables written out by hand, computed. Assumes nothing.
-use mathlib.Core.Path.{◌≡◌, refl}
+use mathlib.Core.Path.{refl}
 use native.Mathlib.Omega.{arith}
 use Rattle.classes.specs.Bytes.{is_letter, lower, is_digit}
 use Rattle.classes.specs.Signs.{separates, is_graphic}

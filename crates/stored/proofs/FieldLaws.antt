@@ -1,19 +1,19 @@
 -- Fields and their bytes: each is read back as it was, and what is read has no other bytes. Assumes nothing.
-use mathlib.Core.Path.{◌≡◌, refl, sym, ap, ◌∙◌}
+use mathlib.Core.Path.{◌≡◌, refl, sym, ◌∙◌}
 use mathlib.Core.Bool.{Bool, true, false, cond, not, ◌&&◌}
 use mathlib.Core.List.{List, [], ◌∷◌, ◌++◌}
 use mathlib.Core.Option.{Option, none, some}
 use Prim.Native.Nat.{ℕ, zero, suc, ◌+◌, ◌*◌, ◌/◌, ◌%◌, ◌≤◌, ◌<◌, zero-le, suc-le-suc}
-use native.Mathlib.Nat.{not-suc-le-zero, le_of_suc-le-suc, div-add-mod', add-zero}
+use native.Mathlib.Nat.{not-suc-le-zero, div-add-mod'}
 use native.Mathlib.Omega.{arith}
 use borrow.Author.Tests.{eqb-true, eqb-false, ne_eqb, eq-eqb, ltb-true, lt-ltb}
 use lib.Dec.{eqb, ltb}
-use lib.ListN.{length, get_or, take, drop, length-drop, length-take, take-append-drop, length-append}
-use lib.Seq.{take-append_seam, drop-append_seam, get_or-drop, length-take-le}
+use lib.ListN.{length, take, drop, length-drop, take-append-drop}
+use lib.Seq.{take-append_seam, get_or-drop, length-take-le}
 use Rattle.stored.specs.Fields.{Field, field_bytes, fields_bytes, writable, all_writable}
 use Rattle.laws.proofs.Laws.{clash, both_left, both_right}
 use Rattle.stored.specs.code.Promises.{Bytes}
-use Rattle.stored.specs.code.Decode.{tagged_field, length_in, before, ending, fields_from}
+use Rattle.stored.specs.code.Decode.{tagged_field, before, ending, fields_from}
 
 -- each field can be told from the end, and its length has two bytes
 pub data Good : List Field → Type 0 where

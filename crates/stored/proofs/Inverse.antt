@@ -1,26 +1,25 @@
 -- Reading is the inverse of storing: `decode F s` is the table that Stored speaks of, where there is one, and there is at most one. Assumes nothing.
 use mathlib.Core.Path.{◌≡◌, refl, sym, ap, subst, ◌∙◌}
-use mathlib.Core.Bool.{Bool, true, false, cond, not, ◌&&◌}
+use mathlib.Core.Bool.{Bool, true, false, cond, ◌&&◌}
 use mathlib.Core.List.{List, [], ◌∷◌, ◌++◌, map}
 use mathlib.Core.Option.{Option, none, some}
-use Prim.Native.Nat.{ℕ, zero, suc, ◌+◌, ◌-◌, ◌*◌, ◌/◌, ◌%◌, ◌≤◌, ◌<◌}
+use Prim.Native.Nat.{ℕ, zero, suc, ◌+◌}
 use native.Mathlib.Nat.{le_refl}
 use native.Mathlib.Omega.{arith}
 use borrow.Author.Tests.{eqb-true, eq-eqb, leb-true, le-leb}
-use lib.Dec.{eqb, leb, ltb}
-use lib.ListN.{length, get_or, drop, get_or-append, get_or-eq_default}
+use lib.Dec.{eqb, leb}
+use lib.ListN.{length, drop}
 use lib.Seq.{get_or-append-add}
 use Rattle.stored.specs.Fields.{Field, field_bytes, fields_bytes}
-use Rattle.stored.specs.StoredItems.{StoredItem, tag_of, value_size, value_bytes, item_field, name_field}
-use Rattle.stored.specs.Stored.{Form, stored_fields, stored_bytes, same_bytes, among, distinct, item_names, sized, item_legal, all_legal, Legal, Stored}
+use Rattle.stored.specs.StoredItems.{StoredItem, value_size, value_bytes, item_field, name_field}
+use Rattle.stored.specs.Stored.{Form, stored_fields, stored_bytes, same_bytes, distinct, item_names, sized, item_legal, all_legal, Stored}
 use Rattle.stored.specs.code.Decode.{tagged_field, before, fields_from, held_value, item_fits, held_legal, kept_in, with_name, item_in, with_item, items_in_fields, Table, broken, table, checked, titled, headed, whole_table, decode}
 use Rattle.stored.specs.code.Promises.{Bytes}
 use Rattle.laws.proofs.Laws.{clash}
 use Rattle.stored.specs.declared.StoredValue.{StoredValue}
-use Rattle.stored.specs.declared.StoredValue.TheVariants.{Number, Truth, Range, Truths}
 use Rattle.stored.specs.declared.Held.{Held}
 use Rattle.stored.specs.declared.Held.TheVariants.{Nothing, Holds}
-use Rattle.stored.proofs.FieldLaws.{Good, no_field, a_field, writable_good, good_writable, fields_back, fields_only, before_some}
+use Rattle.stored.proofs.FieldLaws.{Good, writable_good, good_writable, fields_back, fields_only, before_some}
 use Rattle.stored.proofs.ItemLaws.{both, value_back, value_only, drop_value}
 use Rattle.stored.proofs.Names.{same_is, same_self}
 

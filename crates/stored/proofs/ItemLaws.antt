@@ -1,26 +1,23 @@
 -- Items and their fields: each is read back as it was, and what is read has no other field. Assumes nothing.
-use mathlib.Core.Path.{◌≡◌, refl, sym, ap, ◌∙◌}
-use mathlib.Core.Bool.{Bool, true, false, cond, not, ◌&&◌}
+use mathlib.Core.Path.{◌≡◌, refl, ap, ◌∙◌}
+use mathlib.Core.Bool.{Bool, true, false, cond, ◌&&◌}
 use mathlib.Core.List.{List, [], ◌∷◌, ◌++◌}
-use mathlib.Core.Option.{Option, none, some}
-use Prim.Native.Nat.{ℕ, zero, suc, ◌+◌, ◌-◌, ◌*◌, ◌/◌, ◌%◌, ◌^◌, ◌≤◌, ◌<◌, zero-le, suc-le-suc}
-use native.Mathlib.Nat.{not-suc-le-zero, le_of_suc-le-suc, div-add-mod', add-zero}
+use Prim.Native.Nat.{ℕ, suc, ◌+◌, ◌-◌, ◌*◌, ◌/◌, ◌%◌, ◌^◌, ◌≤◌, ◌<◌}
 use native.Mathlib.Numerals.{add-one, add-two, add-three}
 use native.Mathlib.Omega.{arith}
-use borrow.Author.Tests.{eqb-true, eqb-false, ne_eqb, eq-eqb, leb-true, le-leb, ltb-true, ltb-false, lt-ltb, le-ltb}
-use lib.Dec.{eqb, leb, ltb}
-use lib.IntN.{ℤ, pos, negsuc, nat_abs}
+use borrow.Author.Tests.{eqb-true, eqb-false, ne_eqb, leb-true, le-leb, ltb-true, ltb-false, le-ltb}
+use lib.Dec.{eqb, ltb}
+use lib.IntN.{ℤ, pos, negsuc}
 use lib.Seq.{drop-cons}
-use lib.ListN.{length, get_or, take, drop}
-use mir.Val.{of_z, to_z, Fits, SFits}
+use lib.ListN.{length, get_or, drop}
+use mir.Val.{of_z, to_z, SFits}
 use mir.Syntax.{w32}
-use mir.ValLaws.{to_z-of_z, of_z-to_z, to_z-Fits}
-use Rattle.stored.specs.Fields.{Field}
-use Rattle.stored.specs.StoredItems.{StoredItem, four_bytes, number_bytes, truth_byte, tag_of, value_size, value_bytes, item_field}
-use Rattle.stored.specs.Stored.{Form, among, small, sized, item_legal}
+use mir.ValLaws.{to_z-of_z, of_z-to_z}
+use Rattle.stored.specs.StoredItems.{four_bytes, number_bytes, tag_of, value_size, value_bytes}
+use Rattle.stored.specs.Stored.{small, sized}
 use Rattle.laws.proofs.Laws.{clash}
 use Rattle.stored.specs.code.Promises.{Bytes}
-use Rattle.stored.specs.code.Decode.{tagged_field, word_in, held_number, held_truth, held_range, held_truths, held_subtype, held_value}
+use Rattle.stored.specs.code.Decode.{word_in, held_number, held_truth, held_range, held_truths, held_subtype, held_value}
 use Rattle.stored.specs.declared.StoredValue.{StoredValue}
 use Rattle.stored.specs.declared.StoredValue.TheVariants.{Number, Truth, Range, Truths}
 use Rattle.stored.specs.declared.Held.{Held}

@@ -2,11 +2,10 @@
 use mathlib.Core.Path.{◌≡◌, refl, sym, ap, ◌∙◌}
 use mathlib.Core.Bool.{Bool, true, false, not, ◌&&◌, ◌||◌}
 use mathlib.Core.List.{List, [], ◌∷◌}
-use Prim.Native.Nat.{ℕ, zero, suc, ◌+◌, ◌-◌, ◌≤◌, ◌<◌}
-use native.Mathlib.Nat.{not-suc-le-zero, le_of_suc-le-suc}
+use Prim.Native.Nat.{ℕ, suc, ◌+◌, ◌-◌, ◌≤◌, ◌<◌}
 use native.Mathlib.Numerals.{add-one}
 use native.Mathlib.Omega.{arith}
-use borrow.Author.Tests.{eq-eqb, ne_eqb, eqb-true, not-true, not-false}
+use borrow.Author.Tests.{eq-eqb, ne_eqb, eqb-true}
 use lib.Dec.{eqb}
 use lib.ListN.{length, get_or, take, drop, length-drop, drop_of_length-le}
 use lib.Seq.{drop-cons, take_all}
@@ -16,10 +15,9 @@ use Rattle.elements.specs.Element.{element_at}
 use Rattle.elements.specs.declared.Kind.{Kind}
 use Rattle.elements.specs.declared.Front.{Front}
 use Rattle.elements.specs.declared.Front.TheVariants.{Skip, Element}
-use Rattle.words.specs.Words.{bytes_of}
 use Rattle.names.specs.Language.{language_names}
 use Rattle.names.specs.code.Language.{integer_name, natural_name, positive_name, boolean_name, true_name, false_name}
-use Rattle.stored.specs.LegalNames.{in_lower_case, named_by, named_whole, legal_name}
+use Rattle.stored.specs.LegalNames.{in_lower_case, named_by, legal_name}
 use Rattle.stored.specs.Stored.{Form, same_bytes, among, form_one}
 use Rattle.stored.specs.code.Decode.{held_value, item_fits, held_legal, kept_in}
 use Rattle.stored.specs.declared.StoredValue.{StoredValue}

@@ -100,7 +100,7 @@ module _ (s n : List ℕ) (is : List StoredItem) (h : stored.Stored form_one s n
   room : length is ≤ stored_rows_in words → (answer ≡ Read (record { 0 = head_size }) (length n) (length is)) × (table ≡ stored_rows_from (head_size + length n) is ++ replicate (words - rows.stored_row_words * length is) 0)
   room l =
       no_choice s words answer (Read (record { 0 = head_size }) (length n) (length is)) table (stored_rows_from (head_size + length n) is ++ replicate (words - rows.stored_row_words * length is) 0) p
-      (record { name = n; items = is; stored = h; room = l; first_is_lem = refl; size_is = refl; count_is = refl; rows_are = refl })
+      (record { name = n; items = is; stored = h; room = l; first_is = refl; size_is = refl; count_is = refl; rows_are = refl })
 
   short : stored_rows_in words < length is → (answer ≡ Refused (ItemsShort (stored_rows_in words))) × (table ≡ replicate words 0)
   short l =
@@ -130,7 +130,7 @@ pub reads_back : ReadsBack
 reads_back s ds come e i o n t u out k words answer table p =
     let same : k.dones ≡ ds = (come_exactly (pieces_of s) [] (pieces_of s) k.dones).0 k.surveyed.come ∙ sym ((come_exactly (pieces_of s) [] (pieces_of s) ds).0 come) in
     let bytes : take n out ≡ survey_bytes s ds =
-    ap (take n) k.out-is ∙ take_at (survey_bytes s k.dones) (replicate (o - n) 0) n (sym k.size) ∙ ap (survey_bytes s) same in
+    ap (take n) k.out_is ∙ take_at (survey_bytes s k.dones) (replicate (o - n) 0) n (sym k.size) ∙ ap (survey_bytes s) same in
     let w : IsWhole (pieces_of s) ds = subst (IsWhole (pieces_of s)) same k.whole in
     let d : Surveyed s e i ds = subst (Surveyed s e i) same k.surveyed in
     back (take n out) (package_name (pieces_of s)) ds (kept s ds come w)

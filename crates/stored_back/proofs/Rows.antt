@@ -84,7 +84,7 @@ show_one : (c : ℕ) (v : Value) (x : Element) → Kept c v → items_show (item
 unfolding items_named
 show_one c v x k =
     ap (λ (h : Held). items_show (items_named h (x ∷ []))) k.held
-    ∙ ap₂ (λ (i : ℕ) (u : Value). record { class = i; name = stored_name x; kind = value_kind u; low = low_of u; high = high_of u } ∷ []) k.class-is k.value-is
+    ∙ ap₂ (λ (i : ℕ) (u : Value). record { class = i; name = stored_name x; kind = value_kind u; low = low_of u; high = high_of u } ∷ []) k.class_is k.value_is
 
 show_none : (h : Held) → items_show (items_named h []) ≡ []
 unfolding items_named

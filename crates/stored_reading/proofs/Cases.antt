@@ -1,9 +1,9 @@
 -- The code's ways through a step and a turn, and the turns of its loops. Assumes nothing.
 use mathlib.Core.Path.{◌≡◌, refl, sym, ap, subst, ◌∙◌}
-use mathlib.Core.Bool.{Bool, true, false, cond, not, ◌&&◌, ◌||◌}
+use mathlib.Core.Bool.{Bool, true}
 use mathlib.Core.List.{List, [], ◌∷◌}
 use mathlib.Core.Option.{Option, none, some}
-use Prim.Native.Nat.{ℕ, zero, suc, ◌+◌, ◌-◌, ◌*◌, ◌^◌, ◌≤◌, ◌<◌}
+use Prim.Native.Nat.{ℕ, suc, ◌+◌, ◌-◌, ◌*◌, ◌^◌, ◌≤◌, ◌<◌}
 use native.Mathlib.Omega.{arith}
 use borrow.Author.Tests.{ne_eqb, eq-eqb, lt-ltb, le-ltb}
 use lib.ListN.{length, get_or, set, take, drop, length-drop, drop_of_length-le}
@@ -24,7 +24,7 @@ use Rattle.stored_reading.specs.code.Turns.{step_of, turn_held, turn_step, turn_
 use Rattle.values.specs.ValueWords.{value_kind, low_of, high_of}
 use Rattle.values.specs.declared.Value.{Value}
 use Rattle.values.specs.declared.Value.TheVariants as value
-use Rattle.stored.specs.declared.StoredValue.TheVariants.{Number, Truth, Range, Truths}
+use Rattle.stored.specs.declared.StoredValue.TheVariants.{Number, Truth, Range}
 use Rattle.stored_reading.specs.StoredRows.{survey_value, stored_class, size_of, stored_row, stored_rows_from}
 use Rattle.stored_reading.specs.code.Answers.{rows_at, firsts_from, firsts_at, sizes_from, sizes_at}
 use Rattle.stored_reading.specs.declared.FieldStep.{FieldStep}

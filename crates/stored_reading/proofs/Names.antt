@@ -1,18 +1,16 @@
 -- The names stand in the bytes where the items' fields say, and the tables of their places and lengths give them back. Assumes nothing.
 use mathlib.Core.Path.{◌≡◌, refl, sym, ap, subst, ◌∙◌}
-use mathlib.Core.Bool.{Bool, true, false}
-use mathlib.Core.List.{List, [], ◌∷◌, ◌++◌, map}
+use mathlib.Core.Bool.{Bool, true}
+use mathlib.Core.List.{List, [], ◌∷◌, ◌++◌}
 use mathlib.Core.Option.{Option, none, some}
-use Prim.Native.Nat.{ℕ, zero, suc, ◌+◌, ◌-◌, ◌*◌, ◌≤◌, ◌<◌}
-use native.Mathlib.Nat.{le_refl, not-suc-le-zero}
+use Prim.Native.Nat.{ℕ, zero, suc, ◌+◌, ◌-◌, ◌≤◌}
+use native.Mathlib.Nat.{le_refl}
 use native.Mathlib.Omega.{arith}
 use lib.ListN.{length, get_or, take, drop, replicate, length-drop, length-replicate}
 use lib.Seq.{drop-drop, length-take-le, sets, sets-eq}
 use Rattle.laws.proofs.Laws.{clash}
 use Rattle.stored.specs.StoredItems.{StoredItem, value_size}
-use Rattle.stored.specs.Stored.{Form, form_one, distinct, item_names}
-use Rattle.stored.specs.code.Decode.{before}
-use Rattle.stored.specs.declared.StoredValue.{StoredValue}
+use Rattle.stored.specs.Stored.{form_one, distinct, item_names}
 use Rattle.stored.proofs.FieldLaws.{before_some}
 use Rattle.different_names.specs.StandingNames.{name_at, names_from}
 use Rattle.stored_reading.specs.StoredRows.{size_of}

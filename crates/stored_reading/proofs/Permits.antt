@@ -2,7 +2,7 @@
 use mathlib.Core.Path.{◌≡◌, refl, sym, ap, ap₂, subst, ◌∙◌}
 use mathlib.Core.Bool.{Bool, true, false, cond}
 use mathlib.Core.List.{List, ◌++◌}
-use Prim.Native.Nat.{ℕ, ◌+◌, ◌-◌, ◌*◌, ◌/◌, ◌≤◌, ◌<◌}
+use Prim.Native.Nat.{ℕ, ◌+◌, ◌-◌, ◌*◌, ◌/◌, ◌<◌}
 use native.Mathlib.Omega.{arith}
 use borrow.Author.Tests.{ltb-true, ltb-false}
 use lib.Dec.{ltb}
@@ -14,9 +14,8 @@ use Rattle.stored.specs.code.Promises.{Bytes}
 use Rattle.stored.specs.code.Decode.{Table, broken, table, decode}
 use Rattle.stored.proofs.Inverse.{unique, only, nothing}
 use Rattle.stored_reading.specs.StoredRows.{stored_rows_from}
-use Rattle.stored_reading.specs.Permitted.{Back, Short, Due, Permitted}
+use Rattle.stored_reading.specs.Permitted.{Back, Short, Permitted}
 use Rattle.stored_reading.specs.code.Answers.{stored_answer, rows_for, stored_rows}
-use Rattle.stored_reading.specs.declared.StoredRefusal.{StoredRefusal}
 use Rattle.stored_reading.specs.declared.StoredRefusal.TheVariants.{NotStored, ItemsShort}
 use Rattle.stored_reading.specs.declared.StoredReading.{StoredReading}
 use Rattle.stored_reading.specs.declared.StoredReading.TheVariants.{Read, Refused}
@@ -28,7 +27,7 @@ by_room s n is w h true e r p =
     subst (λ (x : StoredReading). Permitted s w x (rows_for x (table n is) w)) (sym p) (record { name = n; items = is; stored = h; short = ltb-true (w / 6) (length is) e; rows_are = refl }, refl)
 by_room s n is w h false e r p =
     subst (λ (x : StoredReading). Permitted s w x (rows_for x (table n is) w)) (sym p)
-    (record { name = n; items = is; stored = h; room = ltb-false (w / 6) (length is) e; first_is_lem = refl; size_is = refl; count_is = refl; rows_are = refl })
+    (record { name = n; items = is; stored = h; room = ltb-false (w / 6) (length is) e; first_is = refl; size_is = refl; count_is = refl; rows_are = refl })
 
 by_table : (s : List ℕ) (w : ℕ) → Bytes s → (d : Table) → decode form_one s ≡ d → Permitted s w (stored_answer d w) (rows_for (stored_answer d w) d w)
 unfolding stored_answer rows_for
@@ -56,9 +55,9 @@ module _ (s : List ℕ) (w : ℕ) where
   same_back : {f g : BytePlace} {z y c d : ℕ} {t u : List ℕ} → Back s w f z c t → Back s w g y d u → (Read f z c ≡ Read g y d) × (t ≡ u)
   same_back {f} {g} {z} {y} {c} {d} {t} {u} a b =
       let e = unique form_one s a.name b.name a.items b.items a.stored b.stored in
-      let p : f.0 ≡ g.0 = a.first-is ∙ sym b.first-is in
+      let p : f.0 ≡ g.0 = a.first_is ∙ sym b.first_is in
       let q : z ≡ y = a.size_is ∙ ap length e.0 ∙ sym b.size_is in
-      let r : c ≡ d = a.count-is ∙ ap length e.1 ∙ sym b.count-is in (
+      let r : c ≡ d = a.count_is ∙ ap length e.1 ∙ sym b.count_is in (
         ap (λ (k : ℕ). Read (record { 0 = k }) z c) p ∙ ap (λ (k : ℕ). Read g k c) q ∙ ap (Read g y) r,
         a.rows_are ∙ ap₂ (λ (n : List ℕ) (is : List StoredItem). stored_rows_from (3 + length n) is ++ replicate (w - 6 * length is) 0) e.0 e.1 ∙ sym b.rows_are,
       )

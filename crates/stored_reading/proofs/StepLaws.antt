@@ -1,9 +1,9 @@
 -- What a step and a turn say of the fields and the items from here. Assumes nothing.
 use mathlib.Core.Path.{◌≡◌, refl, sym, ap, ◌∙◌}
 use mathlib.Core.Bool.{Bool, true, false, cond, ◌&&◌}
-use mathlib.Core.List.{List, [], ◌∷◌, ◌++◌}
+use mathlib.Core.List.{List, [], ◌∷◌}
 use mathlib.Core.Option.{Option, none, some}
-use Prim.Native.Nat.{ℕ, zero, suc, ◌+◌, ◌-◌, ◌*◌, ◌≤◌, ◌<◌}
+use Prim.Native.Nat.{ℕ, zero, suc, ◌+◌, ◌*◌, ◌≤◌, ◌<◌}
 use native.Mathlib.Nat.{not-suc-le-zero, le_of_suc-le-suc}
 use native.Mathlib.Omega.{arith}
 use borrow.Author.Tests.{eqb-true, eqb-false, ne_eqb, eq-eqb, ltb-true, ltb-false}
@@ -15,7 +15,7 @@ use mir.Syntax.{w32}
 use Rattle.stored.specs.Fields.{Field}
 use Rattle.stored.specs.StoredItems.{StoredItem, value_size}
 use Rattle.stored.specs.Stored.{Form}
-use Rattle.stored.specs.code.Decode.{tagged_field, length_in, before, ending, fields_from, word_in, held_number, held_truth, held_range, held_truths, held_subtype, held_value, item_fits, held_legal, kept_in, with_name, item_in, with_item, items_in_fields}
+use Rattle.stored.specs.code.Decode.{tagged_field, before, ending, fields_from, word_in, held_number, held_truth, held_range, held_truths, held_subtype, held_value, item_fits, held_legal, kept_in, with_name, item_in, with_item, items_in_fields}
 use Rattle.stored.specs.declared.StoredValue.{StoredValue}
 use Rattle.stored.specs.declared.StoredValue.TheVariants.{Number, Truth, Range, Truths}
 use Rattle.stored.specs.declared.Held.{Held}

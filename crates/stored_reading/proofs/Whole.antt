@@ -1,23 +1,22 @@
 -- From the first field to the table. Assumes nothing.
 use mathlib.Core.Path.{◌≡◌, refl, sym, ap, subst, ◌∙◌}
-use mathlib.Core.Bool.{Bool, true, false, cond, not, ◌&&◌, ◌||◌}
+use mathlib.Core.Bool.{Bool, true, false, cond}
 use mathlib.Core.List.{List, [], ◌∷◌, ◌++◌}
 use mathlib.Core.Option.{Option, none, some}
 use Prim.Native.Nat.{ℕ, zero, suc, ◌+◌, ◌-◌, ◌*◌, ◌/◌, ◌^◌, ◌≤◌, ◌<◌}
 use native.Mathlib.Nat.{sub-zero, zero-sub, suc-sub-suc, zero-add}
 use native.Mathlib.Omega.{arith}
 use borrow.Author.Tests.{ne_eqb, eq-eqb, lt-ltb, le-ltb, le-leb, lt-leb}
-use lib.Dec.{eqb, leb, ltb}
-use lib.ListN.{length, get_or, take, drop, replicate, length-drop, length-replicate}
+use lib.Dec.{eqb}
+use lib.ListN.{length, take, drop, replicate, length-drop, length-replicate}
 use lib.Seq.{length-take-le, sets, sets-eq}
 use mir.Val.{Fits}
 use mir.Syntax.{w64}
-use Rattle.places.specs.declared.BytePlace.{BytePlace}
 use Rattle.stored.specs.Fields.{Field}
-use Rattle.stored.specs.StoredItems.{StoredItem, value_size}
-use Rattle.stored.specs.Stored.{Form, form_one, distinct, item_names}
+use Rattle.stored.specs.StoredItems.{StoredItem}
+use Rattle.stored.specs.Stored.{form_one, distinct, item_names}
 use Rattle.stored.specs.LegalNames.{legal_name}
-use Rattle.stored.specs.code.Decode.{tagged_field, before, fields_from, items_in_fields, Table, broken, table, checked, titled, headed, whole_table, decode}
+use Rattle.stored.specs.code.Decode.{tagged_field, before, fields_from, Table, broken, table, checked, titled, headed, whole_table, decode}
 use Rattle.stored.proofs.Inverse.{checked_some}
 use Rattle.laws.proofs.Laws.{clash}
 use Rattle.stored_reading.specs.code.Turns.{step_of, items_by, items_at, count_with, there, items_counted, distinct_items}
@@ -151,19 +150,19 @@ module _ (s : List ℕ) (st : FieldStep) (t n : ℕ) (b a : List ℕ) (x : Bool)
       rw (d.1, f, w.1.0, le-leb (length w.0) 1024 (omega (arith, w.1.1)), u)
 
   pub found_whole : (c : ℕ) (z : Bool) → st ≡ Tagged t n → st ≡ step_of s → t ≡ 1 → x ≡ legal_name b → x ≡ true → ct ≡ Items c → c ≤ 1024 → ct ≡ count_with 0 (items_at form_one (drop (3 + n) s))
-      → z ≡ distinct_items (items_at form_one (drop (3 + n) s)) → z ≡ true → b ≡ take n a → a ≡ drop 3 s → Holding (record { 0 = 3 + n }) c ≡ examined_of (decode form_one s)
+      → z ≡ distinct_items (items_at form_one (drop (3 + n) s)) → z ≡ true → b ≡ take n a → a ≡ drop 3 s → Holding (3 + n) c ≡ examined_of (decode form_one s)
   unfolding examined_of checked distinct_items
   found_whole c z e p o y f g m h i j q r =
       let d = decoded_named s st t n b a x e p o y q r in
       let w = tally_items c (items_at form_one (drop (3 + n) s)) (sym g ∙ h) in
       let u : distinct (item_names w.0) ≡ true = sym (ap distinct_items w.1.0) ∙ sym i ∙ j in
-      rw (d.1, f, w.1.0, le-leb (length w.0) 1024 (omega (arith, w.1.1)), u, d.0) (ap (Holding (record { 0 = 3 + n })) w.1.1)
+      rw (d.1, f, w.1.0, le-leb (length w.0) 1024 (omega (arith, w.1.1)), u, d.0) (ap (Holding (3 + n)) w.1.1)
 
 -- ---- the answer and the table
-found_table : (d : Table) (f : BytePlace) (c : ℕ) → Holding f c ≡ examined_of d → (n : List ℕ) × ((is : List StoredItem) × ((d ≡ table n is) × ((f.0 ≡ 3 + length n) × (c ≡ length is))))
+found_table : (d : Table) (f c : ℕ) → Holding f c ≡ examined_of d → (n : List ℕ) × ((is : List StoredItem) × ((d ≡ table n is) × ((f ≡ 3 + length n) × (c ≡ length is))))
 unfolding examined_of
 found_table broken f c e = clash (cc)
-found_table (table n is) f c e = (n, (is, (refl, (ap (λ (b : BytePlace). b.0) cc, cc))))
+found_table (table n is) f c e = (n, (is, (refl, (cc, cc))))
 
 found_broken_is : (d : Table) → Nowhere ≡ examined_of d → d ≡ broken
 unfolding examined_of
@@ -218,61 +217,61 @@ module _ (s : List ℕ) (fd : Examined) where
   unfolding stored_rows rows_for stored_answer
   rows_none w u e p z = z ∙ rw (found_broken_is (decode form_one s) (sym e ∙ p))
 
-  pub from_three : (f : BytePlace) (c : ℕ) → fd ≡ Holding f c → fd ≡ examined_of (decode form_one s) → 3 ≤ f.0
+  pub from_three : (f c : ℕ) → fd ≡ Holding f c → fd ≡ examined_of (decode form_one s) → 3 ≤ f
   from_three f c e p = let w = found_table (decode form_one s) f c (sym e ∙ p) in omega (arith, w.1.1.1.0)
 
-  items_from : (f : BytePlace) (c : ℕ) → fd ≡ Holding f c → fd ≡ examined_of (decode form_one s) → (is : List StoredItem) × ((items_at form_one (drop f.0 s) ≡ some is) × (c ≡ length is))
+  items_from : (f c : ℕ) → fd ≡ Holding f c → fd ≡ examined_of (decode form_one s) → (is : List StoredItem) × ((items_at form_one (drop f s) ≡ some is) × (c ≡ length is))
   items_from f c e p =
       let w = found_table (decode form_one s) f c (sym e ∙ p) in
       (w.1.0, (ap (λ (k : ℕ). items_at form_one (drop k s)) w.1.1.1.0 ∙ opened s w.0 w.1.0 w.1.1.0, w.1.1.1.1))
 
-  pub there_from : (f : BytePlace) (c : ℕ) → fd ≡ Holding f c → fd ≡ examined_of (decode form_one s) → there (items_at form_one (drop f.0 s)) ≡ true
+  pub there_from : (f c : ℕ) → fd ≡ Holding f c → fd ≡ examined_of (decode form_one s) → there (items_at form_one (drop f s)) ≡ true
   unfolding there
   there_from f c e p = let w = items_from f c e p in rw w.1.0
 
-  pub room_from : (f : BytePlace) (c : ℕ) (t : List ℕ) → fd ≡ Holding f c → fd ≡ examined_of (decode form_one s) → c ≤ length t / 6 → 6 * items_counted (items_at form_one (drop f.0 s)) ≤ length t
+  pub room_from : (f c : ℕ) (t : List ℕ) → fd ≡ Holding f c → fd ≡ examined_of (decode form_one s) → c ≤ length t / 6 → 6 * items_counted (items_at form_one (drop f s)) ≤ length t
   unfolding items_counted
   room_from f c t e p l = let w = items_from f c e p in rw w.1.0 (omega (arith, w.1.1))
 
-  pub read_short : (f : BytePlace) (c : ℕ) (t u : List ℕ) → fd ≡ Holding f c → fd ≡ examined_of (decode form_one s) → length u / 6 < c → u ≡ replicate (length t) 0 → Refused (ItemsShort (length u / 6)) ≡ stored_answer (decode form_one s) (length t)
+  pub read_short : (f c : ℕ) (t u : List ℕ) → fd ≡ Holding f c → fd ≡ examined_of (decode form_one s) → length u / 6 < c → u ≡ replicate (length t) 0 → Refused (ItemsShort (length u / 6)) ≡ stored_answer (decode form_one s) (length t)
   unfolding stored_answer
   read_short f c t u e p l z =
       let w = found_table (decode form_one s) f c (sym e ∙ p) in
       let m : length u ≡ length t = ap length z ∙ length-replicate (length t) 0 in
       rw (w.1.1.0, lt-ltb (length t / 6) (length w.1.0) (omega (arith, m, w.1.1.1.1)), m)
 
-  pub rows_short : (f : BytePlace) (c : ℕ) (t u : List ℕ) → fd ≡ Holding f c → fd ≡ examined_of (decode form_one s) → length u / 6 < c → u ≡ replicate (length t) 0 → u ≡ stored_rows (decode form_one s) (length t)
+  pub rows_short : (f c : ℕ) (t u : List ℕ) → fd ≡ Holding f c → fd ≡ examined_of (decode form_one s) → length u / 6 < c → u ≡ replicate (length t) 0 → u ≡ stored_rows (decode form_one s) (length t)
   unfolding stored_rows rows_for
   rows_short f c t u e p l z = z ∙ sym (ap (λ (a : StoredReading). rows_for a (decode form_one s) (length t)) (sym (read_short f c t u e p l z)))
 
-  pub read_whole : (f : BytePlace) (c : ℕ) (t u : List ℕ) → fd ≡ Holding f c → fd ≡ examined_of (decode form_one s) → c ≤ length u / 6 → u ≡ replicate (length t) 0 → Read (record { 0 = 3 }) (f.0 - 3) c ≡ stored_answer (decode form_one s) (length t)
+  pub read_whole : (f c : ℕ) (t u : List ℕ) → fd ≡ Holding f c → fd ≡ examined_of (decode form_one s) → c ≤ length u / 6 → u ≡ replicate (length t) 0 → Read (record { 0 = 3 }) (f - 3) c ≡ stored_answer (decode form_one s) (length t)
   unfolding stored_answer
   read_whole f c t u e p l z =
       let w = found_table (decode form_one s) f c (sym e ∙ p) in
       let m : length u ≡ length t = ap length z ∙ length-replicate (length t) 0 in
-      let k : f.0 - 3 ≡ length w.0 = omega (arith, w.1.1.1.0) in
+      let k : f - 3 ≡ length w.0 = omega (arith, w.1.1.1.0) in
       rw (w.1.1.0, le-ltb (length t / 6) (length w.1.0) (omega (arith, m, w.1.1.1.1))) (ends k w.1.1.1.1)
     where
       ends : {a b x y : ℕ} → a ≡ b → x ≡ y → Read (record { 0 = 3 }) a x ≡ Read (record { 0 = 3 }) b y
       ends p q = cc
 
-  pub rows_whole : (f : BytePlace) (c : ℕ) (t u v : List ℕ) → fd ≡ Holding f c → fd ≡ examined_of (decode form_one s) → c ≤ length u / 6 → v ≡ sets u 0 (rows_at f.0 (items_at form_one (drop f.0 s))) → u ≡ replicate (length t) 0 → v ≡ stored_rows (decode form_one s) (length t)
+  pub rows_whole : (f c : ℕ) (t u v : List ℕ) → fd ≡ Holding f c → fd ≡ examined_of (decode form_one s) → c ≤ length u / 6 → v ≡ sets u 0 (rows_at f (items_at form_one (drop f s))) → u ≡ replicate (length t) 0 → v ≡ stored_rows (decode form_one s) (length t)
   unfolding stored_rows
   rows_whole f c t u v e p l q z =
       let w = found_table (decode form_one s) f c (sym e ∙ p) in
       let i = opened s w.0 w.1.0 w.1.1.0 in
       let m : length u ≡ length t = ap length z ∙ length-replicate (length t) 0 in
       let r : 6 * length w.1.0 ≤ length t = omega (arith, m, w.1.1.1.1) in
-      rows_made w.0 w.1.0 f.0 (length t) u v (decode form_one s) w.1.1.0 w.1.1.1.0 q (ap (λ (k : ℕ). items_at form_one (drop k s)) w.1.1.1.0 ∙ i) z r (read_whole f c t u e p l z)
+      rows_made w.0 w.1.0 f (length t) u v (decode form_one s) w.1.1.0 w.1.1.1.0 q (ap (λ (k : ℕ). items_at form_one (drop k s)) w.1.1.1.0 ∙ i) z r (read_whole f c t u e p l z)
 
 -- ---- the contract
 module _ (s : List ℕ) (fd : Examined) where
   pub permit_none : (t u : List ℕ) → Bytes s → fd ≡ Nowhere → fd ≡ examined_of (decode form_one s) → u ≡ replicate (length t) 0 → Permitted s (length t) (Refused NotStored) u
   permit_none t u h e p z = permits_these s (length t) (Refused NotStored) u h (read_none s fd (length t) e p) (rows_none s fd (length t) u e p z)
 
-  pub permit_short : (f : BytePlace) (c : ℕ) (t u : List ℕ) → Bytes s → fd ≡ Holding f c → fd ≡ examined_of (decode form_one s) → length u / 6 < c → u ≡ replicate (length t) 0 → Permitted s (length t) (Refused (ItemsShort (length u / 6))) u
+  pub permit_short : (f c : ℕ) (t u : List ℕ) → Bytes s → fd ≡ Holding f c → fd ≡ examined_of (decode form_one s) → length u / 6 < c → u ≡ replicate (length t) 0 → Permitted s (length t) (Refused (ItemsShort (length u / 6))) u
   permit_short f c t u h e p l z = permits_these s (length t) (Refused (ItemsShort (length u / 6))) u h (read_short s fd f c t u e p l z) (rows_short s fd f c t u e p l z)
 
-  pub permit_read : (f : BytePlace) (c : ℕ) (t u v : List ℕ) → Bytes s → fd ≡ Holding f c → fd ≡ examined_of (decode form_one s) → c ≤ length u / 6 → v ≡ sets u 0 (rows_at f.0 (items_at form_one (drop f.0 s))) → u ≡ replicate (length t) 0
-      → Permitted s (length t) (Read (record { 0 = 3 }) (f.0 - 3) c) v
-  permit_read f c t u v h e p l q z = permits_these s (length t) (Read (record { 0 = 3 }) (f.0 - 3) c) v h (read_whole s fd f c t u e p l z) (rows_whole s fd f c t u v e p l q z)
+  pub permit_read : (f c : ℕ) (t u v : List ℕ) → Bytes s → fd ≡ Holding f c → fd ≡ examined_of (decode form_one s) → c ≤ length u / 6 → v ≡ sets u 0 (rows_at f (items_at form_one (drop f s))) → u ≡ replicate (length t) 0
+      → Permitted s (length t) (Read (record { 0 = 3 }) (f - 3) c) v
+  permit_read f c t u v h e p l q z = permits_these s (length t) (Read (record { 0 = 3 }) (f - 3) c) v h (read_whole s fd f c t u e p l z) (rows_whole s fd f c t u v e p l q z)

@@ -288,7 +288,7 @@ unfolding at weight
 heading_weight p a h =
     let k = heading_parts (kinds_in_piece p) h in
     let l : length p ≡ 3 = sym (kinds_length p) ∙ k.0 in
-    let u = (all_at p 0 (omega arith) a).as-package (sym (kinds_at_lem p 0) ∙ k.1) in
+    let u = (all_at p 0 (omega arith) a).as_package (sym (kinds_at_lem p 0) ∙ k.1) in
     let v = (all_at p 1 (omega arith) a).some in
     let w = (all_at p 2 (omega arith) a).as_is (sym (kinds_at_lem p 2) ∙ k.2) in
     by p l u v w

@@ -147,9 +147,9 @@ module _ (s : List ℕ) (e i o : ℕ) where
       let d = same_dones p.dones q.dones p.surveyed q.surveyed in
       let k : n ≡ m = p.size ∙ ap (λ (ds : List Done). length (survey_bytes s ds)) d ∙ sym q.size in (
         ap Stored k,
-        p.elements-are ∙ sym q.elements-are,
-        p.items-are ∙ ap (λ (ds : List Done). records_from 0 ds ++ replicate (i - record_words * length (pieces_of s)) 0) d ∙ sym q.items-are,
-        p.out-is ∙ ap₂ (λ (ds : List Done) (j : ℕ). survey_bytes s ds ++ replicate (o - j) 0) d k ∙ sym q.out-is,
+        p.elements_are ∙ sym q.elements_are,
+        p.items_are ∙ ap (λ (ds : List Done). records_from 0 ds ++ replicate (i - record_words * length (pieces_of s)) 0) d ∙ sym q.items_are,
+        p.out_is ∙ ap₂ (λ (ds : List Done) (j : ℕ). survey_bytes s ds ++ replicate (o - j) 0) d k ∙ sym q.out_is,
       )
 
 pub no_choice : NoChoice

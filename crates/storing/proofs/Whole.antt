@@ -225,12 +225,12 @@ module _ (text : List ℕ) (e i o : ℕ) (x : Survey) (t u : List ℕ) (p : surv
 
     -- the tables keep their lengths
     long_elements : length t ≡ e
-    long_elements = let r = fin.taken.2 in omega (arith, ap length fin.elements-are, table_length text (e - 3 * length (rows_of text)))
+    long_elements = let r = fin.taken.2 in omega (arith, ap length fin.elements_are, table_length text (e - 3 * length (rows_of text)))
 
     long_items : length u ≡ i
     long_items =
         let r = fin.room in
-        omega (arith, ap length fin.items-are, items_length fin.dones (i - 8 * length (pieces_of text)), dones_size text fin.dones fin.come)
+        omega (arith, ap length fin.items_are, items_length fin.dones (i - 8 * length (pieces_of text)), dones_size text fin.dones fin.come)
 
     clear_elements : (t' : List ℕ) → t' ≡ replicate (length t) 0 → t' ≡ replicate e 0
     clear_elements t' q = q ∙ ap (λ (k : ℕ). replicate k 0) long_elements
@@ -245,7 +245,7 @@ module _ (text : List ℕ) (e i o : ℕ) (x : Survey) (t u : List ℕ) (p : surv
     table_here w =
         let k = fin.whole.0 w in
         let n : y.pieces ≡ length fin.dones = fin.pieces ∙ sym (dones_size text fin.dones fin.come) in
-        ap₂ (λ (a b : List ℕ). put_table text a b y.pieces) fin.elements-are fin.items-are
+        ap₂ (λ (a b : List ℕ). put_table text a b y.pieces) fin.elements_are fin.items_are
         ∙ ap (put_table text (table_of text (e - 3 * length (rows_of text))) (item_table fin.dones (i - 8 * length (pieces_of text)))) n
         ∙ table_is text (e - 3 * length (rows_of text)) (i - 8 * length (pieces_of text)) fin.dones fin.come fin.taken.0 k.0
 
@@ -271,7 +271,7 @@ module _ (text : List ℕ) (e i o : ℕ) (x : Survey) (t u : List ℕ) (p : surv
           whole = fin.whole.0 w;
           size = m;
           fits = omega (arith, l, q);
-          elements_are = fin.elements-are;
-          items_are = fin.items-are;
+          elements_are = fin.elements_are;
+          items_are = fin.items_are;
           out_is = filled out out' (survey_bytes text fin.dones) o r z (omega (arith, l, q, m)) v' ∙ ap (λ (k : ℕ). survey_bytes text fin.dones ++ replicate (o - k) 0) (sym m);
         }

@@ -9,12 +9,10 @@ use borrow.Author.Tests.{ltb-true, ltb-false}
 use lib.Dec.{ltb}
 use lib.ListN.{length, replicate}
 use Rattle.laws.proofs.Laws.{clash}
-use Rattle.places.specs.declared.BytePlace.{BytePlace}
 use Rattle.stored.specs.StoredItems.{StoredItem}
 use Rattle.stored.specs.Stored.{form_one, stored_bytes}
 use Rattle.stored.specs.Stored as stored
 use Rattle.stored.specs.code.Decode.{decode}
-use Rattle.stored.specs.code.Promises.{Bytes}
 use Rattle.stored_reading.specs.StoredRows.{stored_rows_from}
 use Rattle.stored_reading.specs.Permitted as reading
 use Rattle.stored_reading.specs.code.Answers.{stored_answer, stored_rows}
@@ -73,7 +71,7 @@ module _ (s : List ℕ) (w o : ℕ) where
       let f : n ≡ m = h.size ∙ ap length e ∙ sym k.size in (
         ap Stored f,
         same_rows h.was_read k.was_read,
-        h.out-is ∙ ap₂ (λ (bs : List ℕ) (i : ℕ). bs ++ replicate (o - i) 0) e f ∙ sym k.out-is,
+        h.out_is ∙ ap₂ (λ (bs : List ℕ) (i : ℕ). bs ++ replicate (o - i) 0) e f ∙ sym k.out_is,
       )
 
 pub no_choice : NoChoice
@@ -103,7 +101,7 @@ module _ (s : List ℕ) (w o : ℕ) (a : Again) (t v : List ℕ) (p : Permitted 
     first = record { 0 = 3 };
     size = length n;
     count = length items;
-    back = record { name = n; items = items; stored = h; room = l; first_is_lem = refl; size_is = refl; count_is = refl; rows_are = refl };
+    back = record { name = n; items = items; stored = h; room = l; first_is = refl; size_is = refl; count_is = refl; rows_are = refl };
   }
 
   output_short : (a ≡ OutputShort o)

@@ -1,18 +1,16 @@
 -- The fields of rows put one after the other, in the code's terms. Assumes nothing.
-use mathlib.Core.Path.{◌≡◌, refl, sym, ap, ap₂, ◌∙◌}
+use mathlib.Core.Path.{◌≡◌, sym, ap, ap₂, ◌∙◌}
 use mathlib.Core.Bool.{false}
 use mathlib.Core.List.{List, [], ◌∷◌, ◌++◌, map, append-nil}
-use Prim.Native.Nat.{ℕ, zero, suc, ◌+◌, ◌*◌, ◌≤◌, ◌<◌}
+use Prim.Native.Nat.{ℕ, suc, ◌+◌}
 use native.Mathlib.Numerals.{add-one}
-use native.Mathlib.Omega.{arith}
 use borrow.Author.Tests.{eq-eqb, ne_eqb}
-use lib.IntN.{ℤ}
-use lib.ListN.{length, get_or, take, drop}
+use lib.ListN.{get_or, take, drop}
 use Rattle.pieces.specs.Classes as classes
 use Rattle.puts.specs.Puts.{Wrote}
 use Rattle.puts.proofs.Laws.{then, then3, named}
 use Rattle.stored.specs.Fields.{fields_bytes}
-use Rattle.stored.specs.StoredItems.{StoredItem, item_field, name_field}
+use Rattle.stored.specs.StoredItems.{item_field, name_field}
 use Rattle.stored.specs.declared.StoredValue.{StoredValue}
 use Rattle.stored_writing.specs.Written.{as_stored, field_put, fields_put}
 use Rattle.stored_writing.proofs.Puts.{as_it_stands, items_append}

@@ -1,14 +1,14 @@
 -- What the code puts of a table that is read is its bytes, and each way through storing again is permitted. Assumes nothing.
-use mathlib.Core.Path.{◌≡◌, refl, sym, ap, ap₂, subst, ◌∙◌}
+use mathlib.Core.Path.{◌≡◌, sym, ap, ap₂, subst, ◌∙◌}
 use mathlib.Core.List.{List, [], ◌∷◌, ◌++◌, map, append_assoc}
-use Prim.Native.Nat.{ℕ, ◌+◌, ◌-◌, ◌*◌, ◌/◌, ◌≤◌, ◌<◌, min}
+use Prim.Native.Nat.{ℕ, ◌+◌, ◌-◌, ◌*◌, ◌≤◌, ◌<◌}
 use native.Mathlib.Omega.{arith}
 use lib.ListN.{length, take, drop, replicate, length-append, length-replicate}
 use Rattle.places.specs.declared.BytePlace.{BytePlace}
 use Rattle.puts.specs.Puts.{Wrote}
 use Rattle.stored.specs.Fields.{fields_bytes}
 use Rattle.stored.specs.StoredItems.{StoredItem, item_field, name_field}
-use Rattle.stored.specs.Stored.{form_one, stored_fields, stored_bytes}
+use Rattle.stored.specs.Stored.{form_one, stored_bytes}
 use Rattle.stored_reading.specs.StoredRows.{stored_rows_from}
 use Rattle.stored_reading.specs.Permitted as reading
 use Rattle.stored_reading.specs.declared.StoredRefusal.{StoredRefusal}
@@ -18,7 +18,7 @@ use Rattle.stored_reading.proofs.Whole.{length_cells}
 use Rattle.stored_reading.proofs.Promises.{names_stand}
 use Rattle.stored_writing.specs.Written.{field_put, fields_put}
 use Rattle.stored_writing.proofs.Puts.{fields_put_lem, filled}
-use Rattle.storing_again.specs.Permitted.{WasRead, again_bytes, KeptAgain, ShortOutput, Permitted}
+use Rattle.storing_again.specs.Permitted.{WasRead, again_bytes, Permitted}
 use Rattle.storing_again.specs.code.RowItems.{row_items, table_put}
 use Rattle.storing_again.specs.declared.Again.TheVariants.{Refused, OutputShort, Stored}
 use Rattle.storing_again.proofs.RowItems.{items_back}
@@ -33,11 +33,11 @@ module _ (s : List ℕ) (w : ℕ) (f : BytePlace) (z c : ℕ) (rows : List ℕ) 
   items = b.items
 
   name_is : take z (drop f.0 s) ≡ title
-  name_is = ap₂ (λ (k n : ℕ). take n (drop k s)) b.first-is b.size_is ∙ (names_stand s title items b.stored).0
+  name_is = ap₂ (λ (k n : ℕ). take n (drop k s)) b.first_is b.size_is ∙ (names_stand s title items b.stored).0
 
   items_are : row_items s rows c ≡ items
   items_are =
-      ap₂ (row_items s) b.rows_are b.count-is
+      ap₂ (row_items s) b.rows_are b.count_is
       ∙ items_back s (replicate (w - 6 * length items) 0) (3 + length title) items b.stored.legal.each (names_stand s title items b.stored).1
 
   pub table_is : table_put s f.0 z rows c ≡ stored_bytes form_one title items
@@ -60,7 +60,7 @@ module _ (s : List ℕ) (w : ℕ) (f : BytePlace) (z c : ℕ) (rows : List ℕ) 
       )
 
   pub rows_there : 6 * c ≤ length rows
-  rows_there = let l = b.room in omega (arith, long, b.count-is)
+  rows_there = let l = b.room in omega (arith, long, b.count_is)
 
 -- ---- the ways through storing again
 

@@ -16,13 +16,11 @@ use Rattle.elements.specs.Kinds.{kind_number}
 use Rattle.element_reading.specs.Rows.{ElementRow, rows_of}
 use Rattle.element_reading.specs.Table.{cells}
 use Rattle.element_reading.specs.Reading.{table_of}
-use Rattle.element_reading.specs.declared.Reading.TheVariants as R
 use Rattle.element_reading.specs.Given.{element_count, Taken}
 use Rattle.element_reading.proofs.Answers.{taken_read, table_read, table_length}
 use Rattle.tree.specs.code.Answers.{elements_counted}
 use Rattle.strict_reading.specs.declared.Unread.{Unread}
 use Rattle.strict_reading.specs.declared.Unread.TheVariants as U
-use Rattle.refusals.specs.declared.StrictRefusal.TheVariants as S
 use Rattle.strict_reading.specs.code.Strict.{unreadable_from}
 use Rattle.strict_reading.specs.Given.{UnreadableIn, FirstUnreadable, NoneUnreadable}
 

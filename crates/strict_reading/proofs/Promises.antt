@@ -18,7 +18,7 @@ use Rattle.forms.specs.code.RuleActions.{State, state_rows}
 use Rattle.forms.specs.Tree as forms
 use Rattle.forms.specs.code.RuleActions as frames
 use Rattle.forms.specs.RowWords.{tree_rows_in}
-use Rattle.tree.specs.code.Answers.{elements_counted, reading_in, tree_answer_of, no_file, name_differs, too_deep, table_short}
+use Rattle.tree.specs.code.Answers.{elements_counted, reading_in, tree_answer_of, no_file_answer, name_differs_answer, too_deep_answer, table_short}
 use Rattle.forms.specs.RowWords.{words_of}
 use Rattle.laws.proofs.Laws.{clash}
 use Rattle.tree.specs.code.Answers as answers
@@ -44,7 +44,7 @@ use Rattle.strict_reading.specs.code.Strict.{unreadable_from, by_answer, tree_ta
 use Rattle.element_reading.specs.Given.{element_count, Taken}
 use Rattle.element_reading.specs.Given as goal
 use Rattle.element_reading.proofs.Answers as reading
-use Rattle.strict_reading.specs.Given.{FirstUnreadable, Readable, Elements, same_name_in, File, ReadAs, IsRead, Given, of_elements, unreadable, no_file_lem, name_differs_lem, too_deep_lem, tree_short}
+use Rattle.strict_reading.specs.Given.{FirstUnreadable, Readable, Elements, same_name_in, File, ReadAs, IsRead, Given, of_elements, unreadable, no_file, name_differs, too_deep, tree_short}
 use Rattle.strict_reading.specs.Permitted.{Permitted}
 use Rattle.strict_reading.specs.Promises.{Accepted, RefusedExactly, NoChoice, SomeAnswer}
 use Rattle.element_reading.proofs.Answers.{ReadingSays, reading_says, taken_read, refused_reading}
@@ -146,15 +146,15 @@ module _ (text : List ℕ) (ew tw : ℕ) where
   numbered (of_elements (goal.too_many a h)) = goal.too_many a h
   numbered (of_elements (goal.short a b h)) = goal.short a b h
   numbered (unreadable t u) = (t, u)
-  numbered (no_file_lem r d) = (r, d)
-  numbered (name_differs_lem r d) = (r, d)
-  numbered (too_deep_lem r d) = (r, d)
+  numbered (no_file r d) = (r, d)
+  numbered (name_differs r d) = (r, d)
+  numbered (too_deep r d) = (r, d)
   numbered (tree_short {l = l} r f h) = (r, refl, (l, (f, h)))
 
   given_as : (r : StrictRefusal) → Given text ew tw (strict_number r) (strict_place r) → GivenAs r
-  given_as (S.Elements (E.TextTooLong p)) g = reading.given-as text ew (E.TextTooLong p) (numbered g)
-  given_as (S.Elements (E.TooManyElements e)) g = reading.given-as text ew (E.TooManyElements e) (numbered g)
-  given_as (S.Elements (E.TableShort e)) g = reading.given-as text ew (E.TableShort e) (numbered g)
+  given_as (S.Elements (E.TextTooLong p)) g = reading.given_as text ew (E.TextTooLong p) (numbered g)
+  given_as (S.Elements (E.TooManyElements e)) g = reading.given_as text ew (E.TooManyElements e) (numbered g)
+  given_as (S.Elements (E.TableShort e)) g = reading.given_as text ew (E.TableShort e) (numbered g)
   given_as (S.Unreadable e) g = numbered g
   given_as (S.NoFile e) g = numbered g
   given_as (S.NameDiffers e) g = numbered g
@@ -162,11 +162,11 @@ module _ (text : List ℕ) (ew tw : ℕ) where
   given_as (S.TreeShort rows) g = numbered g
 
   as_given : (r : StrictRefusal) → GivenAs r → Given text ew tw (strict_number r) (strict_place r)
-  as_given (S.Elements r) g = of_elements (reading.as-given text ew r g)
+  as_given (S.Elements r) g = of_elements (reading.as_given text ew r g)
   as_given (S.Unreadable e) g = unreadable g.0 g.1
-  as_given (S.NoFile e) g = no_file_lem g.0 g.1
-  as_given (S.NameDiffers e) g = name_differs_lem g.0 g.1
-  as_given (S.TooDeep e) g = too_deep_lem g.0 g.1
+  as_given (S.NoFile e) g = no_file g.0 g.1
+  as_given (S.NameDiffers e) g = name_differs g.0 g.1
+  as_given (S.TooDeep e) g = too_deep g.0 g.1
   as_given (S.TreeShort rows) g = subst (λ (k : ℕ). Given text ew tw 8 k) (sym g.1) (tree_short g.0 g.2.1.0 g.2.1.1)
 
   -- what an answer says of the text
@@ -194,9 +194,9 @@ module _ (text : List ℕ) (ew tw : ℕ) where
           (state_rows f.0, (r, is_file f.0 (of_text text ew r.0 (λ a w. frames.Reading a w f.0) f.1.0), f.1.1, f.1.2, (verdict_as r.0 f.0 f.1.0 rows f.1.1 f.1.2 (verdict_of (tree_table text (table_of text ew) (element_count text) tw) rows)).0 refl))
       go (A.Refused (S.Elements x)) e = clash (sym (none_elsewhere tw (reading_in text (table_of text ew) (element_count text))) ∙ ap elsewhere e)
       go (A.Refused (S.Unreadable x)) e = clash (sym (none_elsewhere tw (reading_in text (table_of text ew) (element_count text))) ∙ ap elsewhere e)
-      go (A.Refused (S.NoFile x)) e = says (no_file x.0) e (r, of_text text ew r.0 (λ a w. NoFileFirst a w x.0) ((no_file_exactly text (table_of text ew) (element_count text) tw x.0).0 e))
-      go (A.Refused (S.NameDiffers x)) e = says (name_differs x.0) e (r, of_text text ew r.0 (λ a w. NameFirst a w x.0) ((name_differs_exactly text (table_of text ew) (element_count text) tw x.0).0 e))
-      go (A.Refused (S.TooDeep x)) e = says (too_deep x.0) e (r, of_text text ew r.0 (λ a w. DepthFirst a w x.0) ((too_deep_exactly text (table_of text ew) (element_count text) tw x.0).0 e))
+      go (A.Refused (S.NoFile x)) e = says (no_file_answer x.0) e (r, of_text text ew r.0 (λ a w. NoFileFirst a w x.0) ((no_file_exactly text (table_of text ew) (element_count text) tw x.0).0 e))
+      go (A.Refused (S.NameDiffers x)) e = says (name_differs_answer x.0) e (r, of_text text ew r.0 (λ a w. NameFirst a w x.0) ((name_differs_exactly text (table_of text ew) (element_count text) tw x.0).0 e))
+      go (A.Refused (S.TooDeep x)) e = says (too_deep_answer x.0) e (r, of_text text ew r.0 (λ a w. DepthFirst a w x.0) ((too_deep_exactly text (table_of text ew) (element_count text) tw x.0).0 e))
       go (A.Refused (S.TreeShort k)) e =
           let f = (is_short text (table_of text ew) (element_count text) tw k).0 e in
           let l = f.1.1.1 in
@@ -232,15 +232,15 @@ module _ (text : List ℕ) (ew tw : ℕ) where
       ∙ all_by text (table_of text ew) (element_count text) tw (U.At e.0) (first_unread text ew g.0 e.0 g.1)
   refused_by_lem (S.NoFile e) g =
       readable_as g.0
-      ∙ answered_as g.0.0 (no_file e.0)
+      ∙ answered_as g.0.0 (no_file_answer e.0)
       ((no_file_exactly text (table_of text ew) (element_count text) tw e.0).1 (of_table text ew g.0.0 (λ a w. NoFileFirst a w e.0) g.1))
   refused_by_lem (S.NameDiffers e) g =
       readable_as g.0
-      ∙ answered_as g.0.0 (name_differs e.0)
+      ∙ answered_as g.0.0 (name_differs_answer e.0)
       ((name_differs_exactly text (table_of text ew) (element_count text) tw e.0).1 (of_table text ew g.0.0 (λ a w. NameFirst a w e.0) g.1))
   refused_by_lem (S.TooDeep e) g =
       readable_as g.0
-      ∙ answered_as g.0.0 (too_deep e.0)
+      ∙ answered_as g.0.0 (too_deep_answer e.0)
       ((too_deep_exactly text (table_of text ew) (element_count text) tw e.0).1 (of_table text ew g.0.0 (λ a w. DepthFirst a w e.0) g.1))
   refused_by_lem (S.TreeShort rows) g =
       let x = is_read g.2.0 g.2.1.0 in

@@ -3,9 +3,9 @@ use mathlib.Core.Path.{◌≡◌, refl, sym, ap, ap₂, subst, ◌∙◌}
 use mathlib.Core.Logic.{◌↔◌}
 use mathlib.Core.Bool.{Bool, true}
 use mathlib.Core.List.{List, [], ◌∷◌, ◌++◌}
-use Prim.Native.Nat.{ℕ, zero, suc, ◌-◌, ◌*◌, ◌≤◌, ◌<◌}
+use Prim.Native.Nat.{ℕ, zero, suc, ◌-◌, ◌*◌, ◌≤◌}
 use native.Mathlib.Omega.{arith}
-use lib.ListN.{length, get_or, replicate}
+use lib.ListN.{length, replicate}
 use lib.Seq.{ext_get_or}
 use Rattle.laws.proofs.Laws.{clash}
 use Rattle.records.specs.Tallies.{in_state, counts_from, tally_of}
@@ -26,10 +26,9 @@ use Rattle.refusals.specs.declared.SurveyRefusal.{SurveyRefusal}
 use Rattle.meaning.specs.Elements.{Piece}
 use Rattle.meaning.specs.Pieces.{pieces_of}
 use Rattle.meaning.specs.Names.{Done}
-use Rattle.meaning.specs.Meaning.{Come}
 use Rattle.meaning.specs.code.PieceValues.{value_of, done_of, dones_from, dones_of, records_of}
 use Rattle.meaning.specs.Records.{records_from}
-use Rattle.meaning.specs.Together.{GoodFrame, FirstPair, count_in, AllFold, IsWhole}
+use Rattle.meaning.specs.Together.{GoodFrame, FirstPair, count_in, IsWhole}
 use Rattle.meaning.proofs.Records.{pieces_done, pieces_length}
 use Rattle.meaning.proofs.Words as held
 use Rattle.meaning.proofs.Places.{table_of}
@@ -39,8 +38,7 @@ use Rattle.meaning.proofs.Comes.{come_exactly}
 use Rattle.meaning.proofs.Together.{Known, state_count, folds_none, none_folds, one_pair, pair_is}
 use Rattle.meaning.proofs.Frames.{frame_is}
 use Rattle.pieces.specs.Columns.{record_words}
-use Rattle.survey_reading.specs.code.Survey.{item_table, summary, summed_of, survey_by_recording, survey_by_reading, survey_of, elements_after_survey, items_after, refused_by}
-use Rattle.survey_reading.specs.Given.{Given}
+use Rattle.survey_reading.specs.code.Survey.{item_table, summary, summed_of, survey_by_recording, survey_by_reading, survey_of, elements_after_survey, items_after}
 use Rattle.survey_reading.specs.Permitted.{Finished, PermittedBy, Permitted, LeavesTables}
 use Rattle.survey_reading.specs.code.Promises.{NoChoice}
 use Rattle.survey_reading.specs.declared.Ended.{Ended}
@@ -180,8 +178,8 @@ module _ (s : List ℕ) (e i : ℕ) where
             (one_pair (pieces_of s) y.pair y'.pair a.pair b.pair)),
         ap (λ (c : List ℕ). record { counts = c })
             (ext_get_or 0 l.counts l'.counts (a.eleven ∙ sym b.eleven) (λ k h. let x = a.eleven in a.counts k (omega arith) ∙ ap (count_in k) d ∙ sym (b.counts k (omega arith)))),
-        a.elements-are ∙ sym b.elements-are,
-        a.items-are ∙ ap (λ (c : List Done). records_from 0 c ++ replicate (i - record_words * length (pieces_of s)) 0) d ∙ sym b.items-are,
+        a.elements_are ∙ sym b.elements_are,
+        a.items_are ∙ ap (λ (c : List Done). records_from 0 c ++ replicate (i - record_words * length (pieces_of s)) 0) d ∙ sym b.items_are,
       )
 
   not_both : (r : SurveyRefusal) (y : Summary) (l : Tally) (t u : List ℕ) → (survey_of s e i).outcome ≡ answer.Refused r → Finished s e i y l t u → ⊥

@@ -118,14 +118,14 @@ module _ (s : List ℕ) (e i : ℕ) where
   numbered (items_short t a h) = (t, a, omega arith, refl)
 
   given_as : (r : SurveyRefusal) → Given s e i (survey_number r) (survey_place r) → Said s e i (Refused r)
-  given_as (Elements (E.TextTooLong p)) g = reading.given-as s e (E.TextTooLong p) (numbered g)
-  given_as (Elements (E.TooManyElements n)) g = reading.given-as s e (E.TooManyElements n) (numbered g)
-  given_as (Elements (E.TableShort n)) g = reading.given-as s e (E.TableShort n) (numbered g)
+  given_as (Elements (E.TextTooLong p)) g = reading.given_as s e (E.TextTooLong p) (numbered g)
+  given_as (Elements (E.TooManyElements n)) g = reading.given_as s e (E.TooManyElements n) (numbered g)
+  given_as (Elements (E.TableShort n)) g = reading.given_as s e (E.TableShort n) (numbered g)
   given_as TooMany g = let x = numbered g in (x.1, x.2)
   given_as (ItemsShort k) g = numbered g
 
   as_given : (r : SurveyRefusal) → Said s e i (Refused r) → Given s e i (survey_number r) (survey_place r)
-  as_given (Elements r) x = of_elements (reading.as-given s e r x)
+  as_given (Elements r) x = of_elements (reading.as_given s e r x)
   as_given TooMany x = too_many x.0 x.1
   as_given (ItemsShort k) x = let l = x.2 in subst (λ (n : ℕ). Given s e i 10 n) (sym x.3) (items_short x.0 x.1 (omega arith))
 

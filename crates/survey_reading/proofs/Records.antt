@@ -2,11 +2,10 @@
 use Prim.Native.Nat.{ℕ, zero, suc, ◌+◌, ◌-◌, ◌*◌, ◌≤◌, ◌<◌}
 use mathlib.Core.Path.{◌≡◌, refl, sym, ap, ap₂, subst, ◌∙◌}
 use mathlib.Core.Logic.{◌↔◌}
-use mathlib.Core.Bool.{Bool, true, false}
+use mathlib.Core.Bool.{Bool, true}
 use mathlib.Core.List.{List, [], ◌∷◌, ◌++◌, append-nil, append_assoc}
 use native.Mathlib.Omega.{arith}
 use lib.ListN.{length, get_or, take, replicate}
-use Rattle.laws.proofs.Laws.{clash}
 use Rattle.records.specs.Records.{word_at, is_item}
 use Rattle.pieces.specs.Columns as column
 use Rattle.records.specs.Tallies.{in_state}
@@ -26,8 +25,7 @@ use Rattle.meaning.specs.code.PieceValues.{value_of, done_of, dones_from}
 use Rattle.meaning.specs.Records.{item_value_words}
 use Rattle.meaning.specs.Together.{piece_at, GoodFrame, AllFold}
 use Rattle.meaning.specs.FittingPieces.{FitsAForm}
-use Rattle.meaning.proofs.Records.{pieces_length, pieces_done}
-use Rattle.meaning.proofs.Words as held
+use Rattle.meaning.proofs.Records.{pieces_length}
 use Rattle.meaning.proofs.Words.{done_at, pieces_at, class_at_lem, value_word}
 use Rattle.meaning.proofs.Promises.{broken_exactly, doubled_exactly, states_known}
 use Rattle.meaning.proofs.Comes.{comes_exactly, come_exactly, least_small, given_later}
@@ -160,12 +158,12 @@ module _ (text : List ℕ) (e i : ℕ) (y : Summary) (tally : Tally) (elements i
   piece_is j = ap (λ (l : List Done). (done_at l j).piece) dones_are ∙ sym (pieces_at (dones_from ps [] ps) j) ∙ ap (λ (l : List Piece). piece_at l j) (dones_pieces ps [] ps)
 
   pub class_word : (j : ℕ) → j < length ps → word_at items j 0 ≡ class_of (piece_at ps j)
-  class_word j h = ap (λ (t : List ℕ). word_at t j 0) f.items-are ∙ class_at_lem ds rest j (omega (arith, size)) ∙ ap class_of (piece_is j)
+  class_word j h = ap (λ (t : List ℕ). word_at t j 0) f.items_are ∙ class_at_lem ds rest j (omega (arith, size)) ∙ ap class_of (piece_is j)
 
   -- the last four words of an item's record
   item_word : (j : ℕ) → j < length ps → is_item (class_of (piece_at ps j)) ≡ true → (k : ℕ) → k < 4 → word_at items j (4 + k) ≡ get_or (value_words (done_at ds j).value) k 0
   item_word j h t k l =
-      ap (λ (u : List ℕ). word_at u j (4 + k)) f.items-are ∙ value_word ds rest j (omega (arith, size)) k l
+      ap (λ (u : List ℕ). word_at u j (4 + k)) f.items_are ∙ value_word ds rest j (omega (arith, size)) k l
       ∙ ap (λ (b : Bool). get_or (item_value_words b (done_at ds j).value) k 0) (ap (λ (p : Piece). is_item (class_of p)) (piece_is j) ∙ t)
 
   module _ (j : ℕ) (above : List Done) (a : ItemAt text j above) where
@@ -226,35 +224,35 @@ of_items P h text e i y tally elements items f j above a =
 module _ (all : List Piece) (above : List Done) (p : Piece) (word : ℕ → ℕ) (h : Held (value_of all above p) word) where
   -- a state that the word has is the one that the piece comes to
   pub state_held : {P : Type 0} (s : ℕ) → (state_of (value_of all above p) ≡ s) ↔ P → (word column.state ≡ s) ↔ P
-  state_held s q = ((λ e. q.0 (sym h.state-is ∙ e)), λ x. h.state-is ∙ q.1 x)
+  state_held s q = ((λ e. q.0 (sym h.state_is ∙ e)), λ x. h.state_is ∙ q.1 x)
 
   numbered : word column.state ≡ 0 → Numbered all above p word
   numbered z =
-      let n = by_number all above p (sym h.state-is ∙ z) in
+      let n = by_number all above p (sym h.state_is ∙ z) in
       record {
         form = n.form;
         value = n.value;
         fits = n.fits;
-        none_met = n.none-met;
+        none_met = n.none_met;
         given = n.given;
         folded = n.folded;
-        kind_is = h.kind-is ∙ ap value_kind (sym n.same);
-        low_is = h.low-is ∙ ap low_of (sym n.same);
+        kind_is = h.kind_is ∙ ap value_kind (sym n.same);
+        low_is = h.low_is ∙ ap low_of (sym n.same);
         high_is = h.high_is ∙ ap high_of (sym n.same);
       }
 
   pub number_held : (word column.state ≡ 0) ↔ Numbered all above p word
-  number_held = (numbered, λ n. h.state-is ∙ ap state_of (sym (number_is all above p n.form n.value n.none-met n.fits n.given)) ∙ n.folded)
+  number_held = (numbered, λ n. h.state_is ∙ ap state_of (sym (number_is all above p n.form n.value n.none_met n.fits n.given)) ∙ n.folded)
 
   pub none_held : (word column.state ≡ 0 → ⊥) → (word column.kind ≡ 0) × (word column.low ≡ 0) × (word column.high ≡ 0)
-  none_held g = let n = no_number (value_of all above p) (λ z. g (h.state-is ∙ z)) in (h.kind-is ∙ n.0, h.low-is ∙ n.1, h.high_is ∙ n.2)
+  none_held g = let n = no_number (value_of all above p) (λ z. g (h.state_is ∙ z)) in (h.kind_is ∙ n.0, h.low_is ∙ n.1, h.high_is ∙ n.2)
 
 module _ (text : List ℕ) (e i : ℕ) (y : Summary) (tally : Tally) (elements items : List ℕ) (f : Finished text e i y tally elements items) where
   pub tallied : (k : ℕ) → k ≤ states.range → get_or tally.counts k 0 ≡ in_state k items 0 y.pieces
   tallied k l =
       f.counts k l
       ∙ sym (state_count k l f.dones (replicate (i - 8 * length (pieces_of text)) 0))
-      ∙ ap₂ (λ (t : List ℕ) (n : ℕ). in_state k t 0 n) (sym f.items-are) (size text e i y tally elements items f ∙ sym f.pieces)
+      ∙ ap₂ (λ (t : List ℕ) (n : ℕ). in_state k t 0 n) (sym f.items_are) (size text e i y tally elements items f ∙ sym f.pieces)
 
   pub whole_held : (y.whole ≡ true)
       ↔ (GoodFrame (pieces_of text) × ((j : ℕ) → j < length (pieces_of text) → is_item (class_of (piece_at (pieces_of text) j)) ≡ true → word_at items j column.state ≡ 0))

@@ -8,7 +8,7 @@ use lib.ListN.{length, get_or, drop, set, length-set, length-drop}
 use lib.Seq.{drop-drop, drop-set-add, get_or-drop, get_or-set_same, get_or-set_other, sets}
 use borrow.Author.Tests.{lt-ltb, le-ltb, le-leb}
 use Rattle.grammars.specs.code.Actions.{Step, go, stop}
-use Rattle.forms.specs.code.RuleActions.{State, Refusal, name_differs_lem, fresh, top, on_top, joined, marked, named, rowed, frame_is_named, does}
+use Rattle.forms.specs.code.RuleActions.{State, Refusal, name_differs, fresh, top, on_top, joined, marked, named, rowed, frame_is_named, does}
 use Rattle.forms.proofs.Nesting.{top_size, joined_less, joined_few}
 use Rattle.places.specs.declared.ElementNumber.{ElementNumber}
 use Rattle.refusals.specs.declared.StrictRefusal.TheVariants as refusal
@@ -155,11 +155,11 @@ module _ (frames cells next heads : List ℕ) (fp used depth k : ℕ) (alike : �
       )
 
   -- by the name of the innermost frame
-  judged : (b : Bool) → b ≡ frame_is_named alike (get_or frames (fp + 3) 0) (k - 1) → does alike 4 k s ≡ cond b (go s) (stop name_differs_lem)
+  judged : (b : Bool) → b ≡ frame_is_named alike (get_or frames (fp + 3) 0) (k - 1) → does alike 4 k s ≡ cond b (go s) (stop name_differs)
   unfolding does
   judged b q =
       let e : (top s.frames).name ≡ get_or frames (fp + 3) 0 = sym (holding.top_name held.framed) ∙ get_or-drop fp frames 3 0 in
-      ap (λ (x : Bool). cond x (go s) (stop name_differs_lem)) (ap (λ (x : ℕ). frame_is_named alike x (k - 1)) e ∙ sym q)
+      ap (λ (x : Bool). cond x (go s) (stop name_differs)) (ap (λ (x : ℕ). frame_is_named alike x (k - 1)) e ∙ sym q)
 
   pub act_same : (a : ℕ) (b : Bool) → a ≡ 4 → b ≡ frame_is_named alike (get_or frames (fp + 3) 0) (k - 1) → b ≡ true
       → After (Went (record { fp = fp; depth = depth; used = used })) frames cells next heads a

@@ -18,7 +18,7 @@ use Rattle.grammars.proofs.Budget as budget
 use Rattle.same_names.specs.Alike.{same_name}
 use Rattle.forms.specs.code.Rules.{forms, body}
 use Rattle.forms.specs.code.Picks.{predict}
-use Rattle.forms.specs.code.RuleActions.{State, Refusal, name_differs_lem, too_deep_lem, does, start}
+use Rattle.forms.specs.code.RuleActions.{State, Refusal, does, start}
 use Rattle.forms.specs.code.Reading.{reading_from, steps}
 use Rattle.forms.proofs.Tests as tests
 use Rattle.forms.proofs.Nesting.{Nested, nested_grow, nested_eat, nested_act}
@@ -28,7 +28,7 @@ use Rattle.tree.specs.declared.Moved.{Moved}
 use Rattle.tree.specs.declared.Did.TheVariants.{Went, Stopped}
 use Rattle.tree.specs.declared.Answer.TheVariants.{Tree, Refused}
 use Rattle.refusals.specs.declared.StrictRefusal.{StrictRefusal}
-use Rattle.tree.specs.code.Answers.{terminals_of, no_file}
+use Rattle.tree.specs.code.Answers.{terminals_of, no_file_answer}
 use Rattle.tree.specs.code.Held.{Frames, Held, ActionDone, Tells, used_after, pick_used}
 use Rattle.tree.proofs.Lists.{terminals_size, look_at}
 use Rattle.tree.proofs.Holding as holding
@@ -62,23 +62,23 @@ module _ (text elements : List ℕ) (n : ℕ) (goal : End State Refusal) where
         omega (
           arith,
           room.lies_length tests.ending tests.height tests.height_pos α g.lies,
-          room.nest_waits tests.deepening tests.ending 0 g.state.depth α (λ z. absurd (omega arith)) g.nested.open-nest,
+          room.nest_waits tests.deepening tests.ending 0 g.state.depth α (λ z. absurd (omega arith)) g.nested.open_nest,
           room.near_one tests.deepening α g.near,
         )
 
     pub frames_bound : fp + 4 ≤ length frames
     frames_bound =
         let r = g.held.room in
-        let i = g.nested.inner-is in
+        let i = g.nested.inner_is in
         omega arith
 
     pub frames_room : length frames ≤ fp + 4 * length α + 4
     frames_room =
         let r = g.held.room in
-        let i = g.nested.inner-is in
+        let i = g.nested.inner_is in
         omega (
           arith,
-          room.nest_count tests.opening tests.closing 0 g.nested.inner α g.nested.frame-nest,
+          room.nest_count tests.opening tests.closing 0 g.nested.inner α g.nested.frame_nest,
           room.times_length tests.closing α,
         )
 
@@ -112,25 +112,25 @@ module _ (text elements : List ℕ) (n : ℕ) (goal : End State Refusal) where
     pub ends : (g : Going [] frames cells next heads fp depth used at) → n ≤ at → at ≤ n → n ≤ 8192 → Tells (Tree used) cells next heads goal
     unfolding runs
     ends g l m b =
-        let f = holding.framed_end g.held.framed (g.nested.inner-is ∙ ap suc g.nested.frame-nest) in
+        let f = holding.framed_end g.held.framed (g.nested.inner_is ∙ ap suc g.nested.frame_nest) in
         let r = rows_bound g in
         subst (Tells (Tree used) cells next heads) (flip (turns g [] (none_left g l))) (f.0, f.1, omega arith, g.held.within)
 
-    pub too_much : (g : Going [] frames cells next heads fp depth used at) → at < n → Tells (no_file at) cells next heads goal
+    pub too_much : (g : Going [] frames cells next heads fp depth used at) → at < n → Tells (no_file_answer at) cells next heads goal
     unfolding runs
-    too_much g l = subst (Tells (no_file at) cells next heads) (flip (turns g _ (more_left g l))) refl
+    too_much g l = subst (Tells (no_file_answer at) cells next heads) (flip (turns g _ (more_left g l))) refl
 
     -- an element wanted
     module _ {a : ℕ} {α : List Sym} (g : Going (tok a ∷ α) frames cells next heads fp depth used at) where
-      pub ends_early : n ≤ at → Tells (no_file at) cells next heads goal
+      pub ends_early : n ≤ at → Tells (no_file_answer at) cells next heads goal
       unfolding runs
-      ends_early l = subst (Tells (no_file at) cells next heads) (flip (turns g [] (none_left g l))) refl
+      ends_early l = subst (Tells (no_file_answer at) cells next heads) (flip (turns g [] (none_left g l))) refl
 
-      pub wrong_kind : (t : ℕ) → at < n → t ≡ look (drop at kinds) → (a ≡ t → ⊥) → Tells (no_file at) cells next heads goal
+      pub wrong_kind : (t : ℕ) → at < n → t ≡ look (drop at kinds) → (a ≡ t → ⊥) → Tells (no_file_answer at) cells next heads goal
       unfolding runs
       wrong_kind t l e d =
           let q : t ≡ get_or kinds at 0 = e ∙ look_at kinds at (omega (arith, terminals_size n elements)) in
-          subst (Tells (no_file at) cells next heads) (flip (turns g _ (more_left g l))) (rw (ne_eqb a (get_or kinds at 0) (λ z. d (z ∙ flip q))) refl)
+          subst (Tells (no_file_answer at) cells next heads) (flip (turns g _ (more_left g l))) (rw (ne_eqb a (get_or kinds at 0) (λ z. d (z ∙ flip q))) refl)
 
       pub right_kind : (t : ℕ) → at < n → t ≡ look (drop at kinds) → a ≡ t → Going α frames cells next heads fp depth used (at + 1)
       unfolding runs
@@ -156,9 +156,9 @@ module _ (text elements : List ℕ) (n : ℕ) (goal : End State Refusal) where
 
     -- a name to read
     module _ {m : ℕ} {α : List Sym} (g : Going (nt m ∷ α) frames cells next heads fp depth used at) where
-      pub no_rule : predict m (look (drop at kinds)) ≡ 0 → Tells (no_file at) cells next heads goal
+      pub no_rule : predict m (look (drop at kinds)) ≡ 0 → Tells (no_file_answer at) cells next heads goal
       unfolding runs
-      no_rule e = subst (Tells (no_file at) cells next heads) (flip (turns g (drop at kinds) refl)) (rw e refl)
+      no_rule e = subst (Tells (no_file_answer at) cells next heads) (flip (turns g (drop at kinds) refl)) (rw e refl)
 
       pub by_rule : (p : ℕ) → predict m (look (drop at kinds)) ≡ suc p → Going (body p ++ α) frames cells next heads fp depth used at
       unfolding runs

@@ -14,14 +14,13 @@ use Rattle.grammars.proofs.Acting as acting
 use Rattle.forms.specs.code.Rules.{forms}
 use Rattle.forms.specs.code.Picks.{predict}
 use Rattle.forms.specs.Tree.{Row}
-use Rattle.forms.specs.code.RuleActions.{State, Refusal, name_differs_lem, too_deep_lem, does, IsFile, Reading, state_rows}
+use Rattle.forms.specs.code.RuleActions.{State, Refusal, name_differs, too_deep, does, IsFile, Reading, state_rows}
 use Rattle.forms.specs.code.Reading.{file_reading, BeginsFile}
 use Rattle.forms.specs.Open.{open_from, role, after}
 use Rattle.forms.specs.Closing.{Name, named, closes_at, closed_by, walk_over, unwalked, is_named_as}
 use Rattle.forms.proofs.Meaning as meaning
 use Rattle.forms.proofs.Opening as opening
 use Rattle.forms.proofs.Closing as closing
-use Rattle.one_tree.specs.Files.{HasTree}
 use Rattle.one_tree.proofs.Only.{file_tree, files_have_trees, begin_alike, trees_are_read}
 use Rattle.tree_promises.specs.Due.{NoFileDue, IsFileOf, NameDue, DepthDue, SomeDue, NoneBefore, NoFileFirst, NameFirst, DepthFirst}
 
@@ -69,8 +68,8 @@ module _ (alike : ℕ → ℕ → Bool) (w : List ℕ) where
   Described (read s) = (k : ℕ) → SomeDue alike w k → ⊥
   Described (bad k) = NoFileFirst alike w k
   Described (stopped zero r) = ⊥
-  Described (stopped (suc k) name_differs_lem) = NameFirst alike w k
-  Described (stopped (suc k) too_deep_lem) = DepthFirst alike w k
+  Described (stopped (suc k) name_differs) = NameFirst alike w k
+  Described (stopped (suc k) too_deep) = DepthFirst alike w k
   Described spent = ⊥
 
   -- 6 and 7 are not due where the reading got past
@@ -101,50 +100,50 @@ module _ (alike : ℕ → ℕ → Bool) (w : List ℕ) where
       )
 
   -- at the place of 6 its name is wrong
-  pub name_due : (k : ℕ) → file_reading alike w ≡ stopped (suc k) name_differs_lem → NameDue alike w k
+  pub name_due : (k : ℕ) → file_reading alike w ≡ stopped (suc k) name_differs → NameDue alike w k
   name_due k e =
       let r = closing.name_differs_at alike w (suc k) e in
       let x = r.1.0 in
       let z : r.0 ≡ k = omega arith in
       subst (NameDue alike w) z r.1.1
 
-  name_described : (k : ℕ) → file_reading alike w ≡ stopped (suc k) name_differs_lem → NameFirst alike w k
+  name_described : (k : ℕ) → file_reading alike w ≡ stopped (suc k) name_differs → NameFirst alike w k
   name_described k e =
       let d = name_due k e in
       let i = closes_inside w k d.0 d.1.0 in
-      let b = meaning.still_begins alike w (suc k) name_differs_lem e in (
+      let b = meaning.still_begins alike w (suc k) name_differs e in (
         d,
         not_due w (suc k) k (omega arith) b (omega arith),
-        none_before (stopped (suc k) name_differs_lem) e k (omega arith) (meaning.shorter w (suc k) k (omega arith) b) (λ j l. omega arith) (λ j l. omega arith),
+        none_before (stopped (suc k) name_differs) e k (omega arith) (meaning.shorter w (suc k) k (omega arith) b) (λ j l. omega arith) (λ j l. omega arith),
       )
 
   -- at the place of 7 there is an element, as none before it left as many open
-  depth_due : (k : ℕ) → file_reading alike w ≡ stopped (suc k) too_deep_lem → DepthDue w k
+  depth_due : (k : ℕ) → file_reading alike w ≡ stopped (suc k) too_deep → DepthDue w k
   depth_due k e =
       let r = opening.too_deep_at alike w (suc k) e in
       let x = r.0 in
       let y = r.1 k (omega arith) in
       (lt_of_not-le (λ l. let z = open_past 0 0 w k l in omega arith), omega arith)
 
-  depth_described : (k : ℕ) → file_reading alike w ≡ stopped (suc k) too_deep_lem → DepthFirst alike w k
+  depth_described : (k : ℕ) → file_reading alike w ≡ stopped (suc k) too_deep → DepthFirst alike w k
   depth_described k e =
       let d = depth_due k e in
       let i = d.0 in
-      let b = meaning.still_begins alike w (suc k) too_deep_lem e in (
+      let b = meaning.still_begins alike w (suc k) too_deep e in (
         d,
         not_due w (suc k) k (omega arith) b (omega arith),
-        no_name (stopped (suc k) too_deep_lem) e k (omega arith),
-        none_before (stopped (suc k) too_deep_lem) e k (omega arith) (meaning.shorter w (suc k) k (omega arith) b) (λ j l. omega arith) (λ j l. omega arith),
+        no_name (stopped (suc k) too_deep) e k (omega arith),
+        none_before (stopped (suc k) too_deep) e k (omega arith) (meaning.shorter w (suc k) k (omega arith) b) (λ j l. omega arith) (λ j l. omega arith),
       )
 
   described : (o : End State Refusal) → file_reading alike w ≡ o → Described o
   unfolding open_from
   described (read s) e = read_described s e
   described (bad k) e = bad_described k e
-  described (stopped zero name_differs_lem) e = let r = closing.name_differs_at alike w 0 e in let x = r.1.0 in omega arith
-  described (stopped zero too_deep_lem) e = let r = opening.too_deep_at alike w 0 e in let x = r.0 in omega arith
-  described (stopped (suc k) name_differs_lem) e = name_described k e
-  described (stopped (suc k) too_deep_lem) e = depth_described k e
+  described (stopped zero name_differs) e = let r = closing.name_differs_at alike w 0 e in let x = r.1.0 in omega arith
+  described (stopped zero too_deep) e = let r = opening.too_deep_at alike w 0 e in let x = r.0 in omega arith
+  described (stopped (suc k) name_differs) e = name_described k e
+  described (stopped (suc k) too_deep) e = depth_described k e
   described spent e = meaning.always_answers alike w e
 
   pub no_file_exactly : (k : ℕ) → (file_reading alike w ≡ bad k) ↔ NoFileFirst alike w k
@@ -154,44 +153,44 @@ module _ (alike : ℕ → ℕ → Bool) (w : List ℕ) where
       go f (read s) d = absurd (d k (inl f.0))
       go f (bad j) d = ap bad (one_place j k (inl d.0) d.1 (inl f.0) f.1)
       go f (stopped zero r) d = absurd d
-      go f (stopped (suc j) name_differs_lem) d =
+      go f (stopped (suc j) name_differs) d =
           let z = one_place j k (inr (inl d.0)) d.2 (inl f.0) f.1 in
           absurd (d.1 (subst (NoFileDue w) (sym z) f.0))
-      go f (stopped (suc j) too_deep_lem) d =
+      go f (stopped (suc j) too_deep) d =
           let z = one_place j k (inr (inr d.0)) d.3 (inl f.0) f.1 in
           absurd (d.1 (subst (NoFileDue w) (sym z) f.0))
       go f spent d = absurd d
 
-  pub name_exactly : (k : ℕ) → (file_reading alike w ≡ stopped (suc k) name_differs_lem) ↔ NameFirst alike w k
+  pub name_exactly : (k : ℕ) → (file_reading alike w ≡ stopped (suc k) name_differs) ↔ NameFirst alike w k
   name_exactly k = (name_described k, λ f. go f (file_reading alike w) (described (file_reading alike w) refl))
     where
-      go : NameFirst alike w k → (o : End State Refusal) → Described o → o ≡ stopped (suc k) name_differs_lem
+      go : NameFirst alike w k → (o : End State Refusal) → Described o → o ≡ stopped (suc k) name_differs
       go f (read s) d = absurd (d k (inr (inl f.0)))
       go f (bad j) d =
           let z = one_place j k (inl d.0) d.1 (inr (inl f.0)) f.2 in
           absurd (f.1 (subst (NoFileDue w) z d.0))
       go f (stopped zero r) d = absurd d
-      go f (stopped (suc j) name_differs_lem) d =
-          ap (λ (x : ℕ). stopped (suc x) name_differs_lem) (one_place j k (inr (inl d.0)) d.2 (inr (inl f.0)) f.2)
-      go f (stopped (suc j) too_deep_lem) d =
+      go f (stopped (suc j) name_differs) d =
+          ap (λ (x : ℕ). stopped (suc x) name_differs) (one_place j k (inr (inl d.0)) d.2 (inr (inl f.0)) f.2)
+      go f (stopped (suc j) too_deep) d =
           let z = one_place j k (inr (inr d.0)) d.3 (inr (inl f.0)) f.2 in
           absurd (d.2 (subst (NameDue alike w) (sym z) f.0))
       go f spent d = absurd d
 
-  pub depth_exactly : (k : ℕ) → (file_reading alike w ≡ stopped (suc k) too_deep_lem) ↔ DepthFirst alike w k
+  pub depth_exactly : (k : ℕ) → (file_reading alike w ≡ stopped (suc k) too_deep) ↔ DepthFirst alike w k
   depth_exactly k = (depth_described k, λ f. go f (file_reading alike w) (described (file_reading alike w) refl))
     where
-      go : DepthFirst alike w k → (o : End State Refusal) → Described o → o ≡ stopped (suc k) too_deep_lem
+      go : DepthFirst alike w k → (o : End State Refusal) → Described o → o ≡ stopped (suc k) too_deep
       go f (read s) d = absurd (d k (inr (inr f.0)))
       go f (bad j) d =
           let z = one_place j k (inl d.0) d.1 (inr (inr f.0)) f.3 in
           absurd (f.1 (subst (NoFileDue w) z d.0))
       go f (stopped zero r) d = absurd d
-      go f (stopped (suc j) name_differs_lem) d =
+      go f (stopped (suc j) name_differs) d =
           let z = one_place j k (inr (inl d.0)) d.2 (inr (inr f.0)) f.3 in
           absurd (f.2 (subst (NameDue alike w) z d.0))
-      go f (stopped (suc j) too_deep_lem) d =
-          ap (λ (x : ℕ). stopped (suc x) too_deep_lem) (one_place j k (inr (inr d.0)) d.3 (inr (inr f.0)) f.3)
+      go f (stopped (suc j) too_deep) d =
+          ap (λ (x : ℕ). stopped (suc x) too_deep) (one_place j k (inr (inr d.0)) d.3 (inr (inr f.0)) f.3)
       go f spent d = absurd d
 
   -- the elements are read to their end exactly where none of the three is due
@@ -205,23 +204,23 @@ module _ (alike : ℕ → ℕ → Bool) (w : List ℕ) where
       go f (read s) e d = (s, (meaning.reads_files alike w s).0 e)
       go f (bad j) e d = absurd (f j (inl d.0))
       go f (stopped zero r) e d = absurd d
-      go f (stopped (suc j) name_differs_lem) e d = absurd (f j (inr (inl d.0)))
-      go f (stopped (suc j) too_deep_lem) e d = absurd (f j (inr (inr d.0)))
+      go f (stopped (suc j) name_differs) e d = absurd (f j (inr (inl d.0)))
+      go f (stopped (suc j) too_deep) e d = absurd (f j (inr (inr d.0)))
       go f spent e d = absurd d
 
   -- what is read is a file with the rows for its tree, and a file is read
   pub reading_file : (s : State) → Reading alike w s → IsFileOf alike w (state_rows s)
   reading_file s r =
       let d = read_described s ((meaning.reads_files alike w s).1 r) in
-      (file_tree.reads-trees alike w s r, λ k n. d k (inr (inl n)), λ k n. d k (inr (inr n)))
+      (file_tree.reads_trees alike w s r, λ k n. d k (inr (inl n)), λ k n. d k (inr (inr n)))
 
   pub file_reading_lem : (l : List Row) → IsFileOf alike w l → (s : State) × (Reading alike w s × (state_rows s ≡ l))
   file_reading_lem l f = ⊎_elim (λ r. r) (λ x. absurd (never x.0 x.1.0 (described (file_reading alike w) refl) x.1.1)) (trees_are_read alike w l f.0)
     where
       by : (k : ℕ) (r : Refusal) → Described (stopped k r) → ⊥
       by zero r d = d
-      by (suc k) name_differs_lem d = f.1 k d.0
-      by (suc k) too_deep_lem d = f.2 k d.0
+      by (suc k) name_differs d = f.1 k d.0
+      by (suc k) too_deep d = f.2 k d.0
 
       never : (k : ℕ) (r : Refusal) → Described (file_reading alike w) → file_reading alike w ≡ stopped k r → ⊥
       never k r d e = by k r (subst Described e d)

@@ -10,7 +10,7 @@ use borrow.Author.Tests.{le-leb, lt-leb, leb-true, leb-false}
 use Rattle.laws.proofs.Laws.{clash}
 use Rattle.grammars.specs.code.Actions.{End, read, bad, stopped, spent}
 use Rattle.same_names.specs.Alike.{same_name}
-use Rattle.forms.specs.code.RuleActions.{State, Refusal, name_differs_lem, too_deep_lem, state_rows}
+use Rattle.forms.specs.code.RuleActions.{State, Refusal, name_differs, too_deep, state_rows}
 use Rattle.forms.specs.Files.{Tiled}
 use Rattle.forms.specs.Owners.{LeavesAre}
 use Rattle.forms.proofs.Meaning as meaning
@@ -23,7 +23,7 @@ use Rattle.forms.proofs.Closing as closing
 use Rattle.forms.proofs.Tiling.{rows_tiled}
 use Rattle.forms.proofs.Leaves.{leaves_are}
 use Rattle.forms.proofs.Labels.{labels_lead}
-use Rattle.tree.specs.code.Answers.{reading_in, tree_answer_of, tree_table_of, no_file, name_differs, too_deep, table_short}
+use Rattle.tree.specs.code.Answers.{reading_in, tree_answer_of, tree_table_of, no_file_answer, name_differs_answer, too_deep_answer, table_short}
 use Rattle.forms.specs.RowWords.{words_of}
 use Rattle.refusals.specs.Refusals.{strict_place}
 use Rattle.refusals.specs.declared.StrictRefusal.TheVariants as refusal
@@ -42,8 +42,8 @@ tree_end room rows (read s) e = go (leb (5 * length (state_rows s)) room) refl e
     go true q e = let z : length (state_rows s) ≡ rows = cc in (s, (refl, z, omega (arith, leb-true (5 * length (state_rows s)) room q)))
     go false q e = let z : ◌≡◌ {A = ℕ} 0 1 = cc in clash z
 tree_end room rows (bad k) e = let z : ◌≡◌ {A = ℕ} 0 1 = cc in clash z
-tree_end room rows (stopped k name_differs_lem) e = let z : ◌≡◌ {A = ℕ} 0 1 = cc in clash z
-tree_end room rows (stopped k too_deep_lem) e = let z : ◌≡◌ {A = ℕ} 0 1 = cc in clash z
+tree_end room rows (stopped k name_differs) e = let z : ◌≡◌ {A = ℕ} 0 1 = cc in clash z
+tree_end room rows (stopped k too_deep) e = let z : ◌≡◌ {A = ℕ} 0 1 = cc in clash z
 tree_end room rows spent e = let z : ◌≡◌ {A = ℕ} 0 1 = cc in clash z
 
 answer_read : (room : ℕ) (s : State) → 5 * length (state_rows s) ≤ room → tree_answer_of room (read s) ≡ Tree (length (state_rows s))
@@ -71,8 +71,8 @@ none_elsewhere room (read s) = go (leb (5 * length (state_rows s)) room)
     go true = refl
     go false = refl
 none_elsewhere room (bad k) = refl
-none_elsewhere room (stopped k name_differs_lem) = refl
-none_elsewhere room (stopped k too_deep_lem) = refl
+none_elsewhere room (stopped k name_differs) = refl
+none_elsewhere room (stopped k too_deep) = refl
 none_elsewhere room spent = refl
 
 pub accepts : Accepts
@@ -95,54 +95,54 @@ has_rows text table n room s f l =
 pub one_tree : OneTree
 one_tree text table n s t p q = meaning.one_reading (same_name text table) (FirstElements table n) s t p q
 
-wrong_end : (room k : ℕ) (o : End State Refusal) → (o ≡ spent → ⊥) → tree_answer_of room o ≡ no_file k → o ≡ bad k
+wrong_end : (room k : ℕ) (o : End State Refusal) → (o ≡ spent → ⊥) → tree_answer_of room o ≡ no_file_answer k → o ≡ bad k
 wrong_end room k (read s) d e = go (leb (5 * length (state_rows s)) room) e
   where
-    go : (b : Bool) → cond b (Tree (length (state_rows s))) (table_short (room / 5)) ≡ no_file k → ◌≡◌ {A = End State Refusal} (read s) (bad k)
+    go : (b : Bool) → cond b (Tree (length (state_rows s))) (table_short (room / 5)) ≡ no_file_answer k → ◌≡◌ {A = End State Refusal} (read s) (bad k)
     go true e = let z : ◌≡◌ {A = ℕ} 0 1 = cc in clash z
     go false e = let z : ◌≡◌ {A = ℕ} 0 1 = cc in clash z
 wrong_end room k (bad j) d e = ap bad (ap placed e)
-wrong_end room k (stopped j name_differs_lem) d e = let z : ◌≡◌ {A = ℕ} 0 1 = cc in clash z
-wrong_end room k (stopped j too_deep_lem) d e = let z : ◌≡◌ {A = ℕ} 0 1 = cc in clash z
+wrong_end room k (stopped j name_differs) d e = let z : ◌≡◌ {A = ℕ} 0 1 = cc in clash z
+wrong_end room k (stopped j too_deep) d e = let z : ◌≡◌ {A = ℕ} 0 1 = cc in clash z
 wrong_end room k spent d e = absurd (d refl)
 
-deep_end : (room k : ℕ) (o : End State Refusal) → tree_answer_of room o ≡ too_deep k → (j : ℕ) × ((o ≡ stopped j too_deep_lem) × (k ≡ j - 1))
+deep_end : (room k : ℕ) (o : End State Refusal) → tree_answer_of room o ≡ too_deep_answer k → (j : ℕ) × ((o ≡ stopped j too_deep) × (k ≡ j - 1))
 deep_end room k (read s) e = go (leb (5 * length (state_rows s)) room) e
   where
-    go : (b : Bool) → cond b (Tree (length (state_rows s))) (table_short (room / 5)) ≡ too_deep k → (j : ℕ) × ((◌≡◌ {A = End State Refusal} (read s) (stopped j too_deep_lem)) × (k ≡ j - 1))
+    go : (b : Bool) → cond b (Tree (length (state_rows s))) (table_short (room / 5)) ≡ too_deep_answer k → (j : ℕ) × ((◌≡◌ {A = End State Refusal} (read s) (stopped j too_deep)) × (k ≡ j - 1))
     go true e = let z : ◌≡◌ {A = ℕ} 0 1 = cc in clash z
     go false e = let z : ◌≡◌ {A = ℕ} 0 1 = cc in clash z
 deep_end room k (bad j) e = let z : ◌≡◌ {A = ℕ} 0 1 = cc in clash z
-deep_end room k (stopped j name_differs_lem) e = let z : ◌≡◌ {A = ℕ} 0 1 = cc in clash z
-deep_end room k (stopped j too_deep_lem) e = (j, (refl, sym (ap placed e)))
+deep_end room k (stopped j name_differs) e = let z : ◌≡◌ {A = ℕ} 0 1 = cc in clash z
+deep_end room k (stopped j too_deep) e = (j, (refl, sym (ap placed e)))
 deep_end room k spent e = let z : ◌≡◌ {A = ℕ} 0 1 = cc in clash z
 
-name_end : (room k : ℕ) (o : End State Refusal) → tree_answer_of room o ≡ name_differs k → (j : ℕ) × ((o ≡ stopped j name_differs_lem) × (k ≡ j - 1))
+name_end : (room k : ℕ) (o : End State Refusal) → tree_answer_of room o ≡ name_differs_answer k → (j : ℕ) × ((o ≡ stopped j name_differs) × (k ≡ j - 1))
 name_end room k (read s) e = go (leb (5 * length (state_rows s)) room) e
   where
-    go : (b : Bool) → cond b (Tree (length (state_rows s))) (table_short (room / 5)) ≡ name_differs k → (j : ℕ) × ((◌≡◌ {A = End State Refusal} (read s) (stopped j name_differs_lem)) × (k ≡ j - 1))
+    go : (b : Bool) → cond b (Tree (length (state_rows s))) (table_short (room / 5)) ≡ name_differs_answer k → (j : ℕ) × ((◌≡◌ {A = End State Refusal} (read s) (stopped j name_differs)) × (k ≡ j - 1))
     go true e = let z : ◌≡◌ {A = ℕ} 0 1 = cc in clash z
     go false e = let z : ◌≡◌ {A = ℕ} 0 1 = cc in clash z
 name_end room k (bad j) e = let z : ◌≡◌ {A = ℕ} 0 1 = cc in clash z
-name_end room k (stopped j name_differs_lem) e = (j, (refl, sym (ap placed e)))
-name_end room k (stopped j too_deep_lem) e = let z : ◌≡◌ {A = ℕ} 0 1 = cc in clash z
+name_end room k (stopped j name_differs) e = (j, (refl, sym (ap placed e)))
+name_end room k (stopped j too_deep) e = let z : ◌≡◌ {A = ℕ} 0 1 = cc in clash z
 name_end room k spent e = let z : ◌≡◌ {A = ℕ} 0 1 = cc in clash z
 
 -- the reading that is answered by refusal 6, and by refusal 7: the element at the place is the last that was read
-name_reading : (text table : List ℕ) (n room k : ℕ) → tree_answer text table n room ≡ name_differs k → reading_in text table n ≡ stopped (suc k) name_differs_lem
+name_reading : (text table : List ℕ) (n room k : ℕ) → tree_answer text table n room ≡ name_differs_answer k → reading_in text table n ≡ stopped (suc k) name_differs
 name_reading text table n room k e =
     let t = name_end room k (reading_in text table n) e in
     let r = closing.name_differs_at (same_name text table) (FirstElements table n) t.0 t.1.0 in
     let y = t.1.1 in
     let x = r.1.0 in
     let z : t.0 ≡ suc k = omega arith in
-    t.1.0 ∙ ap (λ (j : ℕ). stopped j name_differs_lem) z
+    t.1.0 ∙ ap (λ (j : ℕ). stopped j name_differs) z
 
-deep_reading : (text table : List ℕ) (n room k : ℕ) → tree_answer text table n room ≡ too_deep k → reading_in text table n ≡ stopped (suc k) too_deep_lem
+deep_reading : (text table : List ℕ) (n room k : ℕ) → tree_answer text table n room ≡ too_deep_answer k → reading_in text table n ≡ stopped (suc k) too_deep
 unfolding open_from
 deep_reading text table n room k e =
     let t = deep_end room k (reading_in text table n) e in
-    t.1.0 ∙ ap (λ (j : ℕ). stopped j too_deep_lem) (by t.0 t.1.1 (opening.too_deep_at (same_name text table) (FirstElements table n) t.0 t.1.0).0)
+    t.1.0 ∙ ap (λ (j : ℕ). stopped j too_deep) (by t.0 t.1.1 (opening.too_deep_at (same_name text table) (FirstElements table n) t.0 t.1.0).0)
   where
     by : (j : ℕ) → k ≡ j - 1 → open_after (FirstElements table n) j ≡ 33 → j ≡ suc k
     by zero q o = absurd (omega arith)
@@ -159,13 +159,13 @@ pub name_differs_exactly : NameDiffersExactly
 name_differs_exactly text table n room k =
     let x = exactly.name_exactly (same_name text table) (FirstElements table n) k in
     let z : suc k - 1 ≡ k = omega arith in
-    ((λ e. x.0 (name_reading text table n room k e)), λ f. ap (tree_answer_of room) (x.1 f) ∙ ap name_differs z)
+    ((λ e. x.0 (name_reading text table n room k e)), λ f. ap (tree_answer_of room) (x.1 f) ∙ ap name_differs_answer z)
 
 pub too_deep_exactly : TooDeepExactly
 too_deep_exactly text table n room k =
     let x = exactly.depth_exactly (same_name text table) (FirstElements table n) k in
     let z : suc k - 1 ≡ k = omega arith in
-    ((λ e. x.0 (deep_reading text table n room k e)), λ f. ap (tree_answer_of room) (x.1 f) ∙ ap too_deep z)
+    ((λ e. x.0 (deep_reading text table n room k e)), λ f. ap (tree_answer_of room) (x.1 f) ∙ ap too_deep_answer z)
 
 pub file_exactly : FileExactly
 file_exactly text table n = exactly.read_exactly (same_name text table) (FirstElements table n)
@@ -178,8 +178,8 @@ short_end room k (read s) e = go (leb (5 * length (state_rows s)) room) refl e
     go true q e = let z : ◌≡◌ {A = ℕ} 0 1 = cc in clash z
     go false q e = let z : k ≡ room / 5 = cc in (z, (s, (refl, leb-false (5 * length (state_rows s)) room q)))
 short_end room k (bad j) e = let z : ◌≡◌ {A = ℕ} 0 1 = cc in clash z
-short_end room k (stopped j name_differs_lem) e = let z : ◌≡◌ {A = ℕ} 0 1 = cc in clash z
-short_end room k (stopped j too_deep_lem) e = let z : ◌≡◌ {A = ℕ} 0 1 = cc in clash z
+short_end room k (stopped j name_differs) e = let z : ◌≡◌ {A = ℕ} 0 1 = cc in clash z
+short_end room k (stopped j too_deep) e = let z : ◌≡◌ {A = ℕ} 0 1 = cc in clash z
 short_end room k spent e = let z : ◌≡◌ {A = ℕ} 0 1 = cc in clash z
 
 answer_short : (room : ℕ) (s : State) → room < 5 * length (state_rows s) → tree_answer_of room (read s) ≡ table_short (room / 5)

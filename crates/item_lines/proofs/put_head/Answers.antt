@@ -1,0 +1,7 @@
+use Rattle.item_lines.proofs.Laws.{head_put}
+use Rattle.words.specs.Words.{bytes_of}
+use Rattle.item_lines.proofs.put_head.Goals as goal
+
+pub returns : goal.returns
+unfolding bytes_of
+returns c = search head_put

@@ -1,0 +1,11 @@
+-- A part, or all of it. Assumes nothing.
+use lib.Seq.{length-take-le, take_all}
+use native.Mathlib.Omega.{arith}
+use mathlib.Core.Path.{sym}
+use Rattle.lent_tables.proofs.front.Goals as goal
+
+pub slice_bounds-result-end : goal.slice_bounds-result-end
+slice_bounds-result-end c = sym (length-take-le c.args.n c.args.s.now (omega arith))
+
+pub returns : goal.returns
+returns c = sym (take_all c.args.n c.args.s.now (omega arith))

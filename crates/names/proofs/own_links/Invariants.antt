@@ -1,0 +1,14 @@
+-- The invariant: the numbers so far are written. Assumes nothing.
+use Prim.Native.Nat.{◌-◌, ◌≤◌}
+use mathlib.Core.Path.{◌≡◌}
+use lib.ListN.{length}
+use Rattle.places.specs.Sizes.{most_pieces}
+use Rattle.names.specs.code.Links.{own_of}
+use Rattle.names.proofs.Tables.{Written}
+use Rattle.names.proofs.own_links.Given as goal
+
+abbrev pub invariant-loop-i : goal.invariant-loop-i
+invariant-loop-i l = (l.i ≤ l.n) × (length l.own ≡ most_pieces) × Written (own_of l.text l.elements l.items) l.own l.i
+
+abbrev pub decreases-loop-i : goal.decreases-loop-i
+decreases-loop-i l = l.n - l.i

@@ -1,0 +1,8 @@
+-- The count and the verdict. Assumes nothing.
+use Rattle.tree_lines.proofs.Laws.{head_put}
+use Rattle.words.specs.Words.{bytes_of}
+use Rattle.tree_lines.proofs.put_head.Goals as goal
+
+pub returns : goal.returns
+unfolding bytes_of
+returns c = search head_put
