@@ -1,11 +1,12 @@
 // Many texts in one run, for comparing with a second program. A case on standard input is ten bytes and then the text: the mode, then three
 // numbers of three bytes each, high byte first: element rows, other rows, length. Where bytes are stored, the text begins with such a number more,
 // the room, and the bytes are printed as hexadecimal digits. After what a case prints stands a line with a point.
+#![tactic(auto)]
+
 ghost use Rattle.std.specs.Prelude.{◌≤◌};
 
-use console::{Got, MOST_ROOM, OUT_ROOM, Shown};
+use console::{MOST_ROOM, OUT_ROOM, Shown};
 use kawhiluhe::Kept;
-use libc::STDIN_FILENO;
 
 // Where the three numbers of a case's head stand, the last byte of a number, and how many bytes a number and the head have.
 const ROWS_AT: usize = 1;
@@ -52,6 +53,7 @@ fn number_at(s: &[u8], at: usize) -> usize {
 }
 
 fn listed(
+    rt: &HostRuntime,
     text: &[u8],
     table: &mut [u64],
     rows: usize,
@@ -60,7 +62,9 @@ fn listed(
     shown: Shown,
     out: &mut [u8],
 ) {
-    console::survey(b"batch", text, table, rows, others, other_rows, shown, out);
+    console::survey(
+        rt, b"batch", text, table, rows, others, other_rows, shown, out,
+    );
 }
 
 fn digit_of(n: u8) -> u8 {
@@ -72,7 +76,7 @@ fn digit_of(n: u8) -> u8 {
 }
 
 // Bytes as hexadecimal digits, two to a byte, and a line feed.
-fn print_hexadecimal(bytes: &[u8], out: &mut [u8]) {
+fn print_hexadecimal(rt: &HostRuntime, bytes: &[u8], out: &mut [u8]) {
     let mut w: usize = 0;
     let mut i = 0;
     while i < bytes.len() {
@@ -80,24 +84,25 @@ fn print_hexadecimal(bytes: &[u8], out: &mut [u8]) {
         w = puts::put_byte(digit_of(bytes[i]), out, w);
         i += 1;
         if out.len() - w < NUMBER {
-            console::write_out(b"batch", lent_tables::front(out, w));
+            console::write_out(rt, b"batch", lent_tables::front(out, w));
             w = 0;
         }
     }
     w = puts::put_byte(puts::LINE_FEED, out, w);
-    console::write_out(b"batch", lent_tables::front(out, w));
+    console::write_out(rt, b"batch", lent_tables::front(out, w));
 }
 
-fn print_kept(k: Kept, kept: &[u8], out: &mut [u8]) {
+fn print_kept(rt: &HostRuntime, k: Kept, kept: &[u8], out: &mut [u8]) {
     if k.refusal == 0 {
-        print_hexadecimal(lent_tables::front(kept, k.bytes as usize), out);
+        print_hexadecimal(rt, lent_tables::front(kept, k.bytes as usize), out);
         return;
     }
     let n = console::refusal_line(k, out);
-    console::write_out(b"batch", lent_tables::front(out, n));
+    console::write_out(rt, b"batch", lent_tables::front(out, n));
 }
 
 fn stored_of(
+    rt: &HostRuntime,
     text: &[u8],
     table: &mut [u64],
     rows: usize,
@@ -115,19 +120,27 @@ fn stored_of(
         kept,
         number_at(text, 0),
     );
-    print_kept(k, kept, out);
+    print_kept(rt, k, kept, out);
 }
 
-fn stored_again(text: &[u8], others: &mut [u64], rows: usize, kept: &mut [u8], out: &mut [u8]) {
+fn stored_again(
+    rt: &HostRuntime,
+    text: &[u8],
+    others: &mut [u64],
+    rows: usize,
+    kept: &mut [u8],
+    out: &mut [u8],
+) {
     let room = number_at(text, 0);
     let k = console::store_again(stored::rest(text, NUMBER), others, rows, kept, room);
-    print_kept(k, kept, out);
+    print_kept(rt, k, kept, out);
 }
 
 // What a case asks for: the mode `e` lists elements, `s` the tree, `l` a survey's items, `r` its records, `q` the first line of its listing
 // alone, so that its cost is that of the reading; `t` stores a survey, `u` lists a stored table, `a` stores it again. One table serves for trees
 // and items.
 fn show(
+    rt: &HostRuntime,
     head: &[u8],
     text: &[u8],
     table: &mut [u64],
@@ -142,19 +155,29 @@ fn show(
     let other_rows = number_at(head, OTHER_ROWS_AT);
     let mode = head[0];
     match mode {
-        b'e' => console::elements(b"batch", text, table, rows, out),
-        b's' => console::tree(b"batch", text, table, rows, others, other_rows, out),
-        b'q' => listed(text, table, rows, others, other_rows, Shown::Head, out),
-        b'r' => listed(text, table, rows, others, other_rows, Shown::Records, out),
-        b't' => stored_of(text, table, rows, others, other_rows, kept, out),
-        b'u' => console::unstore(b"batch", text, others, other_rows, out),
-        b'a' => stored_again(text, others, other_rows, kept, out),
-        _ => listed(text, table, rows, others, other_rows, Shown::Items, out),
+        b'e' => console::elements(rt, b"batch", text, table, rows, out),
+        b's' => console::tree(rt, b"batch", text, table, rows, others, other_rows, out),
+        b'q' => listed(rt, text, table, rows, others, other_rows, Shown::Head, out),
+        b'r' => listed(
+            rt,
+            text,
+            table,
+            rows,
+            others,
+            other_rows,
+            Shown::Records,
+            out,
+        ),
+        b't' => stored_of(rt, text, table, rows, others, other_rows, kept, out),
+        b'u' => console::unstore(rt, b"batch", text, others, other_rows, out),
+        b'a' => stored_again(rt, text, others, other_rows, kept, out),
+        _ => listed(rt, text, table, rows, others, other_rows, Shown::Items, out),
     }
 }
 
 // The text of a case, and what it prints: false where it can't be read or written.
 fn answered(
+    rt: &HostRuntime,
     head: &[u8],
     text: &mut [u8],
     table: &mut [u64],
@@ -163,15 +186,24 @@ fn answered(
     out: &mut [u8],
 ) -> bool {
     let size = lent_tables::least(number_at(head, LENGTH_AT), text.len());
-    let Got::Bytes(k) = console::read_text(STDIN_FILENO, &mut text[..size]) else {
+    let Ok(k) = console::read_text(&mut rt.stdin(), &mut text[..size]) else {
         return false;
     };
-    show(head, lent_tables::front(text, k), table, others, kept, out);
-    console::write_out(b"batch", b".\n")
+    show(
+        rt,
+        head,
+        lent_tables::front(text, k),
+        table,
+        others,
+        kept,
+        out,
+    );
+    console::write_out(rt, b"batch", b".\n")
 }
 
 // One case: false where there is none.
 fn one(
+    rt: &HostRuntime,
     head: &mut [u8],
     text: &mut [u8],
     table: &mut [u64],
@@ -179,17 +211,18 @@ fn one(
     kept: &mut [u8],
     out: &mut [u8],
 ) -> bool {
-    let Got::Bytes(n) = console::read_text(STDIN_FILENO, head) else {
+    let Ok(n) = console::read_text(&mut rt.stdin(), head) else {
         return false;
     };
     if n < HEAD {
         return false;
     }
-    answered(head, text, table, others, kept, out)
+    answered(rt, head, text, table, others, kept, out)
 }
 
 // At most so many cases.
 fn cases(
+    rt: &HostRuntime,
     head: &mut [u8],
     text: &mut [u8],
     table: &mut [u64],
@@ -197,16 +230,14 @@ fn cases(
     kept: &mut [u8],
     out: &mut [u8],
 ) {
-    let mut left: u64 = MOST_CASES;
-    while 0 < left {
-        if !one(head, text, table, others, kept, out) {
+    for _ in 0..MOST_CASES {
+        if !one(rt, head, text, table, others, kept, out) {
             return;
         }
-        left -= 1;
     }
 }
 
-fn main() {
+fn main(rt: HostRuntime) {
     let mut head = [0u8; HEAD];
     let mut text = [0u8; TEXT_ROOM];
     let mut table = [0u64; places::ROW_WORDS * places::MOST_ELEMENTS];
@@ -214,6 +245,7 @@ fn main() {
     let mut kept = [0u8; MOST_ROOM];
     let mut out = [0u8; OUT_ROOM];
     cases(
+        &rt,
         &mut head,
         &mut text,
         &mut table,

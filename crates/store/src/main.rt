@@ -1,10 +1,12 @@
 // A whole survey of a package from standard input or a file, stored as bytes.
+#![tactic(auto)]
+
 use console::{Got, MOST_ROOM, OUT_ROOM};
 use options::{Lends, Options, WORD_ROOM};
 use pieces::RECORD_WORDS;
 use places::{MOST_BYTES, MOST_ELEMENTS, MOST_PIECES, ROW_WORDS};
 
-fn run(text: &[u8], o: Options) {
+fn run(rt: &HostRuntime, text: &[u8], o: Options) {
     let mut table = [0u64; ROW_WORDS * MOST_ELEMENTS];
     let mut items = [0u64; RECORD_WORDS * MOST_PIECES];
     let mut kept = [0u8; MOST_ROOM];
@@ -18,12 +20,13 @@ fn run(text: &[u8], o: Options) {
         &mut kept,
         o.room,
     );
-    console::print_kept(b"store", k, &kept, &mut out);
+    console::print_kept(rt, b"store", k, &kept, &mut out);
 }
 
-fn main() {
+fn main(rt: HostRuntime) {
     let mut word = [0u8; WORD_ROOM];
     let o = options::read_options(
+        &rt,
         b"store",
         b"usage: store [--room N] [--element-rows N] [--item-rows N] [--] [FILE]\nThe stored table of a package whose survey is whole, as bytes.\nNo FILE, or -: standard input. N lends less room, or a smaller table. The program needs 2 MB of stack.\n",
         b"",
@@ -36,8 +39,8 @@ fn main() {
         return;
     }
     let mut text = [0u8; MOST_BYTES + 1];
-    let Got::Bytes(n) = options::read_input(b"store", o.file, &mut word, &mut text) else {
+    let Got::Bytes(n) = options::read_input(&rt, b"store", o.file, &mut word, &mut text) else {
         return;
     };
-    run(lent_tables::front(&text, n), o);
+    run(&rt, lent_tables::front(&text, n), o);
 }

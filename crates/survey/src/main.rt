@@ -1,10 +1,12 @@
 // The survey of a package from standard input or a file: the listing of its items, or its records, tally and pair.
+#![tactic(auto)]
+
 use console::{Got, OUT_ROOM, Shown};
 use options::{Lends, Options, WORD_ROOM};
 use pieces::RECORD_WORDS;
 use places::{MOST_BYTES, MOST_ELEMENTS, MOST_PIECES, ROW_WORDS};
 
-fn run(text: &[u8], o: Options) {
+fn run(rt: &HostRuntime, text: &[u8], o: Options) {
     let mut table = [0u64; ROW_WORDS * MOST_ELEMENTS];
     let mut items = [0u64; RECORD_WORDS * MOST_PIECES];
     let mut out = [0u8; OUT_ROOM];
@@ -14,6 +16,7 @@ fn run(text: &[u8], o: Options) {
         Shown::Items
     };
     console::survey(
+        rt,
         b"survey",
         text,
         &mut table,
@@ -25,9 +28,10 @@ fn run(text: &[u8], o: Options) {
     );
 }
 
-fn main() {
+fn main(rt: HostRuntime) {
     let mut word = [0u8; WORD_ROOM];
     let o = options::read_options(
+        &rt,
         b"survey",
         b"usage: survey [--records] [--element-rows N] [--item-rows N] [--] [FILE]\nThe items of a package: each constant with its number, or the reason it has none; or the records of all pieces.\nNo FILE, or -: standard input. N lends a smaller table. The program needs 2 MB of stack.\n",
         b"--records",
@@ -40,8 +44,8 @@ fn main() {
         return;
     }
     let mut text = [0u8; MOST_BYTES + 1];
-    let Got::Bytes(n) = options::read_input(b"survey", o.file, &mut word, &mut text) else {
+    let Got::Bytes(n) = options::read_input(&rt, b"survey", o.file, &mut word, &mut text) else {
         return;
     };
-    run(lent_tables::front(&text, n), o);
+    run(&rt, lent_tables::front(&text, n), o);
 }

@@ -1,24 +1,27 @@
 // What stands in a stored table from standard input or a file: its lines; or the bytes that storing what was read gives.
+#![tactic(auto)]
+
 use console::{Got, MOST_ROOM, OUT_ROOM};
 use options::{Lends, Options, WORD_ROOM};
 use stored::MOST_ITEMS;
 use stored_reading::ROW_WORDS;
 
-fn run(bytes: &[u8], o: Options) {
+fn run(rt: &HostRuntime, bytes: &[u8], o: Options) {
     let mut table = [0u64; ROW_WORDS * MOST_ITEMS];
     let mut out = [0u8; OUT_ROOM];
     if !o.other {
-        console::unstore(b"unstore", bytes, &mut table, o.other_rows, &mut out);
+        console::unstore(rt, b"unstore", bytes, &mut table, o.other_rows, &mut out);
         return;
     }
     let mut kept = [0u8; MOST_ROOM];
     let k = console::store_again(bytes, &mut table, o.other_rows, &mut kept, o.room);
-    console::print_kept(b"unstore", k, &kept, &mut out);
+    console::print_kept(rt, b"unstore", k, &kept, &mut out);
 }
 
-fn main() {
+fn main(rt: HostRuntime) {
     let mut word = [0u8; WORD_ROOM];
     let o = options::read_options(
+        &rt,
         b"unstore",
         b"usage: unstore [--again] [--room N] [--item-rows N] [--] [FILE]\nThe items of a stored table; or, again, the bytes that storing what was read gives.\nNo FILE, or -: standard input. N lends less room, or a smaller table. The program needs 2 MB of stack.\n",
         b"--again",
@@ -31,11 +34,12 @@ fn main() {
         return;
     }
     let mut bytes = [0u8; MOST_ROOM + 1];
-    let Got::Bytes(n) = options::read_input(b"unstore", o.file, &mut word, &mut bytes) else {
+    let Got::Bytes(n) = options::read_input(&rt, b"unstore", o.file, &mut word, &mut bytes) else {
         return;
     };
     if MOST_ROOM < n {
         options::complain_of(
+            &rt,
             b"unstore",
             b"a stored table of more than 131072 bytes",
             o.file,
@@ -43,5 +47,5 @@ fn main() {
         );
         return;
     }
-    run(lent_tables::front(&bytes, n), o);
+    run(&rt, lent_tables::front(&bytes, n), o);
 }
