@@ -13,8 +13,8 @@ from sources import masked, words_in
 MARKS = r'(?:(?:unfoldable|abbrev|axiom|pub) )*'
 SIGNATURE = re.compile(rf'({MARKS})(record |data )?([^\s(){{}}]+)(?= [:({{]|$)')
 NO_NAMES = ('use', 'mod', 'module', 'unfolding', 'infix', 'infixl', 'infixr', 'open', 'where', 'mutual', '--', '{-')
-USE = re.compile(r'^(?:ghost )?(?:unfoldable )?(?:pub )?use Rattle·(\w+)·(?:specs|proofs)\.((?:specs|proofs)\.[^\s{};]+?)(?:\.\{([^}]*)\}| as (\S+?))?;?$', re.M)
-GENERATED = re.compile(r'^use Rattle·\w+·proofs\.proofs\.([^\s{]+)', re.M)
+USE = re.compile(r'^(?:ghost )?(?:unfoldable )?(?:pub )?use Rattle\.(\w+)\.((?:specs|proofs)\.[^\s{};]+?)(?:\.\{([^}]*)\}| as (\S+?))?;?$', re.M)
+GENERATED = re.compile(r'^use Rattle\.\w+\.proofs\.([^\s{]+)', re.M)
 
 
 class Declared(typing.NamedTuple):
@@ -104,7 +104,7 @@ class Crate:
                     found.update({f'{alias or module.split(".")[-1]}.{name}': one for name, one in known.items()})
             found.update(self.named.get(file, {}))
             for name in list(found):
-                for part in filter(None, name.split('_')) if '_' in name else ():
+                for part in filter(None, name.split('◌')) if '◌' in name else ():
                     found.setdefault(part, found[name])
         return self.scopes[file]
 
@@ -121,7 +121,9 @@ class Crate:
         """The places where an edit of the crate as it stands is wrong, each once; its code or its body where nothing else of it is replaced. What is in
         no function and no declaration, as a line that brings a name in, goes with the one place there is beside it."""
         found = {}
-        for path, old in edit.replaced:
+        for path, old, new in edit.replaced:
+            if (path, new, old) in edit.replaced:
+                continue  # one pair of two that take each other back
             wrong = self.wrong(str(path.relative_to(self.folder)), old)
             before = found.setdefault((wrong.file, wrong.line), wrong)
             found[wrong.file, wrong.line] = wrong if before.shut else before

@@ -1,6 +1,6 @@
 """What the test scripts share: where the programs stand, how one is run, how a failure is shown, how a script ends.
 
-BIN names the folder of the programs that rt built (target/bin), RUN the words before a program (tools/run64 run; empty
+BIN names a folder of programs that take the place of those that rt built (crates/NAME/out/NAME), RUN the words before a program (tools/run64 run; empty
 for one that runs as it is)."""
 import os
 import pathlib
@@ -10,7 +10,7 @@ import sys
 import typing
 
 os.chdir(pathlib.Path(__file__).resolve().parent.parent)
-BIN = os.environ.get('BIN', 'target/bin')
+BIN = os.environ.get('BIN', '')
 RUN = shlex.split(os.environ.get('RUN', 'tools/run64 run'))
 
 
@@ -22,9 +22,14 @@ def built(path):
     return path
 
 
+def program_file(name):
+    """The file of a program which rt proved and built."""
+    return built(f'{BIN}/{name}' if BIN else f'crates/{name}/out/{name}')
+
+
 def proved(program):
     """The words that start a program which rt proved and built."""
-    return RUN + [built(f'{BIN}/{program}')]
+    return RUN + [program_file(program)]
 
 
 def second(job):

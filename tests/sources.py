@@ -7,8 +7,8 @@ import typing
 LITERAL = re.compile(r'//[^\n]*|/\*.*?\*/|b?"(?:\\.|[^"\\])*"|b?\'(?:\\.[^\']*|[^\'\\\n])\'', re.S)
 FUNCTION = re.compile(r'\b(pub(?:\([^)]*\))?\s+)?(?:(?:const|unsafe|async|extern)\s+)*fn\s+(\w+)')
 SCOPE = re.compile(r'^[ \t]*(?:pub(?:\([^)]*\))?\s+)?(?:unsafe\s+)?(mod|impl|trait)\b([^{};]*)\{', re.M)
-CLAUSES = ('ensures', 'requires')
-USE = re.compile(r'^(?:ghost )?use Rattle·(\w+?)(?:·specs)?\.specs\.([\w.-]+?)(?:\.\{([^}]*)\}| as (\w+));?$', re.M)
+CLAUSE = re.compile(r'\b(ensures|requires)\*?(?:\s+\w+)?\s*$')  # what stands before a clause, its name too
+USE = re.compile(r'^(?:ghost )?(?:pub )?use Rattle\.(\w+)\.specs\.([\w.-]+?)(?:\.\{([^}]*)\}| as (\w+));?$', re.M)
 REPLACEMENT = re.compile(r'^file: (.*)$|^old: (.*)\nnew: ?(.*)$', re.M)
 
 
@@ -36,17 +36,19 @@ class Function:
         self.file, self.name = path, match[2]
         start, clauses = match.start(), []
         body = plain.find('{', start)
-        while body >= 0 and plain[start:body].rstrip().endswith(CLAUSES):
+        while body >= 0 and (clause := CLAUSE.search(plain, start, body)):
             end = closed(plain, body)
-            clauses.append((plain[start:body].split()[-1], text[body:end]))
+            clauses.append((clause[1], text[body:end]))
             body = plain.find('{', end)
         end = closed(plain, body) if body >= 0 else len(text)
         self.text, self.contract = text[start:end], text[start:body]
         self.ensures = [clause for word, clause in clauses if word == 'ensures']
         self.requires = [clause for word, clause in clauses if word == 'requires']
         self.parameters = plain[match.end() : body].split('ensures')[0].split('requires')[0]
-        first = text.count('\n', 0, start) + 1
-        self.lines = range(first, first + self.text.count('\n') + 1)
+        first, after = text.count('\n', 0, start) + 1, text.count('\n', 0, start) + self.text.count('\n') + 2
+        while first > 1 and text.split('\n')[first - 2].lstrip().startswith('#['):
+            first -= 1  # its attributes
+        self.lines = range(first, after)
         self.modules = [part for part in parts if part not in ('lib', 'main', 'mod')]
         self.modules += [name for kind, name in within if kind == 'mod']
         types = [name for kind, name in within if kind != 'mod']
@@ -91,7 +93,7 @@ class Definition(typing.NamedTuple):
 
 def words_in(text):
     """The words of a text, as antt parts them."""
-    return set(re.findall(r'[^\s(){},;⌜⌝]+', text))
+    return set(re.findall(r'[^\s(){},;]+', text))
 
 
 class Definitions:
@@ -136,8 +138,8 @@ class Definitions:
 
 
 class Edit(typing.NamedTuple):
-    """A must-fail edit: its file; the texts of code and of definitions that it replaces, each with the file that it stands in; and those of proofs,
-    which it fits to the code, with what takes their place."""
+    """A must-fail edit: its file; the texts of code and of definitions that it replaces, each with the file that it stands in and what takes its
+    place; and those of proofs, which it fits to the code. Each applies to what those before it made."""
 
     path: pathlib.Path
     replaced: list
@@ -154,7 +156,7 @@ def edits(root, crate='*'):
             elif file.relative_to(path.parents[1]).parts[0] == 'proofs':
                 edit.fitted.append((file, old, new))
             else:
-                edit.replaced.append((file, old))
+                edit.replaced.append((file, old, new))
         yield edit
 
 

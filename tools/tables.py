@@ -29,8 +29,8 @@ def load():
             body.append((ACT, 7 + int(s[4:])) if s.startswith('row ') else number[s])
         rules.append((names[m.group(1)], tuple(body)))
     last = max(kinds.values())
-    listing = re.search(r'^symbolsByKind =\n(.*?)\n    \[\]', text('crates/forms/specs/code/Kinds.antt'), re.M | re.S).group(1)
-    return rules, names, last + 1, [kinds[k] for k in re.findall(r'[a-z][a-z-]*', listing)]
+    listing = re.search(r'^symbols_by_kind =\n(.*?)\n    \[\]', text('crates/forms/specs/code/Kinds.antt'), re.M | re.S).group(1)
+    return rules, names, last + 1, [kinds[k] for k in re.findall(r'[a-z][a-z_]*', listing)]
 
 
 class Grammar:
@@ -274,18 +274,17 @@ def main():
     g = Grammar()
     write('crates/forms/specs/code/Picks.antt', '''-- Which rule is taken at which next kind: written by tools/tables.py from the rules, a line to each name, a column to each kind, the first
 -- for the end of the text. In it stands the rule's number and one more, or 0. Assumes nothing: the LL(1) test is computed.
-use Prim.Native.Nat.{ℕ}
-use mathlib.Core.List.{List, [], _∷_}
-use Rattle·grammars.specs.code.Grammar.{predictBy}
+use Rattle.std.specs.Prelude.{ℕ, List, [], ◌∷◌}
+use Rattle.grammars.specs.code.Grammar.{predict_by}
 
 ''' + nest('picks', 'the table', g.picks) + '''abbrev pub predict : ℕ → ℕ → ℕ
-predict = predictBy picks
+predict = predict_by picks
 ''')
     lead = g.leads()
     enters, leaves, reads = g.marking()
     write('crates/forms/proofs/Hints.antt', '''-- Hints for the computed tests, written by tools/tables.py from the rules. Nothing here is believed: a wrong entry fails a test.
 use Prim.Native.Nat.{ℕ}
-use mathlib.Core.List.{List, [], _∷_}
+use mathlib.Core.List.{List, [], ◌∷◌}
 use mathlib.Core.Bool.{Bool, true, false}
 
 ''' + nest('firsts', 'the kinds that each name may begin with', map(sorted, g.first))

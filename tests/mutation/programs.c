@@ -1,10 +1,6 @@
 /* All that is built of the sources, in one program: which part runs is told by the name that it is started under, as strict, survey,
    store, unstore, batch, library (tests/c/library.c) or fuzz (tests/c/fuzz.c). tests/mutants links it with a changed reader. There are no headers. */
-void rattle_batch(void);
-void rattle_strict(void);
-void rattle_survey(void);
-void rattle_store(void);
-void rattle_unstore(void);
+int rattle_main(void);
 int library_main(void);
 int fuzz_main(int, char **);
 
@@ -13,12 +9,7 @@ int main(int count, char **words)
     const char *name = words[0];
     for (const char *at = name; *at; at++)
         if (*at == '/') name = at + 1;
-    if (name[0] == 'b') rattle_batch();
-    else if (name[0] == 'l') return library_main();
-    else if (name[0] == 'f') return fuzz_main(count, words);
-    else if (name[0] == 'u') rattle_unstore();
-    else if (name[1] == 'u') rattle_survey();
-    else if (name[2] == 'o') rattle_store();
-    else rattle_strict();
-    return 0;
+    if (name[0] == 'l') return library_main();
+    if (name[0] == 'f') return fuzz_main(count, words);
+    return rattle_main();
 }
