@@ -1,1 +1,2 @@
 // Laws of truths and lists that the proofs of several crates cite: no definitions, no code.
+#![tactic(auto)]

@@ -1,5 +1,7 @@
 // What every lent table has in common: it can be made all zeros, a word of it is read with 0 past its end, and how much of it counts is the
 // least of two numbers; and the front of lent bytes. Every function takes any table and any numbers.
+#![tactic(auto)]
+
 ghost use Rattle.std.specs.Prelude.{◌≡◌, min, length, get_or, take, replicate};
 
 pub fn clear(t: &mut [u64])
