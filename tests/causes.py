@@ -153,7 +153,7 @@ class Crate:
             folders = {name for part in pathlib.Path(file).parts[1:-1] for name in part.split('+')}
             about = [function for function in self.functions if function.name in folders]
             known = {name for used in GENERATED.findall((self.folder / file).read_text()) for name in re.split(r'[.+]', used)} if file in self.files else set()
-        known |= {name for function in about for name in re.findall(r'(\w+)\(', masked(function.text))}
+        known |= {name for function in about for name in re.findall(r'(\w+)(?:::<[^<>()]*>)?\(', masked(function.text))}
         told = [function for function in self.functions if function.name in known]
         texts = [(function, function.text) for function in about] + [(function, function.contract) for function in told]
         meant = [one for function, text in texts for one in self.meant(self.source(function), parts(text))]

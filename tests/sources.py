@@ -31,7 +31,7 @@ class Function:
     """A function of a source: its crate, file and name, the modules and the type that it stands in, whether it is public, its parameters, its
     contract with the clauses of it, all of its text and its lines."""
 
-    def __init__(self, root, path, within, match, text, plain):
+    def __init__(self, root, path, within, match, text, plain, block=None):
         _, self.crate, _, *parts = path.relative_to(root).with_suffix('').parts
         self.file, self.name = path, match[2]
         start, clauses = match.start(), []
@@ -44,6 +44,10 @@ class Function:
         self.text, self.contract = text[start:end], text[start:body]
         self.ensures = [clause for word, clause in clauses if word == 'ensures']
         self.requires = [clause for word, clause in clauses if word == 'requires']
+        given = re.search(rf'\bghost {self.name}_gives = (\{{.*?\}});', text[slice(*block)], re.S) if block else None
+        if given:  # what an impl says of a method of its trait
+            self.ensures.append(given[1])
+            self.contract += given[0]
         self.parameters = plain[match.end() : body].split('ensures')[0].split('requires')[0]
         first, after = text.count('\n', 0, start) + 1, text.count('\n', 0, start) + self.text.count('\n') + 2
         while first > 1 and text.split('\n')[first - 2].lstrip().startswith('#['):
@@ -77,8 +81,10 @@ def functions(root):
         plain = masked(text)
         scopes = [(match.start(), closed(plain, match.end() - 1), scope(match[1], match[2])) for match in SCOPE.finditer(plain)]
         for match in FUNCTION.finditer(plain):
-            within = [named for start, end, named in scopes if start < match.start() < end]
-            function = Function(root, path, within, match, text, plain)
+            around = [it for it in scopes if it[0] < match.start() < it[1]]
+            within = [named for _, _, named in around]
+            block = around[-1][:2] if around and around[-1][2][0] == 'trait' else None
+            function = Function(root, path, within, match, text, plain, block)
             found[function.called] = function
     return found
 

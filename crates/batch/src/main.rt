@@ -3,8 +3,6 @@
 // the room, and the bytes are printed as hexadecimal digits. After what a case prints stands a line with a point.
 #![tactic(auto)]
 
-ghost use Rattle.std.specs.Prelude.{◌≤◌};
-
 use console::{MOST_ROOM, OUT_ROOM, Shown};
 use kawhiluhe::Kept;
 
@@ -35,12 +33,6 @@ const TEN: u8 = 10;
 // A run has fewer cases.
 const MOST_CASES: u64 = 1000000000;
 
-fn wide(b: u8) -> usize
-    ensures { result ≤ 255 }
-{
-    b as usize
-}
-
 // A number of three bytes, 0 where they don't stand there.
 fn number_at(s: &[u8], at: usize) -> usize {
     if s.len() < NUMBER {
@@ -49,7 +41,7 @@ fn number_at(s: &[u8], at: usize) -> usize {
     if s.len() - NUMBER < at {
         return 0;
     }
-    wide(s[at]) * BYTES * BYTES + wide(s[at + 1]) * BYTES + wide(s[at + LAST])
+    usize::from(s[at]) * BYTES * BYTES + usize::from(s[at + 1]) * BYTES + usize::from(s[at + LAST])
 }
 
 fn listed(
@@ -77,12 +69,10 @@ fn digit_of(n: u8) -> u8 {
 
 // Bytes as hexadecimal digits, two to a byte, and a line feed.
 fn print_hexadecimal(rt: &HostRuntime, bytes: &[u8], out: &mut [u8]) {
-    let mut w: usize = 0;
-    let mut i = 0;
-    while i < bytes.len() {
-        w = puts::put_byte(digit_of(bytes[i] / SIXTEEN), out, w);
-        w = puts::put_byte(digit_of(bytes[i]), out, w);
-        i += 1;
+    let mut w = 0;
+    for b in bytes {
+        w = puts::put_byte(digit_of(*b / SIXTEEN), out, w);
+        w = puts::put_byte(digit_of(*b), out, w);
         if out.len() - w < NUMBER {
             console::write_out(rt, b"batch", lent_tables::front(out, w));
             w = 0;
@@ -185,7 +175,7 @@ fn answered(
     kept: &mut [u8],
     out: &mut [u8],
 ) -> bool {
-    let size = lent_tables::least(number_at(head, LENGTH_AT), text.len());
+    let size = number_at(head, LENGTH_AT).min(text.len());
     let Ok(k) = console::read_text(&mut rt.stdin(), &mut text[..size]) else {
         return false;
     };
@@ -237,6 +227,7 @@ fn cases(
     }
 }
 
+// The tables travel one by one: a struct of them is lent field by field, which the borrow checker does not cover.
 fn main(rt: HostRuntime) {
     let mut head = [0u8; HEAD];
     let mut text = [0u8; TEXT_ROOM];

@@ -7,6 +7,7 @@ use mathlib.Core.List.{List, [], ◌∷◌, ◌++◌}
 use native.Mathlib.Omega.{arith}
 use borrow.Author.Tests.{le-leb}
 use lib.ListN.{length}
+use Rattle.std.specs.Prelude.{Option, Some, None}
 use Rattle.laws.proofs.Laws.{clash}
 use Rattle.places.specs.Places.{cell_at}
 use Rattle.same_names.specs.Alike.{spelled_as}
@@ -14,8 +15,6 @@ use Rattle.element_reading.specs.Rows.{rows_of}
 use Rattle.element_reading.proofs.Promises.{stand_in_order}
 use Rattle.records.specs.Records.{word_at, is_claim}
 use Rattle.lookup.specs.Lookup.{is_named, claims_name, found_from}
-use Rattle.lookup.specs.declared.Found.{Found}
-use Rattle.lookup.specs.declared.Found.TheVariants.{At, Nothing}
 use Rattle.operands.specs.code.Operands.{bytes_at}
 use Rattle.meaning.specs.Elements.{Piece, at}
 use Rattle.meaning.specs.Pieces.{pieces_of, class_of}
@@ -50,9 +49,9 @@ module _ (s : List ℕ) (z y : ℕ) (ds : List Done) (cuts : pieces_done ds ≡ 
 -- ---- the first that claims it
 
 -- of pieces, of which the first has number j
-abbrev pub first_of : List ℕ → List Piece → ℕ → Found
-first_of name [] j = Nothing
-first_of name (p ∷ ps) j = elim (is_claimed name p) [ true ↦ At j | false ↦ first_of name ps (suc j) ]
+abbrev pub first_of : List ℕ → List Piece → ℕ → Option ℕ
+first_of name [] j = None
+first_of name (p ∷ ps) j = elim (is_claimed name p) [ true ↦ Some j | false ↦ first_of name ps (suc j) ]
 
 empty_none : (name : List ℕ) → ClaimsName name [] → ⊥
 unfolding at
@@ -66,7 +65,7 @@ empty_not name = go (is_claimed name []) refl
     go true e = absurd (empty_none name (is_claimed_lem name [] e))
     go false e = refl
 
-none_first : (f : ℕ → Bool) (j m : ℕ) → ((k : ℕ) → f (j + k) ≡ false) → found_from f j m ≡ Nothing
+none_first : (f : ℕ → Bool) (j m : ℕ) → ((k : ℕ) → f (j + k) ≡ false) → found_from f j m ≡ None
 unfolding found_from
 none_first f j zero h = refl
 none_first f j (suc m) h =
@@ -82,13 +81,13 @@ first_of_lem name f (p ∷ ps) j (suc m) l h =
     let o : j ≡ j + 0 = omega arith in
     go (is_claimed name p) (ap f o ∙ h 0) (first_of_lem name f ps (suc j) m (omega arith) (λ k. let n : suc j + k ≡ j + suc k = omega arith in ap f n ∙ h (suc k)))
   where
-    go : (b : Bool) → f j ≡ b → found_from f (suc j) m ≡ first_of name ps (suc j) → found_from f j (suc m) ≡ elim b [ true ↦ At j | false ↦ first_of name ps (suc j) ]
+    go : (b : Bool) → f j ≡ b → found_from f (suc j) m ≡ first_of name ps (suc j) → found_from f j (suc m) ≡ elim b [ true ↦ Some j | false ↦ first_of name ps (suc j) ]
     go true e r = rw (e, found_from)
     go false e r = rw (e, found_from) r
 
 -- ---- what the search says, and that it says no less
 
-pub at_same : (a b : ℕ) → At a ≡ At b → a ≡ b
+pub at_same : (a b : ℕ) → Some a ≡ Some b → a ≡ b
 at_same a b e = cc
 
 module _ (name : List ℕ) where
@@ -124,30 +123,30 @@ module _ (name : List ℕ) where
       go true e = absurd (un (is_claimed_lem name p e))
       go false e = refl
 
-  pub at_first : (ps : List Piece) (j k : ℕ) → first_of name ps j ≡ At k → From ps j k
+  pub at_first : (ps : List Piece) (j k : ℕ) → first_of name ps j ≡ Some k → From ps j k
   at_first [] j k h = let z : ◌≡◌ {A = ℕ} 0 1 = cc in clash z
   at_first (p ∷ ps) j k h = go (is_claimed name p) refl h (at_first ps (suc j) k)
     where
-      go : (b : Bool) → is_claimed name p ≡ b → elim b [ true ↦ At j | false ↦ first_of name ps (suc j) ] ≡ At k → (first_of name ps (suc j) ≡ At k → From ps (suc j) k) → From (p ∷ ps) j k
+      go : (b : Bool) → is_claimed name p ≡ b → elim b [ true ↦ Some j | false ↦ first_of name ps (suc j) ] ≡ Some k → (first_of name ps (suc j) ≡ Some k → From ps (suc j) k) → From (p ∷ ps) j k
       go true e q ih =
           let z = at_same j k q in
           (0, omega arith, record { before = []; piece = p; after = ps; split = refl; number = refl; claimed = is_claimed_lem name p e; unclaimed = tt })
       go false e q ih = further p ps j k (not_claimed p e) (ih q)
 
-  pub first_at_lem : (before : List Piece) (p : Piece) (after : List Piece) (j : ℕ) → NoneClaims name before → ClaimsName name p → first_of name (before ++ p ∷ after) j ≡ At (j + length before)
-  first_at_lem [] p after j n c = let o : j ≡ j + 0 = omega arith in rw (claims_is name p c, first_of) (ap At o)
+  pub first_at_lem : (before : List Piece) (p : Piece) (after : List Piece) (j : ℕ) → NoneClaims name before → ClaimsName name p → first_of name (before ++ p ∷ after) j ≡ Some (j + length before)
+  first_at_lem [] p after j n c = let o : j ≡ j + 0 = omega arith in rw (claims_is name p c, first_of) (ap Some o)
   first_at_lem (q ∷ before) p after j n c =
       let o : suc j + length before ≡ j + suc (length before) = omega arith in
-      rw (claimed_not q n.0, first_of) (first_at_lem before p after (suc j) n.1 c ∙ ap At o)
+      rw (claimed_not q n.0, first_of) (first_at_lem before p after (suc j) n.1 c ∙ ap Some o)
 
-  pub nothing_none : (ps : List Piece) (j : ℕ) → first_of name ps j ≡ Nothing → NoneClaims name ps
+  pub nothing_none : (ps : List Piece) (j : ℕ) → first_of name ps j ≡ None → NoneClaims name ps
   nothing_none [] j h = tt
   nothing_none (p ∷ ps) j h = go (is_claimed name p) refl h (nothing_none ps (suc j))
     where
-      go : (b : Bool) → is_claimed name p ≡ b → elim b [ true ↦ At j | false ↦ first_of name ps (suc j) ] ≡ Nothing → (first_of name ps (suc j) ≡ Nothing → NoneClaims name ps) → NoneClaims name (p ∷ ps)
+      go : (b : Bool) → is_claimed name p ≡ b → ◌≡◌ {A = Option ℕ} (elim b [ true ↦ Some j | false ↦ first_of name ps (suc j) ]) None → (first_of name ps (suc j) ≡ None → NoneClaims name ps) → NoneClaims name (p ∷ ps)
       go true e q ih = let z : ◌≡◌ {A = ℕ} 0 1 = cc in clash z
       go false e q ih = (not_claimed p e, ih q)
 
-  pub none_nothing : (ps : List Piece) (j : ℕ) → NoneClaims name ps → first_of name ps j ≡ Nothing
+  pub none_nothing : (ps : List Piece) (j : ℕ) → NoneClaims name ps → first_of name ps j ≡ None
   none_nothing [] j n = refl
   none_nothing (p ∷ ps) j n = rw (claimed_not p n.0, first_of) (none_nothing ps (suc j) n.1)

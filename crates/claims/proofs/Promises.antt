@@ -10,6 +10,7 @@ use native.Mathlib.Omega.{arith}
 use borrow.Author.Tests.{leb-true}
 use lib.Dec.{leb}
 use lib.ListN.{length, get_or, length-append}
+use Rattle.std.specs.Prelude.{Option, Some, None}
 use Rattle.places.specs.Kinds.{extended_kind}
 use Rattle.laws.proofs.Laws.{clash}
 use Rattle.classes.specs.Signs as sign
@@ -22,8 +23,6 @@ use Rattle.pieces.specs.Records.{record_words}
 use Rattle.lookup.specs.Lookup.{claims_name, found_of}
 use Rattle.lookup.specs.Finds.{Finds}
 use Rattle.lookup.proofs.Promises.{found_exactly}
-use Rattle.lookup.specs.declared.Found.{Found}
-use Rattle.lookup.specs.declared.Found.TheVariants.{At, Nothing}
 use Rattle.meaning.specs.Elements.{Piece, at}
 use Rattle.meaning.specs.Pieces.{pieces_of}
 use Rattle.meaning.specs.Names.{Done}
@@ -35,7 +34,7 @@ use Rattle.meaning.proofs.Words as held
 use Rattle.meaning.proofs.Claims.{dones_length}
 use Rattle.survey_reading.specs.code.Survey.{survey_of, elements_after_survey, items_after, item_table}
 use Rattle.survey_reading.specs.declared.Summary.{Summary}
-use Rattle.survey_reading.specs.declared.Ended.TheVariants as O
+use Rattle.std.specs.Prelude.{Ok}
 use Rattle.survey_reading.proofs.Promises.{surveyed_exactly, says_of_records}
 use Rattle.survey_reading.proofs.Permits.{left_so}
 use Rattle.kawhiluhe.specs.AnswerNumbers.{found_number}
@@ -77,26 +76,26 @@ module _ (s : List ℕ) (name : List ℕ) where
 
 -- ---- over the tables that a survey leaves
 
-pub found_after : (s : List ℕ) (e w : ℕ) (x : Summary) → (survey_of s e w).outcome ≡ O.Done x → (name : List ℕ)
+pub found_after : (s : List ℕ) (e w : ℕ) (x : Summary) → survey_of s e w ≡ Ok x → (name : List ℕ)
     → found_of s (elements_after_survey s e w) name (items_after s e w) ≡ first_of name (pieces_of s) 0
 found_after s e w x h name =
     let r = says_of_records s e w x h in
     let t = (surveyed_exactly s e w).0 (x, h) in
     ap₂ (λ (a b : List ℕ). found_of s a name b) (r.1 ∙ table_read s e (taken_read s e t.0)) r.0 ∙ found_held s name (e - 3 * length (rows_of s)) w
 
-says_first : (name : List ℕ) (ps : List Piece) (x : Found) → x ≡ first_of name ps 0 → SaysFirst name ps x
+says_first : (name : List ℕ) (ps : List Piece) (x : Option ℕ) → x ≡ first_of name ps 0 → SaysFirst name ps x
 says_first name ps x f = ((λ k. (there k, back k)), ((λ q. nothing_none name ps 0 (sym f ∙ q)), λ n. f ∙ none_nothing name ps 0 n))
   where
-    there : (k : ℕ) → x ≡ At k → FirstClaims name ps k
+    there : (k : ℕ) → x ≡ Some k → FirstClaims name ps k
     there k q =
         let z = at_first name ps 0 k (sym f ∙ q) in
         let o : z.0 ≡ k = sym (zero-add z.0) ∙ z.1 in
         subst (FirstClaims name ps) o z.2
 
-    back : (k : ℕ) → FirstClaims name ps k → x ≡ At k
+    back : (k : ℕ) → FirstClaims name ps k → x ≡ Some k
     back k c =
         f ∙ ap (λ (l : List Piece). first_of name l 0) c.split ∙ first_at_lem name c.before c.piece c.after 0 c.unclaimed c.claimed
-        ∙ ap At (zero-add (length c.before) ∙ c.number)
+        ∙ ap Some (zero-add (length c.before) ∙ c.number)
 
 pub finds_first : FindsFirst
 finds_first s t u name x l g =
@@ -106,7 +105,7 @@ finds_first s t u name x l g =
     ∙ ap₂ (λ (a b : List ℕ). found_of s a name b) q.elements_are q.items_are
     ∙ found_after s q.element_words q.item_words q.summary q.done name)
 
-at_nothing : (i : ℕ) → At i ≡ Nothing → ⊥
+at_nothing : (i : ℕ) → Some i ≡ None → ⊥
 at_nothing i e = let z : ◌≡◌ {A = ℕ} 0 1 = cc in clash z
 
 -- ---- what is found begins as the name does
@@ -164,10 +163,10 @@ finds_number s t u name x l g = go x (length u / record_words) room (finds_first
         let q = left_so s t u l in
         rw (q.items_are ∙ (says_of_records s q.element_words q.item_words q.summary q.done).0) (room_held s name q.item_words)
 
-    go : (f : Found) (none : ℕ) → length (pieces_of s) ≤ none → SaysFirst name (pieces_of s) f
+    go : (f : Option ℕ) (none : ℕ) → length (pieces_of s) ≤ none → SaysFirst name (pieces_of s) f
         → ((k : ℕ) → k < length (pieces_of s) → (found_number f none ≡ k) ↔ FirstClaims name (pieces_of s) k) × ((length (pieces_of s) ≤ found_number f none) ↔ NoneClaims name (pieces_of s))
-    go (At i) none room q = (
-      (λ k l. ((λ z. (q.0 k).0 (ap At z)), λ c. at_same i k ((q.0 k).1 c))),
+    go (Some i) none room q = (
+      (λ k l. ((λ z. (q.0 k).0 (ap Some z)), λ c. at_same i k ((q.0 k).1 c))),
       ((λ z. absurd (omega (arith, first_within name (pieces_of s) i ((q.0 i).0 refl)))), λ n. absurd (at_nothing i (q.1.1 n))),
     )
-    go Nothing none room q = ((λ k l. ((λ z. absurd (omega arith)), λ c. absurd (at_nothing k (sym ((q.0 k).1 c))))), ((λ z. q.1.0 refl), λ n. room))
+    go None none room q = ((λ k l. ((λ z. absurd (omega arith)), λ c. absurd (at_nothing k (sym ((q.0 k).1 c))))), ((λ z. q.1.0 refl), λ n. room))

@@ -1,6 +1,6 @@
 -- What a lookup by name finds in the tables of a text that was surveyed, said of the text's pieces alone: the first that claims the name, or
 -- none. A name is given as bytes. proofs/Promises.antt proves the statements. Assumes nothing: these are definitions.
-use Rattle.std.specs.Prelude.{ℕ, ◌/◌, ◌≤◌, ◌<◌, ◌≡◌, ◌⊎◌, ◌↔◌, true, List, [], ◌∷◌, ◌++◌, length, get_or}
+use Rattle.std.specs.Prelude.{ℕ, ◌/◌, ◌≤◌, ◌<◌, ◌≡◌, ◌⊎◌, ◌↔◌, true, List, [], ◌∷◌, ◌++◌, length, get_or, Option, Some, None}
 use Rattle.places.specs.Kinds.{identifier_kind, extended_kind}
 use Rattle.classes.specs.Signs as sign
 use Rattle.classes.specs.Bytes.{lower}
@@ -14,8 +14,6 @@ use Rattle.meaning.specs.Names.{claims}
 use Rattle.lookup.specs.Finds.{Finds}
 use Rattle.lookup.specs.Structs.{struct_words}
 use Rattle.lookup.specs.declared.Item.{Item}
-use Rattle.lookup.specs.declared.Found.{Found}
-use Rattle.lookup.specs.declared.Found.TheVariants.{At, Nothing}
 use Rattle.survey_reading.specs.Permitted.{LeavesTables}
 use Rattle.kawhiluhe.specs.AnswerNumbers.{found_number}
 
@@ -49,13 +47,13 @@ pub record FirstClaims (name : List ℕ) (ps : List Piece) (k : ℕ) : Type 0 wh
   pub unclaimed : NoneClaims name before
 
 -- An answer of a lookup says this of pieces: the first that claims the name, or that none does.
-abbrev pub SaysFirst : List ℕ → List Piece → Found → Type 0
-SaysFirst name ps f = ((k : ℕ) → (f ≡ At k) ↔ FirstClaims name ps k) × ((f ≡ Nothing) ↔ NoneClaims name ps)
+abbrev pub SaysFirst : List ℕ → List Piece → Option ℕ → Type 0
+SaysFirst name ps f = ((k : ℕ) → (f ≡ Some k) ↔ FirstClaims name ps k) × ((f ≡ None) ↔ NoneClaims name ps)
 
 -- "a lookup by name gives the first item that claims it, or none": over the tables that a survey leaves, for every text that is surveyed with
 -- tables of any size, for every name, and for every answer that the lookup's contract permits
 abbrev pub FindsFirst : Type 0
-FindsFirst = (text elements items name : List ℕ) (f : Found) → LeavesTables text elements items → Finds text elements name items f → SaysFirst name (pieces_of text) f
+FindsFirst = (text elements items name : List ℕ) (f : Option ℕ) → LeavesTables text elements items → Finds text elements name items f → SaysFirst name (pieces_of text) f
 
 -- "Extended identifiers .. equal no basic identifier": what is found is an extended identifier exactly where the name that is looked up begins
 -- with a backslash
@@ -65,14 +63,14 @@ ByBackslash = (text name : List ℕ) (k : ℕ) (f : FirstClaims name (pieces_of 
 -- The same of `lookup_items`: item structs that hold the words of that table.
 abbrev pub FindsInStructs : Type 0
 FindsInStructs =
-    (text elements items name : List ℕ) (structs : List Item) (f : Found) → LeavesTables text elements items → struct_words structs ≡ items
+    (text elements items name : List ℕ) (structs : List Item) (f : Option ℕ) → LeavesTables text elements items → struct_words structs ≡ items
     → Finds text elements name (struct_words structs) f → SaysFirst name (pieces_of text) f
 
 -- The same of the library, which answers the number of a record, or how many records the table has: the first piece that claims the name, or past
 -- them all.
 abbrev pub FindsNumber : Type 0
 FindsNumber =
-    (text elements items name : List ℕ) (f : Found) → LeavesTables text elements items → Finds text elements name items f
+    (text elements items name : List ℕ) (f : Option ℕ) → LeavesTables text elements items → Finds text elements name items f
     → ((k : ℕ) → k < length (pieces_of text) → (found_number f (length items / record_words) ≡ k) ↔ FirstClaims name (pieces_of text) k)
     × ((length (pieces_of text) ≤ found_number f (length items / record_words)) ↔ NoneClaims name (pieces_of text))
 

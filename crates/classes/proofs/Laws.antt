@@ -66,13 +66,6 @@ by_test P false f g = g refl
 pub within_high : (low high b : ℕ) → between low high b ≡ true → b ≤ high
 within_high low high b e = leb-true b high (both_right (leb low b) (leb b high) e)
 
-pub digit_value_le : (b : ℕ) → digit_value b ≤ 16
-unfolding digit_value is_digit
-digit_value_le b =
-    by_test (λ (n : ℕ). n ≤ 16) (between 48 57 b) (λ e. omega (arith, within_high 48 57 b e))
-    (λ _. by_test (λ (n : ℕ). n ≤ 16) (between 65 70 b) (λ e. omega (arith, within_high 65 70 b e))
-    (λ _. by_test (λ (n : ℕ). n ≤ 16) (between 97 102 b) (λ e. omega (arith, within_high 97 102 b e)) (λ _. omega arith)))
-
 -- a byte that is not 0 stands between the list
 pub byte_inside : (s : List ℕ) (i : ℕ) → (get_or s i 0 ≡ 0 → ⊥) → i < length s
 byte_inside s i n = go (leb (length s) i) refl

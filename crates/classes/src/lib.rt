@@ -105,7 +105,7 @@ pub fn in_run(c: Run, b: u8) -> bool
 pub fn byte_or(s: &[u8], at: usize) -> u8
     ensures { result ≡ get_or s.now at 0 }
 {
-    if at < s.len() { s[at] } else { 0 }
+    lent_tables::item_or(s, at, 0)
 }
 
 // Whether a run goes on at the front of what is left.
@@ -126,12 +126,10 @@ fn goes_on(c: Run, s: &[u8]) -> bool
 pub fn run_length(c: Run, s: &[u8]) -> usize
     ensures { result ≡ run c s.now }
 {
-    let mut i = 0;
-    while i < s.len() {
+    for i in 0..s.len() {
         if !goes_on(c, &s[i..]) {
             return i;
         }
-        i += 1;
     }
-    i
+    s.len()
 }

@@ -24,19 +24,13 @@ const REASON_ROOM: usize = 256;
 
 const BEFORE_NUMBER: &[u8] = b" (os error ";
 
-// How many bytes were read, or that a read failed.
-#[derive(Clone, Copy)]
-pub enum Got {
-    Bytes(usize),
-    Failed,
-}
-
 // Reads until the buffer is full or the input ends: how many bytes. A read that failed is the error, and the buffer then holds what was read
 // before.
 pub fn read_text<R: Read>(input: &mut R, text: &mut [u8]) -> io::Result<usize>
     ensures { IfOk result (λ n. n ≤ length text.new) }
 {
-    let mut n: usize = 0;
+    let mut n = 0;
+    // a while: each turn goes on by what the read took
     while n < text.len() {
         let k = input.read(&mut text[n..])?;
         if k == 0 {
@@ -100,13 +94,51 @@ pub fn write_out(rt: &HostRuntime, program: &[u8], bytes: &[u8]) -> bool {
 
 // Writes a part of a listing that began at a line: false where it can't be written, or the next line has no room.
 fn write_part(rt: &HostRuntime, program: &[u8], from: usize, f: Filled, out: &[u8]) -> bool {
-    if f.next == from {
-        if 0 < f.left {
-            complain(rt, program, b"listing", b"a line is longer than the buffer");
-            return false;
-        }
+    if f.next == from && 0 < f.left {
+        complain(rt, program, b"listing", b"a line is longer than the buffer");
+        return false;
     }
     write_out(rt, program, lent_tables::front(out, f.used))
+}
+
+// Writes a listing, each part of which a function puts into the buffer from a line on.
+fn print_parts<F: Fn(usize, &mut [u8]) -> Filled>(
+    rt: &HostRuntime,
+    program: &[u8],
+    fill: F,
+    out: &mut [u8],
+)
+    requires { F.IsAlwaysCallable fill }
+{
+    let mut from = 0;
+    for _ in 0..MOST_TURNS {
+        let f = fill(from, out);
+        if !write_part(rt, program, from, f, out) {
+            return;
+        }
+        if f.left == 0 {
+            return;
+        }
+        from = f.next;
+    }
+}
+
+// The rows of a table that are lent: so many, each of so many words, and no more than there may be or than the table has.
+fn lent(table: &mut [u64], rows: usize, most: usize, words: usize) -> &mut [u64] {
+    let size = rows.min(most).saturating_mul(words).min(table.len());
+    &mut table[..size]
+}
+
+fn lent_elements(table: &mut [u64], rows: usize) -> &mut [u64] {
+    lent(table, rows, places::MOST_ELEMENTS, places::ROW_WORDS)
+}
+
+fn lent_records(items: &mut [u64], rows: usize) -> &mut [u64] {
+    lent(items, rows, places::MOST_PIECES, pieces::RECORD_WORDS)
+}
+
+fn lent_items(table: &mut [u64], rows: usize) -> &mut [u64] {
+    lent(table, rows, stored::MOST_ITEMS, stored_reading::ROW_WORDS)
 }
 
 // The listing of a text's elements, or the refusal, with so many rows of a table lent.
@@ -118,28 +150,17 @@ pub fn elements(
     rows: usize,
     out: &mut [u8],
 ) {
-    let size = lent_tables::least(
-        lent_tables::least(rows, places::MOST_ELEMENTS) * places::ROW_WORDS,
-        table.len(),
+    let answer = kawhiluhe::element_words(kawhiluhe::kawhiluhe_elements(
+        text,
+        lent_elements(table, rows),
+    ));
+    let table: &[u64] = table;
+    print_parts(
+        rt,
+        program,
+        |from, out| kawhiluhe::kawhiluhe_element_lines(table, &answer, from, out),
+        out,
     );
-    let answer = kawhiluhe::element_words(kawhiluhe::kawhiluhe_elements(text, &mut table[..size]));
-    print_elements(rt, program, table, &answer, out);
-}
-
-fn print_elements(rt: &HostRuntime, program: &[u8], table: &[u64], answer: &[u64], out: &mut [u8]) {
-    let mut from: usize = 0;
-    let mut turns = MOST_TURNS;
-    while 0 < turns {
-        let f = kawhiluhe::kawhiluhe_element_lines(table, answer, from, out);
-        if !write_part(rt, program, from, f, out) {
-            return;
-        }
-        if f.left == 0 {
-            return;
-        }
-        from = f.next;
-        turns -= 1;
-    }
 }
 
 // The listing of a text's tree, or the refusal, with so many rows of each table lent.
@@ -153,36 +174,18 @@ pub fn tree(
     tree_rows: usize,
     out: &mut [u8],
 ) {
-    let size = lent_tables::least(
-        lent_tables::least(rows, places::MOST_ELEMENTS) * places::ROW_WORDS,
-        table.len(),
-    );
-    let room = lent_tables::least(
-        lent_tables::least(tree_rows, places::MOST_ELEMENTS) * ROW_NUMBERS,
-        trees.len(),
-    );
     let answer = kawhiluhe::judged_words(kawhiluhe::kawhiluhe_strict(
         text,
-        &mut table[..size],
-        &mut trees[..room],
+        lent_elements(table, rows),
+        lent(trees, tree_rows, places::MOST_ELEMENTS, ROW_NUMBERS),
     ));
-    print_tree(rt, program, trees, &answer, out);
-}
-
-fn print_tree(rt: &HostRuntime, program: &[u8], trees: &[u64], answer: &[u64], out: &mut [u8]) {
-    let mut from: usize = 0;
-    let mut turns = MOST_TURNS;
-    while 0 < turns {
-        let f = kawhiluhe::kawhiluhe_tree_lines(trees, answer, from, out);
-        if !write_part(rt, program, from, f, out) {
-            return;
-        }
-        if f.left == 0 {
-            return;
-        }
-        from = f.next;
-        turns -= 1;
-    }
+    let trees: &[u64] = trees;
+    print_parts(
+        rt,
+        program,
+        |from, out| kawhiluhe::kawhiluhe_tree_lines(trees, &answer, from, out),
+        out,
+    );
 }
 
 // What is shown of a survey: its items, its records, or the listing's first line alone.
@@ -205,15 +208,11 @@ pub fn survey(
     shown: Shown,
     out: &mut [u8],
 ) {
-    let size = lent_tables::least(
-        lent_tables::least(rows, places::MOST_ELEMENTS) * places::ROW_WORDS,
-        table.len(),
+    let s = kawhiluhe::kawhiluhe_survey(
+        text,
+        lent_elements(table, rows),
+        lent_records(items, item_rows),
     );
-    let room = lent_tables::least(
-        lent_tables::least(item_rows, places::MOST_PIECES) * pieces::RECORD_WORDS,
-        items.len(),
-    );
-    let s = kawhiluhe::kawhiluhe_survey(text, &mut table[..size], &mut items[..room]);
     show(rt, program, text, table, items, s, shown, out);
 }
 
@@ -230,7 +229,12 @@ fn show(
     let answer = kawhiluhe::surveyed_words(s);
     match shown {
         Shown::Items => print_items(rt, program, text, table, items, &answer, out),
-        Shown::Records => print_records(rt, program, items, &answer, out),
+        Shown::Records => print_parts(
+            rt,
+            program,
+            |from, out| kawhiluhe::kawhiluhe_record_lines(items, &answer, from, out),
+            out,
+        ),
         // no more records are listed than the table has: of an empty one, none
         Shown::Head => print_items(rt, program, text, table, &[], &answer, out),
     }
@@ -245,35 +249,12 @@ fn print_items(
     answer: &[u64],
     out: &mut [u8],
 ) {
-    let mut from: usize = 0;
-    let mut turns = MOST_TURNS;
-    while 0 < turns {
-        let f = kawhiluhe::kawhiluhe_survey_lines(text, table, items, answer, from, out);
-        if !write_part(rt, program, from, f, out) {
-            return;
-        }
-        if f.left == 0 {
-            return;
-        }
-        from = f.next;
-        turns -= 1;
-    }
-}
-
-fn print_records(rt: &HostRuntime, program: &[u8], items: &[u64], answer: &[u64], out: &mut [u8]) {
-    let mut from: usize = 0;
-    let mut turns = MOST_TURNS;
-    while 0 < turns {
-        let f = kawhiluhe::kawhiluhe_record_lines(items, answer, from, out);
-        if !write_part(rt, program, from, f, out) {
-            return;
-        }
-        if f.left == 0 {
-            return;
-        }
-        from = f.next;
-        turns -= 1;
-    }
+    print_parts(
+        rt,
+        program,
+        |from, out| kawhiluhe::kawhiluhe_survey_lines(text, table, items, answer, from, out),
+        out,
+    );
 }
 
 // The survey of a package stored in so much room, with so many rows of each table lent.
@@ -286,19 +267,11 @@ pub fn store(
     kept: &mut [u8],
     room: usize,
 ) -> Kept {
-    let size = lent_tables::least(
-        lent_tables::least(rows, places::MOST_ELEMENTS) * places::ROW_WORDS,
-        table.len(),
-    );
-    let records = lent_tables::least(
-        lent_tables::least(item_rows, places::MOST_PIECES) * pieces::RECORD_WORDS,
-        items.len(),
-    );
-    let end = lent_tables::least(room, kept.len());
+    let end = room.min(kept.len());
     kawhiluhe::kawhiluhe_store(
         text,
-        &mut table[..size],
-        &mut items[..records],
+        lent_elements(table, rows),
+        lent_records(items, item_rows),
         &mut kept[..end],
     )
 }
@@ -311,12 +284,8 @@ pub fn store_again(
     kept: &mut [u8],
     room: usize,
 ) -> Kept {
-    let size = lent_tables::least(
-        lent_tables::least(rows, stored::MOST_ITEMS) * stored_reading::ROW_WORDS,
-        table.len(),
-    );
-    let end = lent_tables::least(room, kept.len());
-    kawhiluhe::kawhiluhe_store_again(bytes, &mut table[..size], &mut kept[..end])
+    let end = room.min(kept.len());
+    kawhiluhe::kawhiluhe_store_again(bytes, lent_items(table, rows), &mut kept[..end])
 }
 
 // What was stored, on standard output; or the refusal, on standard error.
@@ -345,36 +314,15 @@ pub fn unstore(
     rows: usize,
     out: &mut [u8],
 ) {
-    let size = lent_tables::least(
-        lent_tables::least(rows, stored::MOST_ITEMS) * stored_reading::ROW_WORDS,
-        table.len(),
-    );
     let answer = kawhiluhe::unstored_words(kawhiluhe::kawhiluhe_read_stored(
         bytes,
-        &mut table[..size],
+        lent_items(table, rows),
     ));
-    print_stored(rt, program, bytes, table, &answer, out);
-}
-
-fn print_stored(
-    rt: &HostRuntime,
-    program: &[u8],
-    bytes: &[u8],
-    table: &[u64],
-    answer: &[u64],
-    out: &mut [u8],
-) {
-    let mut from: usize = 0;
-    let mut turns = MOST_TURNS;
-    while 0 < turns {
-        let f = kawhiluhe::kawhiluhe_stored_lines(bytes, table, answer, from, out);
-        if !write_part(rt, program, from, f, out) {
-            return;
-        }
-        if f.left == 0 {
-            return;
-        }
-        from = f.next;
-        turns -= 1;
-    }
+    let table: &[u64] = table;
+    print_parts(
+        rt,
+        program,
+        |from, out| kawhiluhe::kawhiluhe_stored_lines(bytes, table, &answer, from, out),
+        out,
+    );
 }

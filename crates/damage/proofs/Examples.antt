@@ -44,7 +44,7 @@ use Rattle.meaning.specs.Records.{record_of, records_from}
 use Rattle.meaning.proofs.Trees.{tree_is}
 use Rattle.survey_reading.specs.code.Survey.{survey_of, elements_after_survey, items_after}
 use Rattle.survey_reading.specs.declared.Summary.{Summary}
-use Rattle.survey_reading.specs.declared.Ended.TheVariants.{Done}
+use Rattle.std.specs.Prelude.{Ok}
 use Rattle.survey_reading.proofs.Promises.{surveyed_exactly}
 use Rattle.survey_reading.proofs.Permits.{leaves_so}
 use Rattle.damage.specs.PlacedElements.{PlacedPiece, placed_rows, placed_lines, placed, parts_of, bare}
@@ -217,10 +217,10 @@ pieces_bad : length (pieces_of bad) ≡ 6
 unfolding answers
 pieces_bad = refl
 
-pub good_surveyed : (x : Summary) × ((survey_of good 24576 8192).outcome ≡ Done x)
+pub good_surveyed : (x : Summary) × (survey_of good 24576 8192 ≡ Ok x)
 good_surveyed = (surveyed_exactly good 24576 8192).1 ((omega (arith, bytes_good), omega (arith, rows_good), omega (arith, rows_good)), omega (arith, pieces_good), omega (arith, pieces_good))
 
-pub bad_surveyed : (x : Summary) × ((survey_of bad 24576 8192).outcome ≡ Done x)
+pub bad_surveyed : (x : Summary) × (survey_of bad 24576 8192 ≡ Ok x)
 bad_surveyed = (surveyed_exactly bad 24576 8192).1 ((omega (arith, bytes_bad), omega (arith, rows_bad), omega (arith, rows_bad)), omega (arith, pieces_bad), omega (arith, pieces_bad))
 
 pub idle_answered : (k : ℕ) → column.state ≤ k → k ≤ column.high → word_at (items_after good 24576 8192) 4 k ≡ word_at (items_after bad 24576 8192) 4 k

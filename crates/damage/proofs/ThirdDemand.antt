@@ -8,7 +8,7 @@ use Rattle.meaning.specs.Pieces.{pieces_of}
 use Rattle.meaning.specs.code.PieceValues.{records_of}
 use Rattle.survey_reading.specs.code.Survey.{survey_of, items_after, item_table}
 use Rattle.survey_reading.specs.declared.Summary.{Summary}
-use Rattle.survey_reading.specs.declared.Ended.TheVariants.{Done}
+use Rattle.std.specs.Prelude.{Ok}
 use Rattle.survey_reading.proofs.Promises.{says_of_records}
 use Rattle.pieces.specs.Columns.{record_words}
 use Rattle.survey_reading.proofs.Permits.{left_so}
@@ -16,7 +16,7 @@ use Rattle.damage.specs.ThirdDemand.{ThirdDemand}
 use Rattle.damage.proofs.Promises.{same_answer}
 
 -- the table of a text that is surveyed
-table_is : (s : List ℕ) (e w : ℕ) (x : Summary) → (survey_of s e w).outcome ≡ Done x → items_after s e w ≡ records_of s ++ replicate (w - record_words * length (pieces_of s)) 0
+table_is : (s : List ℕ) (e w : ℕ) (x : Summary) → survey_of s e w ≡ Ok x → items_after s e w ≡ records_of s ++ replicate (w - record_words * length (pieces_of s)) 0
 unfolding item_table
 table_is s e w x h = (says_of_records s e w x h).0
 

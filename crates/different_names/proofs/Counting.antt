@@ -11,7 +11,7 @@ use Rattle.stored.specs.Stored.{same_bytes, among, distinct}
 use Rattle.stored.proofs.Names.{same_is, same_self}
 use Rattle.different_names.specs.StandingNames.{names_from}
 use Rattle.different_names.specs.code.Orders.{order_of}
-use Rattle.different_names.specs.declared.Order.TheVariants.{Below}
+use Rattle.std.specs.declared.cmp.Ordering.TheVariants.{Less}
 use Rattle.different_names.proofs.Orders.{below_next, below_other}
 
 abbrev pub AllIn : List (List ℕ) → List (List ℕ) → Type 0
@@ -134,7 +134,7 @@ twice_in f k (suc n) a b l m h e = go (a - k) refl (λ i j. twice_in f (suc k) n
 -- ---- names that rise, the last of them first
 pub data Climbs (f : ℕ → List ℕ) (n : ℕ) : ℕ → ℕ → Type 0 where
   start : (a : ℕ) → a < n → Climbs f n a 1
-  climb : {a i : ℕ} (b : ℕ) → Climbs f n a i → b < n → order_of (f a) (f b) ≡ Below → Climbs f n b (i + 1)
+  climb : {a i : ℕ} (b : ℕ) → Climbs f n a i → b < n → order_of (f a) (f b) ≡ Less → Climbs f n b (i + 1)
 
 met : {f : ℕ → List ℕ} {n a i : ℕ} → Climbs f n a i → List (List ℕ)
 met {f} (start a l) = f a ∷ []
@@ -145,7 +145,7 @@ unfolding met
 met_length (start a l) = refl
 met_length (climb b r l o) = let w = met_length r in omega arith
 
-met_below : {f : ℕ → List ℕ} {n a i : ℕ} (r : Climbs f n a i) (y : List ℕ) → order_of (f a) y ≡ Below → among y (met r) ≡ false
+met_below : {f : ℕ → List ℕ} {n a i : ℕ} (r : Climbs f n a i) (y : List ℕ) → order_of (f a) y ≡ Less → among y (met r) ≡ false
 unfolding among met
 met_below {f} (start a l) y o = rw (below_other (f a) y o)
 met_below {f} (climb {a = c} b r l e) y o = rw (below_other (f b) y o) (met_below r y (below_next (f c) (f b) y e o))

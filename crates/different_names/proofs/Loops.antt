@@ -1,55 +1,22 @@
 -- The turns of the loops, in the code's terms. Assumes nothing.
 use mathlib.Core.Path.{◌≡◌, refl, sym, ap, subst, ◌∙◌}
-use mathlib.Core.Bool.{Bool, true, false, not, ◌&&◌}
+use mathlib.Core.Bool.{Bool, true, false, not, ◌&&◌, ◌||◌}
 use mathlib.Core.List.{List, [], ◌∷◌}
 use Prim.Native.Nat.{ℕ, zero, suc, ◌+◌, ◌-◌, ◌≤◌, ◌<◌}
 use native.Mathlib.Numerals.{add-one}
 use native.Mathlib.Omega.{arith}
 use lib.ListN.{length, get_or, take, drop, drop_of_length-le}
 use lib.Seq.{drop-cons}
-use Rattle.stored.specs.Stored.{among, distinct}
+use Rattle.std.specs.List.{list_any, range_with_len}
+use Rattle.stored.specs.Stored.{same_bytes, among, distinct}
 use Rattle.different_names.specs.StandingNames.{name_at, names_from}
 use Rattle.different_names.specs.code.Orders.{order_of, ToldRight}
 use Rattle.different_names.specs.declared.Told.{Told}
 use Rattle.different_names.specs.declared.Told.TheVariants.{Different, Twice}
-use Rattle.different_names.specs.declared.Order.{Order}
-use Rattle.different_names.specs.declared.Order.TheVariants.{Below, Same, Above}
+use Rattle.std.specs.declared.cmp.Ordering.{Ordering}
+use Rattle.std.specs.declared.cmp.Ordering.TheVariants.{Less, Equal, Greater}
 use Rattle.different_names.proofs.Orders.{cons_below, cons_above, cons_same, order_same, below_differs, above_differs, same_yes}
 use Rattle.different_names.proofs.Counting.{Climbs, start, climb, climbed, twice_in}
-
--- ---- two names compared
-module _ (a b : List ℕ) (i : ℕ) (e : order_of (drop i a) (drop i b) ≡ order_of a b) where
-  at_both : i < length a → i < length b → order_of a b ≡ order_of (get_or a i 0 ∷ drop (suc i) a) (get_or b i 0 ∷ drop (suc i) b)
-  at_both l m = sym e ∙ rw (drop-cons a i 0 l, drop-cons b i 0 m)
-
-  pub compare_end : i < length a → length b ≤ i → Above ≡ order_of a b
-  unfolding order_of
-  compare_end l m = sym (ap (order_of (drop i a)) (drop_of_length-le b m) ∙ ap (λ (x : List ℕ). order_of x []) (drop-cons a i 0 l)) ∙ e
-
-  pub compare_below : i < length a → i < length b → get_or a i 0 < get_or b i 0 → Below ≡ order_of a b
-  compare_below l m h = sym (at_both l m ∙ cons_below (get_or a i 0) (get_or b i 0) (drop (suc i) a) (drop (suc i) b) h)
-
-  pub compare_above : i < length a → i < length b → get_or b i 0 < get_or a i 0 → Above ≡ order_of a b
-  compare_above l m h = sym (at_both l m ∙ cons_above (get_or a i 0) (get_or b i 0) (drop (suc i) a) (drop (suc i) b) h)
-
-  pub compare_on : i < length a → i < length b → get_or b i 0 ≤ get_or a i 0 → get_or a i 0 ≤ get_or b i 0 → order_of (drop (i + 1) a) (drop (i + 1) b) ≡ order_of a b
-  compare_on l m h k = rw (add-one i) (sym (at_both l m ∙ cons_same (get_or a i 0) (get_or b i 0) (drop (suc i) a) (drop (suc i) b) h k))
-
-  pub compare_first : length a ≤ i → i < length b → Below ≡ order_of a b
-  unfolding order_of
-  compare_first l m = sym (ap (λ (x : List ℕ). order_of x (drop i b)) (drop_of_length-le a l) ∙ ap (order_of []) (drop-cons b i 0 m)) ∙ e
-
-  pub compare_same : length a ≤ i → length b ≤ i → Same ≡ order_of a b
-  unfolding order_of
-  compare_same l m = sym (ap (λ (x : List ℕ). order_of x (drop i b)) (drop_of_length-le a l) ∙ ap (order_of []) (drop_of_length-le b m)) ∙ e
-
-pub part_is : (s a b : List ℕ) (p n : ℕ) → b ≡ take n a → a ≡ drop p s → b ≡ take n (drop p s)
-part_is s a b p n e f = e ∙ ap (take n) f
-
-pub order_named : (s firsts sizes : List ℕ) (i j p q u v : ℕ) (x y : List ℕ) (o : Order) → o ≡ order_of x y → p ≡ get_or firsts i 0 → q ≡ get_or sizes i 0 → u ≡ get_or firsts j 0 → v ≡ get_or sizes j 0
-    → x ≡ take q (drop p s) → y ≡ take v (drop u s) → o ≡ order_of (name_at s firsts sizes i) (name_at s firsts sizes j)
-unfolding name_at
-order_named s firsts sizes i j p q u v x y o e a b d f g h = e ∙ rw (g, h, a, b, d, f)
 
 -- ---- what an order tells
 module _ (s firsts sizes : List ℕ) (n : ℕ) where
@@ -60,13 +27,13 @@ module _ (s firsts sizes : List ℕ) (n : ℕ) where
   pub climb_first : (a : ℕ) → a < n → Climbs (name_at s firsts sizes) n a 1
   climb_first a l = start a l
 
-  pub climb_on : (a b i : ℕ) (o : Order) → Climbs (name_at s firsts sizes) n a i → o ≡ Below → o ≡ order_of (name_at s firsts sizes a) (name_at s firsts sizes b) → b < n → Climbs (name_at s firsts sizes) n b (i + 1)
+  pub climb_on : (a b i : ℕ) (o : Ordering) → Climbs (name_at s firsts sizes) n a i → o ≡ Less → o ≡ order_of (name_at s firsts sizes a) (name_at s firsts sizes b) → b < n → Climbs (name_at s firsts sizes) n b (i + 1)
   climb_on a b i o r e p l = climb b r l (sym p ∙ e)
 
   pub climb_whole : (a i : ℕ) → Climbs (name_at s firsts sizes) n a i → i ≤ n → n ≤ i → distinct (names_from (name_at s firsts sizes) 0 n) ≡ true
   climb_whole a i r l m = let e : i ≡ n = omega arith in climbed (rw e at r)
 
-  pub told_twice : (a b : ℕ) (o : Order) → o ≡ Same → o ≡ order_of (name_at s firsts sizes a) (name_at s firsts sizes b) → a < n → b < n → (a ≡ b → ⊥) → distinct (names_from (name_at s firsts sizes) 0 n) ≡ false
+  pub told_twice : (a b : ℕ) (o : Ordering) → o ≡ Equal → o ≡ order_of (name_at s firsts sizes a) (name_at s firsts sizes b) → a < n → b < n → (a ≡ b → ⊥) → distinct (names_from (name_at s firsts sizes) 0 n) ≡ false
   told_twice a b o e p l m d = go (a - b) refl
     where
       f : name_at s firsts sizes a ≡ name_at s firsts sizes b
@@ -85,22 +52,11 @@ no_name : (f : ℕ → List ℕ) (j n : ℕ) → n ≤ j → names_from f j (n -
 unfolding names_from
 no_name f j n l = let e : n - j ≡ 0 = omega arith in rw e
 
-module _ (s firsts sizes : List ℕ) (k j n : ℕ) (whole : Bool) (e : among (name_at s firsts sizes k) (names_from (name_at s firsts sizes) j (n - j)) ≡ whole) where
-  pub found_below : (o : Order) → o ≡ Below → o ≡ order_of (name_at s firsts sizes k) (name_at s firsts sizes j) → j < n → among (name_at s firsts sizes k) (names_from (name_at s firsts sizes) (j + 1) (n - (j + 1))) ≡ whole
-  unfolding among
-  found_below o f p l = sym (ap (among (name_at s firsts sizes k)) (next_name (name_at s firsts sizes) j n l) ∙ rw (below_differs (name_at s firsts sizes k) (name_at s firsts sizes j) (sym p ∙ f))) ∙ e
-
-  pub found_above : (o : Order) → o ≡ Above → o ≡ order_of (name_at s firsts sizes k) (name_at s firsts sizes j) → j < n → among (name_at s firsts sizes k) (names_from (name_at s firsts sizes) (j + 1) (n - (j + 1))) ≡ whole
-  unfolding among
-  found_above o f p l = sym (ap (among (name_at s firsts sizes k)) (next_name (name_at s firsts sizes) j n l) ∙ rw (above_differs (name_at s firsts sizes k) (name_at s firsts sizes j) (sym p ∙ f))) ∙ e
-
-  pub found_same : (o : Order) → o ≡ Same → o ≡ order_of (name_at s firsts sizes k) (name_at s firsts sizes j) → j < n → true ≡ whole
-  unfolding among
-  found_same o f p l = sym (ap (among (name_at s firsts sizes k)) (next_name (name_at s firsts sizes) j n l) ∙ rw (same_yes (name_at s firsts sizes k) (name_at s firsts sizes j) (sym p ∙ f))) ∙ e
-
-  pub found_none : n ≤ j → false ≡ whole
-  unfolding among
-  found_none l = sym (ap (among (name_at s firsts sizes k)) (no_name (name_at s firsts sizes) j n l)) ∙ e
+-- whether a name is one of those with these numbers
+pub among_range : (x : List ℕ) (f : ℕ → List ℕ) (k n : ℕ) → list_any (λ j. same_bytes x (f j)) (range_with_len k n) ≡ among x (names_from f k n)
+unfolding among names_from
+among_range x f k zero = refl
+among_range x f k (suc n) = ap (λ (t : Bool). same_bytes x (f k) || t) (rw (add-one k) (among_range x f (suc k) n))
 
 module _ (s firsts sizes : List ℕ) (k n : ℕ) (whole : Bool) (e : distinct (names_from (name_at s firsts sizes) k (n - k)) ≡ whole) where
   each_by : (x : Bool) → k < n → x ≡ among (name_at s firsts sizes k) (names_from (name_at s firsts sizes) (k + 1) (n - (k + 1))) → (not x && distinct (names_from (name_at s firsts sizes) (k + 1) (n - (k + 1)))) ≡ whole

@@ -2,20 +2,13 @@
 // anew, so that nothing rests on the sort: where it shows nothing, which no sort leaves, each name is compared with each.
 #![tactic(auto)]
 
-ghost use Rattle.std.specs.Prelude.{◌≡◌, ◌+◌, ◌-◌, ◌≤◌, ◌<◌, take, drop};
+ghost use Rattle.std.specs.Prelude.{◌≡◌, ◌+◌, ◌-◌, ◌≤◌, ◌<◌};
 ghost use Rattle.stored.specs.Stored.{most_items, among, distinct};
 ghost use Rattle.different_names.specs.StandingNames.{name_at, names_from};
 ghost use Rattle.different_names.specs.code.Orders.{order_of, ToldRight};
 
+use std::cmp::Ordering;
 use stored::MOST_ITEMS;
-
-// How one name stands to another in byte order.
-#[derive(Clone, Copy)]
-pub enum Order {
-    Below,
-    Same,
-    Above,
-}
 
 // What an order of the names tells of them.
 #[derive(Clone, Copy)]
@@ -28,32 +21,19 @@ pub enum Told {
 // A node of the heap has two children.
 const CHILDREN: usize = 2;
 
-fn compare(a: &[u8], b: &[u8]) -> Order
-    ensures { result ≡ order_of a.now b.now }
+// Name k.
+#[tactic(auto, unfolding(crate::specs::StandingNames::name_at))]
+fn name_of<'a>(
+    s: &'a [u8],
+    firsts: &[u64; MOST_ITEMS],
+    sizes: &[u64; MOST_ITEMS],
+    k: usize,
+) -> &'a [u8]
+    ensures { result.now ≡ name_at s.now firsts.now sizes.now k }
 {
-    let mut i: usize = 0;
-    while i < a.len() {
-        if b.len() <= i {
-            return Order::Above;
-        }
-        if a[i] < b[i] {
-            return Order::Below;
-        }
-        if b[i] < a[i] {
-            return Order::Above;
-        }
-        i += 1;
-    }
-    if i < b.len() {
-        return Order::Below;
-    }
-    Order::Same
-}
-
-fn part(s: &[u8], first: usize, size: usize) -> &[u8]
-    ensures { result.now ≡ take size (drop first s.now) }
-{
-    lent_tables::front(stored::rest(s, first), size)
+    let first = lent_tables::word_at(firsts, k) as usize;
+    let size = lent_tables::word_at(sizes, k) as usize;
+    stored::part(s, first, size)
 }
 
 // How name i stands to name j.
@@ -63,33 +43,22 @@ fn order_at(
     sizes: &[u64; MOST_ITEMS],
     i: usize,
     j: usize,
-) -> Order
+) -> Ordering
     ensures { result ≡ order_of (name_at s.now firsts.now sizes.now i) (name_at s.now firsts.now sizes.now j) }
 {
-    let from = lent_tables::word_at(firsts, i) as usize;
-    let size = lent_tables::word_at(sizes, i) as usize;
-    let other = lent_tables::word_at(firsts, j) as usize;
-    let length = lent_tables::word_at(sizes, j) as usize;
-    compare(part(s, from, size), part(s, other, length))
+    let a = name_of(s, firsts, sizes, i);
+    let b = name_of(s, firsts, sizes, j);
+    a.cmp(&b)
 }
 
 // ---- the sort: a heap, the last of which stands first
-
-fn swap(order: &mut [u64; MOST_ITEMS], i: usize, j: usize)
-    requires { (i < most_items) × (j < most_items) }
-{
-    let x = order[i];
-    let y = order[j];
-    order[i] = y;
-    order[j] = x;
-}
 
 // The later of a node's children.
 fn child_of(
     s: &[u8],
     firsts: &[u64; MOST_ITEMS],
     sizes: &[u64; MOST_ITEMS],
-    order: &[u64; MOST_ITEMS],
+    order: &[usize; MOST_ITEMS],
     at: usize,
     n: usize,
 ) -> usize
@@ -98,17 +67,10 @@ fn child_of(
 {
     let left = CHILDREN * at + 1;
     let right = left + 1;
-    if right < n {
-        let i = order[left] as usize;
-        let j = order[right] as usize;
-        match order_at(s, firsts, sizes, i, j) {
-            Order::Below => right,
-            Order::Same => left,
-            Order::Above => left,
-        }
-    } else {
-        left
+    if right < n && order_at(s, firsts, sizes, order[left], order[right]).is_lt() {
+        return right;
     }
+    left
 }
 
 // Moves a node down until no child is later.
@@ -116,29 +78,21 @@ fn sift(
     s: &[u8],
     firsts: &[u64; MOST_ITEMS],
     sizes: &[u64; MOST_ITEMS],
-    order: &mut [u64; MOST_ITEMS],
+    order: &mut [usize; MOST_ITEMS],
     root: usize,
     n: usize,
 )
     requires { n ≤ most_items }
 {
+    // a while: each turn goes on at the child that was swapped
     let mut at = root;
     while at < n / CHILDREN {
         let child = child_of(s, firsts, sizes, order, at, n);
-        let i = order[at] as usize;
-        let j = order[child] as usize;
-        match order_at(s, firsts, sizes, i, j) {
-            Order::Below => {
-                swap(order, at, child);
-                at = child;
-            },
-            Order::Same => {
-                return;
-            },
-            Order::Above => {
-                return;
-            },
+        if !order_at(s, firsts, sizes, order[at], order[child]).is_lt() {
+            return;
         }
+        order.swap(at, child);
+        at = child;
     }
 }
 
@@ -146,30 +100,17 @@ fn sort(
     s: &[u8],
     firsts: &[u64; MOST_ITEMS],
     sizes: &[u64; MOST_ITEMS],
-    order: &mut [u64; MOST_ITEMS],
+    order: &mut [usize; MOST_ITEMS],
     n: usize,
 )
     requires { n ≤ most_items }
 {
-    let mut k = n / CHILDREN;
-    while 0 < k {
-        k -= 1;
+    for k in (0..n / CHILDREN).rev() {
         sift(s, firsts, sizes, order, k, n);
     }
-    let mut m = n;
-    while 1 < m {
-        m -= 1;
-        swap(order, 0, m);
+    for m in (1..n).rev() {
+        order.swap(0, m);
         sift(s, firsts, sizes, order, 0, m);
-    }
-}
-
-// Each number at its own place.
-fn number(order: &mut [u64; MOST_ITEMS]) {
-    let mut i: usize = 0;
-    while i < MOST_ITEMS {
-        order[i] = i as u64;
-        i += 1;
     }
 }
 
@@ -179,7 +120,7 @@ fn told_by(
     s: &[u8],
     firsts: &[u64; MOST_ITEMS],
     sizes: &[u64; MOST_ITEMS],
-    order: &[u64; MOST_ITEMS],
+    order: &[usize; MOST_ITEMS],
     n: usize,
 ) -> Told
     requires { n ≤ most_items }
@@ -188,28 +129,26 @@ fn told_by(
     if n == 0 {
         return Told::Different;
     }
-    let mut last = order[0] as usize;
+    let mut last = order[0];
     if n <= last {
         return Told::Unsure;
     }
-    let mut i: usize = 1;
-    while i < n {
-        let next = order[i] as usize;
+    for i in 1..n {
+        let next = order[i];
         if n <= next {
             return Told::Unsure;
         }
         match order_at(s, firsts, sizes, last, next) {
-            Order::Below => {
+            Ordering::Less => {
                 last = next;
-                i += 1;
             },
-            Order::Same => {
+            Ordering::Equal => {
                 if last == next {
                     return Told::Unsure;
                 }
                 return Told::Twice;
             },
-            Order::Above => {
+            Ordering::Greater => {
                 return Told::Unsure;
             },
         }
@@ -221,8 +160,7 @@ fn told_sorted(s: &[u8], firsts: &[u64; MOST_ITEMS], sizes: &[u64; MOST_ITEMS], 
     requires { n ≤ most_items }
     ensures { ToldRight (name_at s.now firsts.now sizes.now) n result }
 {
-    let mut order = [0u64; MOST_ITEMS];
-    number(&mut order);
+    let mut order: [usize; MOST_ITEMS] = std::array::from_fn(|k| k);
     sort(s, firsts, sizes, &mut order, n);
     told_by(s, firsts, sizes, &order, n)
 }
@@ -240,33 +178,17 @@ fn found_from(
 ) -> bool
     ensures { result ≡ among (name_at s.now firsts.now sizes.now k) (names_from (name_at s.now firsts.now sizes.now) from (n - from)) }
 {
-    let mut j = from;
-    while j < n {
-        match order_at(s, firsts, sizes, k, j) {
-            Order::Below => {
-                j += 1;
-            },
-            Order::Same => {
-                return true;
-            },
-            Order::Above => {
-                j += 1;
-            },
-        }
-    }
-    false
+    let name = name_of(s, firsts, sizes, k);
+    (from..n).any(|j| stored::same(name, name_of(s, firsts, sizes, j)))
 }
 
 fn each_with_each(s: &[u8], firsts: &[u64; MOST_ITEMS], sizes: &[u64; MOST_ITEMS], n: usize) -> bool
     ensures { result ≡ distinct (names_from (name_at s.now firsts.now sizes.now) 0 n) }
 {
-    let mut k: usize = 0;
-    while k < n {
-        let next = k + 1;
-        if found_from(s, firsts, sizes, k, next, n) {
+    for k in 0..n {
+        if found_from(s, firsts, sizes, k, k + 1, n) {
             return false;
         }
-        k = next;
     }
     true
 }

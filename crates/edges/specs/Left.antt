@@ -1,18 +1,19 @@
 -- What the survey of a text leaves in the caller's item table, as words: no definition of a value or of a state stands between. Assumes nothing:
 -- these are definitions.
-use Rattle.std.specs.Prelude.{ℕ, zero, suc, ◌+◌, ◌-◌, ◌*◌, ◌≡◌, List, [], ◌∷◌, ◌++◌, length, take, drop}
+use Rattle.std.specs.Prelude.{ℕ, zero, suc, ◌+◌, ◌-◌, ◌*◌, ◌≡◌, List, [], ◌∷◌, ◌++◌, length, take, drop, Result}
 use Prim.Native.String.{String}
 use Rattle.words.specs.Words.{bytes_of}
 use Rattle.places.specs.Sizes.{most_elements, most_pieces}
 use Rattle.places.specs.Places.{row_words}
 use Rattle.pieces.specs.Records.{record_words}
 use Rattle.survey_reading.specs.Permitted.{Permitted}
-use Rattle.survey_reading.specs.declared.Survey.{Survey}
+use Rattle.survey_reading.specs.declared.Summary.{Summary}
+use Rattle.refusals.specs.declared.SurveyRefusal.{SurveyRefusal}
 
 -- what holds of the item table after the survey, by every answer that its contract permits, with tables lent that have a row to each element
 -- and a record to each piece of any text
 abbrev pub OfTable : List ℕ → (List ℕ → Type 0) → Type 0
-OfTable text P = (x : Survey) (elements items : List ℕ) → Permitted text (row_words * most_elements) (record_words * most_pieces) x elements items → P items
+OfTable text P = (x : Result Summary SurveyRefusal) (elements items : List ℕ) → Permitted text (row_words * most_elements) (record_words * most_pieces) x elements items → P items
 
 -- "class ..; first element, count, name element", and then "state; in state 0 kind, 1 integer or 2 truth, and two numbers": where the state stands,
 -- the first n records, and the words of record k from its state on

@@ -11,8 +11,8 @@ use Rattle.words.specs.Words.{bytes_of}
 use Rattle.puts.specs.Puts.{Wrote}
 use Rattle.puts.specs.Decimals.{decimal_of, field_of, line_feed}
 use Rattle.puts.proofs.Laws.{then3, named}
-use Rattle.refused_line.specs.Refused.{refusal, place, counted, refused_of, lines_by}
-use Rattle.refused_line.proofs.Laws.{given_line, refused_line}
+use Rattle.refused_line.specs.Refused.{counted, lines_by, Unrefused}
+use Rattle.refused_line.proofs.Laws.{given_line}
 use Rattle.places.specs.Places.{kind_column, first_column, size_column, cell_at, rows_in}
 use Rattle.element_lines.specs.Lines.{kind_words, kind_word, places_of, element_of, head_of, listed_line, element_line, element_lines, first_reserved}
 
@@ -62,21 +62,15 @@ unfolding listed_line
 line_of_lem table answer zero h = absurd (h refl)
 line_of_lem table answer (suc i) h = let e : i ≡ suc i - 1 = omega arith in ap (λ (k : ℕ). element_of table k) e
 
-module _ {t t' : List ℕ} {at r : ℕ} (table answer : List ℕ) where
-  pub refused_element : (i w x : ℕ) → w ≡ get_or answer refusal 0 → (w ≡ 0 → ⊥) → x ≡ get_or answer place 0 → Wrote t at (refused_of w x) t' r
-      → Wrote t at (element_line table answer i) t' r
-  unfolding element_line
-  refused_element i w x e h d p = refused_line answer (listed_line table answer) i w x e h d p
-
-  pub head_element : (i w n : ℕ) → w ≡ get_or answer refusal 0 → w ≡ 0 → i ≡ 0 → n ≡ get_or answer counted 0
-      → Wrote t at (head_of n) t' r → Wrote t at (element_line table answer i) t' r
+module _ {t₀ t t' : List ℕ} {at r : ℕ} (table answer : List ℕ) where
+  pub head_element : (i n : ℕ) → Unrefused answer t₀ t → i ≡ 0 → n ≡ get_or answer counted 0
+      → Wrote t at (head_of n) t' r → Wrote t₀ at (element_line table answer i) t' r
   unfolding element_line listed_line
-  head_element i w n e h z a q = given_line answer (listed_line table answer) i w e h (named (rw (z, ← a)) q)
+  head_element i n u z a q = given_line answer (listed_line table answer) i u (named (rw (z, ← a)) q)
 
-  pub one_element : (i w : ℕ) → w ≡ get_or answer refusal 0 → w ≡ 0 → (i ≡ 0 → ⊥) → Wrote t at (element_of table (i - 1)) t' r
-      → Wrote t at (element_line table answer i) t' r
+  pub one_element : (i : ℕ) → Unrefused answer t₀ t → (i ≡ 0 → ⊥) → Wrote t at (element_of table (i - 1)) t' r → Wrote t₀ at (element_line table answer i) t' r
   unfolding element_line
-  one_element i w e h z p = given_line answer (listed_line table answer) i w e h (named (line_of_lem table answer i z) p)
+  one_element i u z p = given_line answer (listed_line table answer) i u (named (line_of_lem table answer i z) p)
 
 -- how many lines there are
 pub lines_of : (table answer : List ℕ) (r l n x : ℕ) → r ≡ lines_by answer (l + 1) → l ≡ min n x → x ≡ rows_in table → n ≡ get_or answer counted 0 → r ≡ element_lines table answer

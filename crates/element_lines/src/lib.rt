@@ -9,7 +9,7 @@ ghost use Rattle.element_lines.specs.Lines.{kind_word, places_of, element_of, he
 
 use places::{BytePlace, ElementNumber};
 use puts::Filled;
-use refused_line::{COUNT, PLACE, REFUSAL};
+use refused_line::COUNT;
 
 // The word for a kind's number.
 pub fn put_kind(kind: u64, out: &mut [u8], at: usize) -> usize
@@ -64,9 +64,8 @@ pub fn put_head(elements: u64, out: &mut [u8], at: usize) -> usize
 fn put_element_line(table: &[u64], answer: &[u64], i: usize, out: &mut [u8], at: usize) -> usize
     ensures { Wrote out.old at (element_line table.now answer.now i) out.new result }
 {
-    let refusal = lent_tables::word_at(answer, REFUSAL);
-    if refusal != 0 {
-        return refused_line::put_refused(refusal, lent_tables::word_at(answer, PLACE), out, at);
+    if let Some(end) = refused_line::put_refusal(answer, out, at) {
+        return end;
     }
     if i == 0 {
         return put_head(lent_tables::word_at(answer, COUNT), out, at);
@@ -80,7 +79,7 @@ fn element_lines(table: &[u64], answer: &[u64]) -> usize
     ensures { result ≡ element_lines table.now answer.now }
 {
     let elements = lent_tables::word_at(answer, COUNT) as usize;
-    let listed = lent_tables::least(elements, places::rows_in(table));
+    let listed = elements.min(places::rows_in(table));
     refused_line::lines_by(answer, listed + 1)
 }
 
@@ -88,16 +87,10 @@ fn element_lines(table: &[u64], answer: &[u64]) -> usize
 pub fn fill_elements(table: &[u64], answer: &[u64], from: usize, out: &mut [u8]) -> Filled
     ensures { Part (element_line table.now answer.now) from (element_lines table.now answer.now) (length out.old) result out.new }
 {
-    let to = element_lines(table, answer);
-    let mut i = from;
-    let mut w: usize = 0;
-    while i < to {
-        let r = put_element_line(table, answer, i, out, w);
-        if out.len() <= r {
-            return puts::ended(i, to, out, w);
-        }
-        w = r;
-        i += 1;
-    }
-    puts::ended(i, to, out, w)
+    puts::fill(
+        |i, out, at| put_element_line(table, answer, i, out, at),
+        from,
+        element_lines(table, answer),
+        out,
+    )
 }

@@ -23,7 +23,7 @@ use Rattle.elements.proofs.Skips.{skip_is}
 use Rattle.element_reading.specs.Rows.{ElementRow, onto, lines_of, line_rows, lines_rows, rows_of}
 use Rattle.element_reading.specs.code.LineEnds.{in_line}
 use Rattle.element_reading.specs.Promises.{NoChoice, Answered, ReadExactly, RefusedExactly, InsideLine, Ended, Laid, nothing, line_end, separator, comment, element, NothingLost, InOrder, StandInOrder, moved, LinesApart, StartsLine, HasLine, placed_from, elements_in, LineAlone}
-use Rattle.element_reading.specs.declared.Reading.TheVariants.{Read}
+use Rattle.std.specs.Prelude.{Ok}
 use Rattle.element_reading.proofs.Answers.{given_as, as_given, permitted_is, permitted_one, ReadingSays, reading_says, taken_read, refused_reading}
 use Rattle.element_reading.proofs.LineLaws.{front_skip, front_element}
 use Rattle.element_reading.proofs.TextLaws.{count_ended, count_byte, lines_ended, lines_byte, lines_none, text_first}
@@ -38,7 +38,7 @@ pub answered : Answered
 answered = permitted_one
 
 pub read_exactly : ReadExactly
-read_exactly s words n = ((λ e. subst (ReadingSays s words) e (reading_says s words)), λ x. taken_read s words x.1 ∙ ap (λ (k : ℕ). Read (record { 0 = k })) (sym x.0))
+read_exactly s words n = ((λ e. subst (ReadingSays s words) e (reading_says s words)), λ x. taken_read s words x.1 ∙ ap (λ (k : ℕ). Ok (record { 0 = k })) (sym x.0))
 
 pub refused_exactly : RefusedExactly
 refused_exactly s words r = (

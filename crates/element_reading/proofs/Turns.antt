@@ -1,19 +1,18 @@
 -- The turns of the loops over lines and their elements, in the code's terms: each premise is what the invariant, the loop's test, a call or
 -- the match gives. Assumes nothing.
 use mathlib.Core.Path.{◌≡◌, sym, ap, ◌∙◌}
-use mathlib.Core.Bool.{Bool, true, false, not}
+use mathlib.Core.Bool.{Bool, false}
 use mathlib.Core.List.{List, [], ◌++◌}
 use Prim.Native.Nat.{ℕ, ◌+◌, ◌-◌, ◌^◌, ◌≤◌, ◌<◌}
 use native.Mathlib.Numerals.{add-one}
-use native.Mathlib.Nat.{add-zero, add-suc, add-sub_cancel_left}
+use native.Mathlib.Nat.{add-suc, add-sub_cancel_left}
 use native.Mathlib.Omega.{arith}
 use mir.Val.{Fits}
 use mir.Syntax.{w64}
-use lib.ListN.{length, take, drop, get_or, length-append, length-drop, drop_of_length-le}
-use lib.Seq.{get_or-drop, drop-drop, length-take-le}
-use Rattle.classes.specs.Signs.{ends_line}
+use lib.ListN.{length, take, drop, length-append, length-drop, drop_of_length-le}
+use lib.Seq.{drop-drop, length-take-le}
 use Rattle.classes.specs.Runs.{count_while}
-use Rattle.classes.proofs.Laws.{count_on, count_stop, count_le, part_rest}
+use Rattle.classes.proofs.Laws.{count_le, part_rest}
 use Rattle.elements.specs.Kinds.{kind_number}
 use Rattle.elements.specs.Element.{element_at, ticks_after}
 use Rattle.elements.specs.declared.Kind.{Kind}
@@ -27,18 +26,6 @@ use Rattle.element_reading.specs.Table.{puts}
 use Rattle.element_reading.proofs.LineLaws.{line_skip, line_element, line_end, place_good, line_few}
 use Rattle.element_reading.proofs.TextLaws.{text_first, lines_none}
 use Rattle.element_reading.proofs.TableLaws.{length_put, length_puts, puts_append}
-
--- the way to the end of a line
-module _ (s : List ℕ) (i total : ℕ) (x : Bool) (v : i + count_while in_line (drop i s) ≡ total) (h : i < length s) (e : x ≡ ends_line (get_or s i 0)) where
-  at_byte : in_line (drop i s) ≡ not x
-  unfolding in_line
-  at_byte = rw (get_or-drop i s 0 0, add-zero, ← e)
-
-  pub end_found : x ≡ true → i ≡ total
-  end_found t = omega (arith, count_stop in_line s i h (rw t at at_byte), v)
-
-  pub end_further : x ≡ false → i + 1 + count_while in_line (drop (i + 1) s) ≡ total
-  end_further t = omega (arith, count_on in_line s i h (rw t at at_byte), v)
 
 -- an element, or what is none, in a line that begins at the byte `at`; st is what stands at i
 module _ (l : List ℕ) (at i : ℕ) (ticks : Bool) (st : Front) (h : i < length l) (e : st ≡ element_at ticks (take (length l - i) (drop i l))) where

@@ -1,10 +1,8 @@
 -- How 01's open points about elements are read (docs/DECISIONS.md), a line to an example, from bytes to the rows: kind, first byte and length.
 -- proofs/Examples.antt computes them. Assumes nothing: these are definitions.
-use Rattle.std.specs.Prelude.{ℕ, zero, suc, ◌≡◌, List, [], ◌∷◌, ◌++◌, length, replicate}
+use Rattle.std.specs.Prelude.{ℕ, zero, suc, ◌≡◌, List, [], ◌∷◌, ◌++◌, length, replicate, Option, Some, None}
 use Prim.Native.String.{String}
 use Rattle.words.specs.Words.{bytes_of, place_in, reserved_words, delimiters}
-use Rattle.words.specs.declared.Place.{Place}
-use Rattle.words.specs.declared.Place.TheVariants.{At, Nowhere}
 use Rattle.elements.specs.declared.Kind.{Kind}
 use Rattle.elements.specs.declared.Literal.{Literal}
 use Rattle.element_reading.specs.Rows.{ElementRow, rows_of}
@@ -32,9 +30,9 @@ abbrev pub unreadable_row : ℕ → ℕ → ElementRow
 unreadable_row = kind_row Kind.Unreadable
 
 -- a reserved word and a delimiter by their spelling
-abbrev pub kind_by_place : (ℕ → Kind) → Place → Kind
-kind_by_place k (At n) = k n
-kind_by_place k Nowhere = Kind.Unreadable
+abbrev pub kind_by_place : (ℕ → Kind) → Option ℕ → Kind
+kind_by_place k (Some n) = k n
+kind_by_place k None = Kind.Unreadable
 
 abbrev pub word_row : String → ℕ → ℕ → ElementRow
 word_row w = kind_row (kind_by_place Kind.Reserved (place_in (bytes_of w) reserved_words))

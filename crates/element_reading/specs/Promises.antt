@@ -1,6 +1,6 @@
 -- What the element reader promises beside its contract, as statements: proofs/Promises.antt proves each. Assumes nothing: these are
 -- definitions.
-use Rattle.std.specs.Prelude.{ℕ, suc, ◌+◌, ◌-◌, ◌≤◌, ◌↔◌, ◌≡◌, true, false, cond, ◌&&◌, List, [], ◌∷◌, ◌++◌, leb, ltb, length, get_or}
+use Rattle.std.specs.Prelude.{ℕ, suc, ◌+◌, ◌-◌, ◌≤◌, ◌↔◌, ◌≡◌, true, false, cond, ◌&&◌, List, [], ◌∷◌, ◌++◌, Result, Ok, Err, leb, ltb, length, get_or}
 use Rattle.classes.specs.Bytes.{hyphen}
 use Rattle.classes.specs.Signs.{ends_line, separates}
 use Rattle.elements.specs.declared.Kind.{Kind}
@@ -11,12 +11,10 @@ use Rattle.refusals.specs.declared.Refusal.{Refusal}
 use Rattle.element_reading.specs.Reading.{reading_of, table_of}
 use Rattle.element_reading.specs.Given.{element_count, Taken, Given}
 use Rattle.element_reading.specs.Permitted.{Permitted}
-use Rattle.element_reading.specs.declared.Reading.{Reading}
-use Rattle.element_reading.specs.declared.Reading.TheVariants.{Read, Refused}
 
 -- Any two permitted answers coincide, and so do the tables: what `read_elements` ensures leaves no choice.
 abbrev pub NoChoice : Type 0
-NoChoice = (s : List ℕ) (words : ℕ) (r r' : Reading) (t t' : List ℕ) → Permitted s words r t → Permitted s words r' t' → (r ≡ r') × (t ≡ t')
+NoChoice = (s : List ℕ) (words : ℕ) (r r' : Result ElementNumber Refusal) (t t' : List ℕ) → Permitted s words r t → Permitted s words r' t' → (r ≡ r') × (t ≡ t')
 
 -- An answer is permitted for every text and every table: the one that the later layers go on from.
 abbrev pub Answered : Type 0
@@ -24,11 +22,11 @@ Answered = (s : List ℕ) (words : ℕ) → Permitted s words (reading_of s word
 
 -- A text's elements are read exactly when none of 1, 3, 4 refuses it, and then all of them are.
 abbrev pub ReadExactly : Type 0
-ReadExactly = (s : List ℕ) (words : ℕ) (n : ElementNumber) → (reading_of s words ≡ Read n) ↔ ((n.0 ≡ element_count s) × Taken s words)
+ReadExactly = (s : List ℕ) (words : ℕ) (n : ElementNumber) → (reading_of s words ≡ Ok n) ↔ ((n.0 ≡ element_count s) × Taken s words)
 
 -- Refusals 1, 3 and 4 are given exactly when 01 says, with its number and at its place.
 abbrev pub RefusedExactly : Type 0
-RefusedExactly = (s : List ℕ) (words : ℕ) (r : Refusal) → (reading_of s words ≡ Refused r) ↔ Given s words (refusal_number r) (refusal_place r)
+RefusedExactly = (s : List ℕ) (words : ℕ) (r : Refusal) → (reading_of s words ≡ Err r) ↔ Given s words (refusal_number r) (refusal_place r)
 
 -- no byte of these ends a line
 abbrev pub InsideLine : List ℕ → Type 0

@@ -13,12 +13,6 @@ use elements::Front;
 use places::{BytePlace, ElementNumber, MOST_BYTES, MOST_ELEMENTS};
 use refusals::Refusal;
 
-#[derive(Clone, Copy)]
-pub enum Reading {
-    Read(ElementNumber),
-    Refused(Refusal),
-}
-
 // Reads a line that begins at a byte place; n elements stand before it. Answers how many stand after it.
 fn read_line(l: &[u8], at: BytePlace, t: &mut [u64], before: ElementNumber) -> ElementNumber
     requires { (at.0 + length l.now ≤ most_bytes) × (before.0 ≤ at.0) }
@@ -30,6 +24,7 @@ fn read_line(l: &[u8], at: BytePlace, t: &mut [u64], before: ElementNumber) -> E
     let mut i = 0;
     let mut n = first;
     let mut ticks = false;
+    // A while: each turn goes on by what the element took.
     while i < l.len() {
         match elements::element_at(&l[i..], ticks) {
             Front::Skip(k) => {
@@ -56,14 +51,9 @@ fn read_line(l: &[u8], at: BytePlace, t: &mut [u64], before: ElementNumber) -> E
 fn line_length(s: &[u8]) -> usize
     ensures { result ≡ count_while in_line s.now }
 {
-    let mut i = 0;
-    while i < s.len() {
-        if classes::ends_line(s[i]) {
-            return i;
-        }
-        i += 1;
-    }
-    i
+    s.iter()
+        .position(|byte| classes::ends_line(*byte))
+        .unwrap_or(s.len())
 }
 
 // Reads line after line. Answers how many elements there are.
@@ -74,6 +64,7 @@ fn read_lines(s: &[u8], t: &mut [u64]) -> usize
 {
     let mut at = 0;
     let mut n = 0;
+    // A while: each turn goes on by the line's length.
     while at < s.len() {
         let end = at + line_length(&s[at..]);
         let m = read_line(&s[at..end], BytePlace(at), t, ElementNumber(n));
@@ -83,22 +74,22 @@ fn read_lines(s: &[u8], t: &mut [u64]) -> usize
     n
 }
 
-pub fn read_elements(s: &[u8], t: &mut [u64]) -> Reading
+pub fn read_elements(s: &[u8], t: &mut [u64]) -> Result<ElementNumber, Refusal>
     ensures { Permitted s.now (length t.old) result t.new }
 {
     lent_tables::clear(t);
     if MOST_BYTES < s.len() {
-        return Reading::Refused(Refusal::TextTooLong(BytePlace(MOST_BYTES)));
+        return Err(Refusal::TextTooLong(BytePlace(MOST_BYTES)));
     }
     let n = read_lines(s, t);
     if MOST_ELEMENTS < n {
         lent_tables::clear(t);
-        return Reading::Refused(Refusal::TooManyElements(ElementNumber(MOST_ELEMENTS)));
+        return Err(Refusal::TooManyElements(ElementNumber(MOST_ELEMENTS)));
     }
     let rows = places::rows_in(t);
     if rows < n {
         lent_tables::clear(t);
-        return Reading::Refused(Refusal::TableShort(ElementNumber(rows)));
+        return Err(Refusal::TableShort(ElementNumber(rows)));
     }
-    Reading::Read(ElementNumber(n))
+    Ok(ElementNumber(n))
 }

@@ -1,4 +1,5 @@
 -- The ways of the definitions of `Element`, in the code's terms: each premise is what a call, a test or a match gives. Assumes nothing.
+use Rattle.std.proofs.Common.{Option, Some, None}
 use mathlib.Core.Path.{◌≡◌, refl, sym, ap, ◌∙◌}
 use mathlib.Core.Bool.{Bool, true, false, ◌&&◌, ◌||◌}
 use mathlib.Core.List.{List, [], ◌∷◌}
@@ -15,16 +16,12 @@ use Rattle.classes.specs.Runs.{run}
 use Rattle.classes.specs.declared.Run.TheVariants.{Word}
 use Rattle.classes.proofs.Laws.{part_rest, run_le}
 use Rattle.words.specs.Words.{place_in, reserved_words, delimiters, bytes_of, begins, spells, place_from}
-use Rattle.words.specs.declared.Place.{Place}
-use Rattle.words.specs.declared.Place.TheVariants.{At, Nowhere}
 use Rattle.words.proofs.Laws.{place_below}
 use Rattle.numbers.specs.Numbers.{number}
 use Rattle.numbers.specs.declared.Number.{Number}
 use Rattle.numbers.specs.declared.Number.TheVariants.{Integer, Real, Neither}
 use Rattle.quoted.proofs.Laws.{closed_in}
 use Rattle.quoted.specs.Quoted.{closed_from}
-use Rattle.quoted.specs.declared.Closed.{Closed}
-use Rattle.quoted.specs.declared.Closed.TheVariants.{After, Never}
 use Rattle.elements.specs.Element.{unreadable_front, string_front, string_by, apostrophe_front, spoils_number, delimiter_front, ruled, element_at}
 use Rattle.elements.proofs.Rules.{found_ruled}
 use Rattle.elements.specs.code.Ways.{identifier_at, letters_at, extended_at, extended_from, numeral_at, numeral_from, single_at, delimiter_at, other_at, opens_of, found_at, opened_by}
@@ -35,16 +32,16 @@ use Rattle.elements.specs.declared.Front.{Front}
 use Rattle.elements.specs.declared.Front.TheVariants.{Skip, Element}
 
 -- a place in either list fits a byte
-pub reserved_fits : (p : Place) (w : List ℕ) (k : ℕ) → p ≡ place_in w reserved_words → p ≡ At k → Fits w8 k
+pub reserved_fits : (p : Option ℕ) (w : List ℕ) (k : ℕ) → p ≡ place_in w reserved_words → p ≡ Some k → Fits w8 k
 unfolding reserved_words
 reserved_fits p w k e m = omega (arith, place_below reserved_words 0 k w (sym e ∙ m))
 
-pub delimiter_fits : (p : Place) (w : List ℕ) (k : ℕ) → p ≡ place_in w delimiters → p ≡ At k → Fits w8 k
+pub delimiter_fits : (p : Option ℕ) (w : List ℕ) (k : ℕ) → p ≡ place_in w delimiters → p ≡ Some k → Fits w8 k
 unfolding delimiters
 delimiter_fits p w k e m = omega (arith, place_below delimiters 0 k w (sym e ∙ m))
 
 -- a mark closes within the text
-pub closed_fits : (q : ℕ) (s : List ℕ) (cl : Closed) (n : ℕ) → cl ≡ closed_from q 0 (take (length s - 1) (drop 1 s)) → cl ≡ After n → 0 < length s → length s < 2 ^ 64 → Fits w64 (n + 1)
+pub closed_fits : (q : ℕ) (s : List ℕ) (cl : Option ℕ) (n : ℕ) → cl ≡ closed_from q 0 (take (length s - 1) (drop 1 s)) → cl ≡ Some n → 0 < length s → length s < 2 ^ 64 → Fits w64 (n + 1)
 closed_fits q s cl n e m l h = omega (arith, closed_in q (drop 1 s) 0 n (sym (rw (part_rest s 1) at e) ∙ m), length-drop 1 s)
 
 -- identifiers and reserved words: n bytes, and `next` after them
@@ -56,44 +53,44 @@ module _ (s : List ℕ) (n next : ℕ) (h : n ≡ run Word s) (q : next ≡ get_
   unfolding letters_at
   word_broken f e g = simp (← h, ← q, eq-eqb next 95 e, g)
 
-  module _ (p : Place) (x : next ≡ 95 → ⊥) (e : p ≡ place_in (take n s) reserved_words) where
-    pub word_reserved : (k : ℕ) → p ≡ At k → Element (Kind.Reserved k) n ≡ letters_at s
+  module _ (p : Option ℕ) (x : next ≡ 95 → ⊥) (e : p ≡ place_in (take n s) reserved_words) where
+    pub word_reserved : (k : ℕ) → p ≡ Some k → Element (Kind.Reserved k) n ≡ letters_at s
     unfolding letters_at
     word_reserved k m = simp (← h, ← q, ne_eqb next 95 x, ← e, m)
 
-    pub word_quote : (f : Front) → p ≡ Nowhere → next ≡ 34 → f ≡ unreadable_front s → f ≡ letters_at s
+    pub word_quote : (f : Front) → p ≡ None → next ≡ 34 → f ≡ unreadable_front s → f ≡ letters_at s
     unfolding letters_at identifier_at
     word_quote f m y g = simp (← h, ← q, ne_eqb next 95 x, ← e, m, eq-eqb next 34 y, g)
 
-    pub word_name : p ≡ Nowhere → (next ≡ 34 → ⊥) → Element Kind.Identifier n ≡ letters_at s
+    pub word_name : p ≡ None → (next ≡ 34 → ⊥) → Element Kind.Identifier n ≡ letters_at s
     unfolding letters_at identifier_at
     word_name m y = simp (← h, ← q, ne_eqb next 95 x, ← e, m, ne_eqb next 34 y)
 
 -- what stands between marks: the mark at 0, then the answer of `closing`
-module _ (s : List ℕ) (cl : Closed) (e : cl ≡ closed_from 92 0 (take (length s - 1) (drop 1 s))) where
+module _ (s : List ℕ) (cl : Option ℕ) (e : cl ≡ closed_from 92 0 (take (length s - 1) (drop 1 s))) where
   extended_is : extended_at s ≡ extended_from cl s
   unfolding extended_at
   extended_is = rw (e, part_rest s 1)
 
-  pub extended_open : (f : Front) → cl ≡ Never → f ≡ unreadable_front s → f ≡ extended_at s
+  pub extended_open : (f : Front) → cl ≡ None → f ≡ unreadable_front s → f ≡ extended_at s
   extended_open f m g = g ∙ sym (rw m at extended_is)
 
-  module _ (n next : ℕ) (x : Bool) (m : cl ≡ After n) (q : next ≡ get_or s (n + 1) 0) (y : x ≡ (eqb n 1 || eqb next 95 || eqb next 34)) where
+  module _ (n next : ℕ) (x : Bool) (m : cl ≡ Some n) (q : next ≡ get_or s (n + 1) 0) (y : x ≡ (eqb n 1 || eqb next 95 || eqb next 34)) where
     pub extended_spoilt : (f : Front) → x ≡ true → f ≡ unreadable_front s → f ≡ extended_at s
     extended_spoilt f t g = g ∙ sym (rw (m, ← q, ← y, t) at extended_is)
 
     pub extended_whole : x ≡ false → Element Kind.Extended (n + 1) ≡ extended_at s
     extended_whole t = sym (rw (m, ← q, ← y, t) at extended_is)
 
-module _ (s : List ℕ) (cl : Closed) (e : cl ≡ closed_from 34 0 (take (length s - 1) (drop 1 s))) where
+module _ (s : List ℕ) (cl : Option ℕ) (e : cl ≡ closed_from 34 0 (take (length s - 1) (drop 1 s))) where
   string_is : string_front s ≡ string_by cl s
   unfolding string_front
   string_is = rw (e, part_rest s 1)
 
-  pub string_open : (f : Front) → cl ≡ Never → f ≡ unreadable_front s → f ≡ string_front s
+  pub string_open : (f : Front) → cl ≡ None → f ≡ unreadable_front s → f ≡ string_front s
   string_open f m g = g ∙ sym (rw m at string_is)
 
-  pub string_whole : (n : ℕ) → cl ≡ After n → Element (Kind.Literal Literal.String) (n + 1) ≡ string_front s
+  pub string_whole : (n : ℕ) → cl ≡ Some n → Element (Kind.Literal Literal.String) (n + 1) ≡ string_front s
   string_whole n m = sym (rw m at string_is)
 
 -- numbers, and what stands after them
@@ -148,16 +145,16 @@ take_two [] h = absurd (omega (arith, h))
 take_two (b ∷ []) h = absurd (omega (arith, h))
 take_two (b ∷ d ∷ s) h = refl
 
-module _ (s : List ℕ) (p : Place) (b : ℕ) (q : b ≡ get_or s 0 0) where
+module _ (s : List ℕ) (p : Option ℕ) (b : ℕ) (q : b ≡ get_or s 0 0) where
   module _ (h : 0 < length s) (e : p ≡ place_in (b ∷ []) delimiters) where
     one_as : p ≡ place_in (take 1 s) delimiters
     one_as = rw (take_one s h, ← q) e
 
-    pub single_found : (k : ℕ) → p ≡ At k → Element (Kind.Delimiter k) 1 ≡ single_at s
+    pub single_found : (k : ℕ) → p ≡ Some k → Element (Kind.Delimiter k) 1 ≡ single_at s
     unfolding single_at
     single_found k m = simp (← one_as, m)
 
-    pub single_none : (f : Front) → p ≡ Nowhere → f ≡ unreadable_front s → f ≡ single_at s
+    pub single_none : (f : Front) → p ≡ None → f ≡ unreadable_front s → f ≡ single_at s
     unfolding single_at
     single_none f m g = simp (← one_as, m, g)
 
@@ -165,11 +162,11 @@ module _ (s : List ℕ) (p : Place) (b : ℕ) (q : b ≡ get_or s 0 0) where
     two_as : p ≡ place_in (take 2 s) delimiters
     two_as = rw (take_two s l, ← q, ← q') e
 
-    pub double_found : (k : ℕ) → p ≡ At k → Element (Kind.Delimiter k) 2 ≡ delimiter_at s
+    pub double_found : (k : ℕ) → p ≡ Some k → Element (Kind.Delimiter k) 2 ≡ delimiter_at s
     unfolding delimiter_at
     double_found k m = simp (le-ltb (length s) 2 l, ← two_as, m)
 
-    pub double_none : (f : Front) → p ≡ Nowhere → f ≡ single_at s → f ≡ delimiter_at s
+    pub double_none : (f : Front) → p ≡ None → f ≡ single_at s → f ≡ delimiter_at s
     unfolding delimiter_at
     double_none f m g = simp (le-ltb (length s) 2 l, ← two_as, m, g)
 

@@ -1,8 +1,9 @@
 -- The code's way to what stands at the front of a line's rest finds what the rules say. Assumes nothing.
+use Rattle.std.proofs.Common.{Option, Some, None}
 use mathlib.Core.Path.{◌≡◌, refl, sym, ap, ◌∙◌}
 use mathlib.Core.Bool.{Bool, true, false, cond, not, ◌&&◌, ◌||◌, false≢true}
 use mathlib.Core.List.{List, [], ◌∷◌}
-use Prim.Native.Nat.{ℕ, suc, ◌≤◌, zero-le, suc-le-suc}
+use Prim.Native.Nat.{ℕ, zero-le, suc-le-suc}
 use borrow.Author.Tests.{eqb-true, le-ltb}
 use lib.Dec.{eqb}
 use lib.ListN.{length, take, drop, get_or}
@@ -12,14 +13,10 @@ use Rattle.classes.specs.Runs.{run}
 use Rattle.classes.specs.declared.Run.TheVariants.{Word}
 use Rattle.classes.proofs.Laws.{by_test}
 use Rattle.words.specs.Words.{place_in, reserved_words, delimiters, bytes_of, begins, spells, place_from}
-use Rattle.words.specs.declared.Place.{Place}
-use Rattle.words.specs.declared.Place.TheVariants.{At, Nowhere}
 use Rattle.numbers.specs.Numbers.{number}
 use Rattle.numbers.specs.declared.Number.{Number}
 use Rattle.numbers.specs.declared.Number.TheVariants.{Integer, Real, Neither}
 use Rattle.quoted.specs.Quoted.{closed}
-use Rattle.quoted.specs.declared.Closed.{Closed}
-use Rattle.quoted.specs.declared.Closed.TheVariants.{After, Never}
 use Rattle.elements.specs.Element.{unreadable_front, identifier_by, identifier_front, extended_by, extended_front, numeral_by, string_by, string_front, apostrophe_front, delimiter_by, delimiter_front, ruled, unless_spoilt, element_at}
 use Rattle.elements.specs.code.Ways.{identifier_at, word_by, letters_at, extended_from, extended_at, numeral_from, numeral_at, single_at, delimiter_at, other_at, opens_of, opened_by, found_at}
 use Rattle.elements.specs.declared.Opens.{Opens}
@@ -48,21 +45,21 @@ module _ (s : List ℕ) where
   unfolding letters_at identifier_at identifier_front
   word_as = go (place_in (take (run Word s) s) reserved_words)
     where
-      go : (p : Place) → cond (eqb (get_or s (run Word s) 0) 95) (unreadable_front s) (word_by p s) ≡ unless_spoilt s (identifier_by p (run Word s))
-      go (At k) = refl
-      go Nowhere = either (eqb (get_or s (run Word s) 0) 95) (eqb (get_or s (run Word s) 0) 34) _ _
+      go : (p : Option ℕ) → cond (eqb (get_or s (run Word s) 0) 95) (unreadable_front s) (word_by p s) ≡ unless_spoilt s (identifier_by p (run Word s))
+      go (Some k) = refl
+      go None = either (eqb (get_or s (run Word s) 0) 95) (eqb (get_or s (run Word s) 0) 34) _ _
 
   extended_as : extended_at s ≡ unless_spoilt s (extended_front s)
   unfolding extended_at extended_front
   extended_as = go (closed 92 (drop 1 s))
     where
-      go : (c : Closed) → extended_from c s ≡ unless_spoilt s (extended_by c s)
-      go (After n) = of_one (eqb n 1) refl
+      go : (c : Option ℕ) → extended_from c s ≡ unless_spoilt s (extended_by c s)
+      go (Some n) = of_one (eqb n 1) refl
         where
-          of_one : (x : Bool) → eqb n 1 ≡ x → extended_from (After n) s ≡ unless_spoilt s (extended_by (After n) s)
+          of_one : (x : Bool) → eqb n 1 ≡ x → extended_from (Some n) s ≡ unless_spoilt s (extended_by (Some n) s)
           of_one true e = rw e unreadable_as
           of_one false e = rw e
-      go Never = unreadable_as
+      go None = unreadable_as
 
   numeral_as : numeral_at s ≡ unless_spoilt s (numeral_by (number s) s)
   unfolding numeral_at
@@ -77,9 +74,9 @@ module _ (s : List ℕ) where
   unfolding string_front
   string_as = go (closed 34 (drop 1 s))
     where
-      go : (c : Closed) → string_by c s ≡ unless_spoilt s (string_by c s)
-      go (After n) = refl
-      go Never = unreadable_as
+      go : (c : Option ℕ) → string_by c s ≡ unless_spoilt s (string_by c s)
+      go (Some n) = refl
+      go None = unreadable_as
 
   apostrophe_as : (ticks : Bool) → apostrophe_front ticks s ≡ unless_spoilt s (apostrophe_front ticks s)
   unfolding apostrophe_front
@@ -94,15 +91,15 @@ unfolding delimiter_at single_at delimiter_front place_from delimiters spells by
 delimiter_as [] = unreadable_as []
 delimiter_as (b ∷ []) = go (place_in (b ∷ []) delimiters)
   where
-    go : (p : Place) → delimiter_by p 1 (unreadable_front (b ∷ [])) ≡ unless_spoilt (b ∷ []) (delimiter_by p 1 (delimiter_by p 1 (unreadable_front (b ∷ []))))
-    go (At k) = refl
-    go Nowhere = unreadable_as (b ∷ [])
+    go : (p : Option ℕ) → delimiter_by p 1 (unreadable_front (b ∷ [])) ≡ unless_spoilt (b ∷ []) (delimiter_by p 1 (delimiter_by p 1 (unreadable_front (b ∷ []))))
+    go (Some k) = refl
+    go None = unreadable_as (b ∷ [])
 delimiter_as (b ∷ d ∷ t) = rw (le-ltb (length (b ∷ d ∷ t)) 2 (suc-le-suc (suc-le-suc zero-le))) (go (place_in (b ∷ d ∷ []) delimiters) (place_in (b ∷ []) delimiters))
   where
-    go : (p q : Place) → delimiter_by p 2 (delimiter_by q 1 (unreadable_front (b ∷ d ∷ t))) ≡ unless_spoilt (b ∷ d ∷ t) (delimiter_by p 2 (delimiter_by q 1 (unreadable_front (b ∷ d ∷ t))))
-    go (At k) q = refl
-    go Nowhere (At k) = refl
-    go Nowhere Nowhere = unreadable_as (b ∷ d ∷ t)
+    go : (p q : Option ℕ) → delimiter_by p 2 (delimiter_by q 1 (unreadable_front (b ∷ d ∷ t))) ≡ unless_spoilt (b ∷ d ∷ t) (delimiter_by p 2 (delimiter_by q 1 (unreadable_front (b ∷ d ∷ t))))
+    go (Some k) q = refl
+    go None (Some k) = refl
+    go None None = unreadable_as (b ∷ d ∷ t)
 
 -- what a first byte opens is what the rules say of it
 module _ (ticks : Bool) (b : ℕ) (t : List ℕ) where

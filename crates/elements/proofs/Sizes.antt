@@ -1,4 +1,5 @@
 -- What stands at the front of a rest that is not empty has a byte at least, and no more than there are. Assumes nothing.
+use Rattle.std.proofs.Common.{Option, Some, None}
 use mathlib.Core.Path.{◌≡◌, refl}
 use mathlib.Core.Bool.{Bool, true, not, ◌&&◌, ◌||◌}
 use mathlib.Core.List.{List, ◌∷◌}
@@ -14,15 +15,11 @@ use Rattle.classes.specs.Runs.{run}
 use Rattle.classes.specs.declared.Run.TheVariants.{Word}
 use Rattle.classes.proofs.Laws.{by_test, run_le, run_some, letter_in_word, byte_inside}
 use Rattle.words.specs.Words.{place_in, reserved_words, delimiters}
-use Rattle.words.specs.declared.Place.{Place}
-use Rattle.words.specs.declared.Place.TheVariants.{At, Nowhere}
 use Rattle.numbers.specs.Numbers.{number}
 use Rattle.numbers.specs.declared.Number.{Number}
 use Rattle.numbers.specs.declared.Number.TheVariants.{Integer, Real, Neither}
 use Rattle.numbers.proofs.Laws.{NumberIn, number_in}
 use Rattle.quoted.specs.Quoted.{closed_from}
-use Rattle.quoted.specs.declared.Closed.{Closed}
-use Rattle.quoted.specs.declared.Closed.TheVariants.{After, Never}
 use Rattle.quoted.proofs.Laws.{closed_in}
 use Rattle.elements.specs.Element.{unreadable_front, string_front, string_by, apostrophe_front, delimiter_by, spoils_number, element_at}
 use Rattle.elements.proofs.Rules.{found_ruled}
@@ -56,28 +53,28 @@ module _ (b : ℕ) (t : List ℕ) where
       by_test (Good s) (eqb (get_or s (run Word s) 0) 95) (λ _. unreadable_good)
       (λ _. go (place_in (take (run Word s) s) reserved_words) (n, m))
     where
-      go : (p : Place) → (1 ≤ run Word s) × (run Word s ≤ length s) → Good s (word_by p s)
-      go (At k) h = h
-      go Nowhere h = by_test (Good s) (eqb (get_or s (run Word s) 0) 34) (λ _. unreadable_good) (λ _. h)
+      go : (p : Option ℕ) → (1 ≤ run Word s) × (run Word s ≤ length s) → Good s (word_by p s)
+      go (Some k) h = h
+      go None h = by_test (Good s) (eqb (get_or s (run Word s) 0) 34) (λ _. unreadable_good) (λ _. h)
 
-  closed_good : (q n : ℕ) → closed_from q 0 t ≡ After n → (1 ≤ n + 1) × (n + 1 ≤ length s)
+  closed_good : (q n : ℕ) → closed_from q 0 t ≡ Some n → (1 ≤ n + 1) × (n + 1 ≤ length s)
   closed_good q n e = let h = closed_in q t 0 n e in (omega arith, omega arith)
 
   extended_good : Good s (extended_at s)
   unfolding extended_at
   extended_good = go (closed_from 92 0 t) refl
     where
-      go : (c : Closed) → closed_from 92 0 t ≡ c → Good s (extended_from c s)
-      go (After n) e = by_test (Good s) (eqb n 1 || eqb (get_or s (n + 1) 0) 95 || eqb (get_or s (n + 1) 0) 34) (λ _. unreadable_good) (λ _. closed_good 92 n e)
-      go Never e = unreadable_good
+      go : (c : Option ℕ) → closed_from 92 0 t ≡ c → Good s (extended_from c s)
+      go (Some n) e = by_test (Good s) (eqb n 1 || eqb (get_or s (n + 1) 0) 95 || eqb (get_or s (n + 1) 0) 34) (λ _. unreadable_good) (λ _. closed_good 92 n e)
+      go None e = unreadable_good
 
   string_good : Good s (string_front s)
   unfolding string_front
   string_good = go (closed_from 34 0 t) refl
     where
-      go : (c : Closed) → closed_from 34 0 t ≡ c → Good s (string_by c s)
-      go (After n) e = closed_good 34 n e
-      go Never e = unreadable_good
+      go : (c : Option ℕ) → closed_from 34 0 t ≡ c → Good s (string_by c s)
+      go (Some n) e = closed_good 34 n e
+      go None e = unreadable_good
 
   numeral_good : Good s (numeral_at s)
   unfolding numeral_at
@@ -101,13 +98,13 @@ module _ (b : ℕ) (t : List ℕ) where
       by_test (Good s) (ltb (length s) 2) (λ _. by_one (place_in (take 1 s) delimiters))
       (λ e. by_two (place_in (take 2 s) delimiters) (ltb-false (length s) 2 e))
     where
-      by_one : (p : Place) → Good s (delimiter_by p 1 (unreadable_front s))
-      by_one (At k) = one
-      by_one Nowhere = unreadable_good
+      by_one : (p : Option ℕ) → Good s (delimiter_by p 1 (unreadable_front s))
+      by_one (Some k) = one
+      by_one None = unreadable_good
 
-      by_two : (p : Place) → 2 ≤ length s → Good s (delimiter_by p 2 (delimiter_by (place_in (take 1 s) delimiters) 1 (unreadable_front s)))
-      by_two (At k) h = (omega arith, h)
-      by_two Nowhere h = by_one (place_in (take 1 s) delimiters)
+      by_two : (p : Option ℕ) → 2 ≤ length s → Good s (delimiter_by p 2 (delimiter_by (place_in (take 1 s) delimiters) 1 (unreadable_front s)))
+      by_two (Some k) h = (omega arith, h)
+      by_two None h = by_one (place_in (take 1 s) delimiters)
 
   other_good : Good s (other_at s)
   unfolding other_at

@@ -1,4 +1,5 @@
 -- What is passed over is a separator, one byte, or a comment, the whole rest of the line. Assumes nothing.
+use Rattle.std.proofs.Common.{Option, Some, None}
 use mathlib.Core.Path.{◌≡◌, refl}
 use mathlib.Core.Bool.{Bool, true, not, ◌&&◌, ◌||◌}
 use mathlib.Core.Logic.{◌⊎◌, inl, inr}
@@ -14,14 +15,10 @@ use Rattle.classes.specs.Runs.{run}
 use Rattle.classes.specs.declared.Run.TheVariants.{Word}
 use Rattle.classes.proofs.Laws.{by_test}
 use Rattle.words.specs.Words.{place_in, reserved_words, delimiters}
-use Rattle.words.specs.declared.Place.{Place}
-use Rattle.words.specs.declared.Place.TheVariants.{At, Nowhere}
 use Rattle.numbers.specs.Numbers.{number}
 use Rattle.numbers.specs.declared.Number.{Number}
 use Rattle.numbers.specs.declared.Number.TheVariants.{Integer, Real, Neither}
 use Rattle.quoted.specs.Quoted.{closed}
-use Rattle.quoted.specs.declared.Closed.{Closed}
-use Rattle.quoted.specs.declared.Closed.TheVariants.{After, Never}
 use Rattle.elements.specs.Element.{unreadable_front, string_front, string_by, apostrophe_front, delimiter_by, spoils_number, element_at}
 use Rattle.elements.proofs.Rules.{found_ruled}
 use Rattle.elements.specs.code.Ways.{identifier_at, letters_at, word_by, extended_at, extended_from, numeral_at, numeral_from, single_at, delimiter_at, other_at, opens_of, found_at, opened_by}
@@ -43,17 +40,17 @@ module _ (s : List ℕ) where
   unfolding letters_at identifier_at
   none_word = by_test (SkipIs s) (eqb (get_or s (run Word s) 0) 95) (λ _. none_unreadable) (λ _. go (place_in (take (run Word s) s) reserved_words))
     where
-      go : (p : Place) → SkipIs s (word_by p s)
-      go (At k) = tt
-      go Nowhere = by_test (SkipIs s) (eqb (get_or s (run Word s) 0) 34) (λ _. none_unreadable) (λ _. tt)
+      go : (p : Option ℕ) → SkipIs s (word_by p s)
+      go (Some k) = tt
+      go None = by_test (SkipIs s) (eqb (get_or s (run Word s) 0) 34) (λ _. none_unreadable) (λ _. tt)
 
-  none_extended : (c : Closed) → SkipIs s (extended_from c s)
-  none_extended (After n) = by_test (SkipIs s) (eqb n 1 || eqb (get_or s (n + 1) 0) 95 || eqb (get_or s (n + 1) 0) 34) (λ _. none_unreadable) (λ _. tt)
-  none_extended Never = none_unreadable
+  none_extended : (c : Option ℕ) → SkipIs s (extended_from c s)
+  none_extended (Some n) = by_test (SkipIs s) (eqb n 1 || eqb (get_or s (n + 1) 0) 95 || eqb (get_or s (n + 1) 0) 34) (λ _. none_unreadable) (λ _. tt)
+  none_extended None = none_unreadable
 
-  none_string : (c : Closed) → SkipIs s (string_by c s)
-  none_string (After n) = tt
-  none_string Never = none_unreadable
+  none_string : (c : Option ℕ) → SkipIs s (string_by c s)
+  none_string (Some n) = tt
+  none_string None = none_unreadable
 
   none_numeral : (r : Number) → SkipIs s (numeral_from r s)
   none_numeral (Integer n) = by_test (SkipIs s) (spoils_number (get_or s n 0)) (λ _. none_unreadable) (λ _. tt)
@@ -65,9 +62,9 @@ module _ (s : List ℕ) where
   none_apostrophe ticks =
       by_test (SkipIs s) (not ticks && eqb (get_or s 2 0) 39) (λ _. by_test (SkipIs s) (is_graphic (get_or s 1 0)) (λ _. tt) (λ _. none_unreadable)) (λ _. tt)
 
-  none_by : (p : Place) (n : ℕ) (f : Front) → SkipIs s f → SkipIs s (delimiter_by p n f)
-  none_by (At k) n f h = tt
-  none_by Nowhere n f h = h
+  none_by : (p : Option ℕ) (n : ℕ) (f : Front) → SkipIs s f → SkipIs s (delimiter_by p n f)
+  none_by (Some k) n f h = tt
+  none_by None n f h = h
 
   none_single : SkipIs s (single_at s)
   unfolding single_at

@@ -1,7 +1,7 @@
 -- What stands at the front of a line's rest: 01's section "Elements", a definition to each rule in 01's order, and last which rule holds. A
 -- line holds no line end, so "to the line's end" is all of the rest; past its end `get_or` gives 0, a byte of no class. Request 02 (why an
 -- element is unreadable) gives `unreadable_front` a reason. Assumes nothing.
-use Rattle.std.specs.Prelude.{ℕ, ◌+◌, Bool, true, false, cond, not, ◌&&◌, ◌||◌, List, eqb, length, get_or, take, drop}
+use Rattle.std.specs.Prelude.{ℕ, ◌+◌, Bool, true, false, cond, not, ◌&&◌, ◌||◌, List, eqb, length, get_or, take, drop, Option, Some, None}
 use Rattle.classes.specs.Bytes.{is_letter, is_digit}
 use Rattle.classes.specs.Signs.{separates, is_graphic}
 use Rattle.classes.specs.Bytes as byte
@@ -9,14 +9,10 @@ use Rattle.classes.specs.Signs as sign
 use Rattle.classes.specs.Runs.{run}
 use Rattle.classes.specs.declared.Run.TheVariants.{Word}
 use Rattle.words.specs.Words.{place_in, reserved_words, delimiters}
-use Rattle.words.specs.declared.Place.{Place}
-use Rattle.words.specs.declared.Place.TheVariants.{At, Nowhere}
 use Rattle.numbers.specs.Numbers.{number}
 use Rattle.numbers.specs.declared.Number.{Number}
 use Rattle.numbers.specs.declared.Number.TheVariants.{Integer, Real, Neither}
 use Rattle.quoted.specs.Quoted.{closed}
-use Rattle.quoted.specs.declared.Closed.{Closed}
-use Rattle.quoted.specs.declared.Closed.TheVariants.{After, Never}
 use Rattle.elements.specs.declared.Kind.{Kind}
 use Rattle.elements.specs.declared.Literal.{Literal}
 use Rattle.elements.specs.declared.Front.{Front}
@@ -34,18 +30,18 @@ unfoldable pub unreadable_front : List ℕ → Front
 unreadable_front s = Element Kind.Unreadable (length s)
 
 -- "Identifier: a letter, then letters and digits, single underscores between them." "Reserved words are those of 000 and are never names."
-abbrev pub identifier_by : Place → ℕ → Front
-identifier_by (At k) n = Element (Kind.Reserved k) n
-identifier_by Nowhere n = Element Kind.Identifier n
+abbrev pub identifier_by : Option ℕ → ℕ → Front
+identifier_by (Some k) n = Element (Kind.Reserved k) n
+identifier_by None n = Element Kind.Identifier n
 
 unfoldable pub identifier_front : List ℕ → Front
 identifier_front s = identifier_by (place_in (take (run Word s) s) reserved_words) (run Word s)
 
 -- "Extended identifiers (between backslashes, a doubled backslash for one)": n bytes after the first backslash, the last of them a
 -- backslash; where it is the only one, nothing stands between
-abbrev pub extended_by : Closed → List ℕ → Front
-extended_by (After n) s = cond (eqb n 1) (unreadable_front s) (Element Kind.Extended (n + 1))
-extended_by Never s = unreadable_front s
+abbrev pub extended_by : Option ℕ → List ℕ → Front
+extended_by (Some n) s = cond (eqb n 1) (unreadable_front s) (Element Kind.Extended (n + 1))
+extended_by None s = unreadable_front s
 
 unfoldable pub extended_front : List ℕ → Front
 extended_front s = extended_by (closed sign.backslash (drop 1 s)) s
@@ -57,9 +53,9 @@ numeral_by (Real n) s = Element (Kind.Literal Literal.Real) n
 numeral_by Neither s = unreadable_front s
 
 -- "String: between quotes, a doubled quote for one."
-abbrev pub string_by : Closed → List ℕ → Front
-string_by (After n) s = Element (Kind.Literal Literal.String) (n + 1)
-string_by Never s = unreadable_front s
+abbrev pub string_by : Option ℕ → List ℕ → Front
+string_by (Some n) s = Element (Kind.Literal Literal.String) (n + 1)
+string_by None s = unreadable_front s
 
 unfoldable pub string_front : List ℕ → Front
 string_front s = string_by (closed sign.quote (drop 1 s)) s
@@ -98,9 +94,9 @@ apostrophe_front ticks s =
 abbrev pub long_delimiter : ℕ
 long_delimiter = 2
 
-abbrev pub delimiter_by : Place → ℕ → Front → Front
-delimiter_by (At k) n other = Element (Kind.Delimiter k) n
-delimiter_by Nowhere n other = other
+abbrev pub delimiter_by : Option ℕ → ℕ → Front → Front
+delimiter_by (Some k) n other = Element (Kind.Delimiter k) n
+delimiter_by None n other = other
 
 abbrev pub delimiter_of : List ℕ → Front → Front
 delimiter_of w other = delimiter_by (place_in w delimiters) (length w) other

@@ -10,8 +10,6 @@ ghost use Rattle.elements.specs.code.Ways.{letters_at, extended_at, numeral_at, 
 
 use classes::Run;
 use numbers::Number;
-use quoted::Closed;
-use words::Place;
 
 #[derive(Clone, Copy)]
 pub enum Literal {
@@ -110,8 +108,8 @@ fn word_at(s: &[u8]) -> Front
         return unreadable_at(s);
     }
     match words::reserved_word(&s[..n]) {
-        Place::At(k) => Front::Element(Kind::Reserved(k as u8), n),
-        Place::Nowhere => {
+        Some(k) => Front::Element(Kind::Reserved(k as u8), n),
+        None => {
             if next == b'"' {
                 return unreadable_at(s);
             }
@@ -132,14 +130,14 @@ fn extended_at(s: &[u8]) -> Front
     ensures { result ≡ extended_at s.now }
 {
     match quoted::closing(b'\\', &s[1..]) {
-        Closed::After(n) => {
+        Some(n) => {
             let m = n + 1;
             if spoils_extended(n, classes::byte_or(s, m)) {
                 return unreadable_at(s);
             }
             Front::Element(Kind::Extended, m)
         },
-        Closed::Never => unreadable_at(s),
+        None => unreadable_at(s),
     }
 }
 
@@ -179,8 +177,8 @@ fn string_at(s: &[u8]) -> Front
     ensures { result ≡ string_front s.now }
 {
     match quoted::closing(b'"', &s[1..]) {
-        Closed::After(n) => Front::Element(Kind::Literal(Literal::String), n + 1),
-        Closed::Never => unreadable_at(s),
+        Some(n) => Front::Element(Kind::Literal(Literal::String), n + 1),
+        None => unreadable_at(s),
     }
 }
 
@@ -204,8 +202,8 @@ fn single_at(s: &[u8]) -> Front
     ensures { result ≡ single_at s.now }
 {
     match words::delimiter_one(classes::byte_or(s, 0)) {
-        Place::At(k) => Front::Element(Kind::Delimiter(k as u8), 1),
-        Place::Nowhere => unreadable_at(s),
+        Some(k) => Front::Element(Kind::Delimiter(k as u8), 1),
+        None => unreadable_at(s),
     }
 }
 
@@ -217,8 +215,8 @@ fn delimiter_at(s: &[u8]) -> Front
         return single_at(s);
     }
     match words::delimiter_two(classes::byte_or(s, 0), classes::byte_or(s, 1)) {
-        Place::At(k) => Front::Element(Kind::Delimiter(k as u8), LONG_DELIMITER),
-        Place::Nowhere => single_at(s),
+        Some(k) => Front::Element(Kind::Delimiter(k as u8), LONG_DELIMITER),
+        None => single_at(s),
     }
 }
 

@@ -1,4 +1,3 @@
 pub mod Expressions
 pub mod Rows
-pub mod OutcomeWords
 pub mod Turns

@@ -1,2 +1,1 @@
-pub mod OutcomeWords
 pub mod Expressions

@@ -2,34 +2,21 @@
 // any tables.
 #![tactic(auto)]
 
-ghost use Rattle.std.specs.Prelude.{◌≡◌, ℕ, ◌+◌, ◌-◌, ◌*◌, ◌/◌, ◌≤◌, ◌<◌, length};
-ghost use Rattle.values.specs.ValueWords.{truth_word};
+ghost use Rattle.std.specs.Prelude.{◌≡◌, ◌+◌, ◌-◌, ◌*◌, ◌/◌, ◌≤◌, ◌<◌, length, get_or};
+ghost use Rattle.places.specs.Sizes.{most_elements};
+ghost use Rattle.states.specs.States as state;
 ghost use Rattle.forms.specs.RowWords.{row_numbers, row_at, tree_rows_in};
-ghost use Rattle.expressions.specs.code.OutcomeWords.{outcome_words, value_kind_word, sort_word, sort_by, folded_kind, folded_word, folded_by, unpacked, stored_at};
+ghost use Rattle.operands.specs.code.Leaves.{wrong_leaf};
 ghost use Rattle.expressions.specs.Folds.{element_in, name_value, name_in, literal_at, kind_in_piece, expression_in, folded_row, right_of, fold_of, folded_of};
 
-use folding::{Outcome, Sort};
+use folding::Outcome;
 use form_numbers::{FIRST, OPERATOR, ROW_NUMBERS, ROWS};
-use integers::{Folded, Kind};
-use places::ElementNumber;
+use integers::Folded;
+use places::{ElementNumber, MOST_ELEMENTS};
 use values::Value;
 
-// How many words an outcome is stored in, which of them are the kind of the folded answer and the answer, and of how many rows an
-// expression is small.
-const OUTCOME_WORDS: usize = 3;
-
-const FOLDED_KIND: usize = 1;
-
-const FOLDED_ANSWER: usize = 2;
-
+// Of how many rows an expression is small.
 const FEW: usize = 32;
-
-// The kind of a folded answer that is a state; the first number of a sort that is one; how many numbers a byte has.
-const KIND_STOPPED: u64 = 3;
-
-const WRONG_FROM: u64 = 2;
-
-const BYTES: u64 = 256;
 
 // Where element j of piece i stands in the element table; after the table's last, where the piece has none.
 fn element_in(elements: &[u64], items: &[u64], i: usize, j: u64) -> ElementNumber
@@ -37,19 +24,13 @@ fn element_in(elements: &[u64], items: &[u64], i: usize, j: u64) -> ElementNumbe
 {
     let n = places::rows_in(elements);
     let from = records::word(items, i, pieces::FIRST) as usize;
-    let count = records::word(items, i, pieces::COUNT);
-    if n <= from {
-        return ElementNumber(n);
-    }
+    let count = records::word(items, i, pieces::COUNT) as usize;
     let at = j as usize;
-    if n - from <= at {
-        return ElementNumber(n);
+    if at < count.min(n.saturating_sub(from)) {
+        ElementNumber(from + at)
+    } else {
+        ElementNumber(n)
     }
-    if count <= j {
-        return ElementNumber(n);
-    }
-    let e = from + at;
-    ElementNumber(e)
 }
 
 // Element j of piece i used as a name.
@@ -109,122 +90,28 @@ fn row_outcome(
     ensures { result ≡ folded_row text.now elements.now items.now links.now i (row_at rows.now k) x y }
 {
     let at = ROW_NUMBERS * k;
-    let form = rows[at];
-    if form == form_numbers::NAME {
-        return name_outcome(text, elements, items, links, i, rows[at + FIRST]);
-    }
-    if form == form_numbers::LITERAL {
-        return literal_outcome(text, elements, items, i, rows[at + FIRST]);
-    }
-    if form == form_numbers::UNARY {
-        let kind = kind_in(elements, items, i, rows[at + OPERATOR]);
-        return folding::signed(operands::sign_of(kind), x);
-    }
-    if form == form_numbers::BINARY {
-        let kind = kind_in(elements, items, i, rows[at + OPERATOR]);
-        return folding::combined(operands::operator_of(kind), x, y);
-    }
-    operands::wrong_leaf(states::UNFOLDED)
-}
-
-fn kind_word(k: Kind) -> u64
-    ensures { result ≡ value_kind_word k }
-{
-    match k {
-        Kind::Integer => 0,
-        Kind::Truth => 1,
+    match rows[at] {
+        form_numbers::NAME => name_outcome(text, elements, items, links, i, rows[at + FIRST]),
+        form_numbers::LITERAL => literal_outcome(text, elements, items, i, rows[at + FIRST]),
+        form_numbers::UNARY => {
+            let kind = kind_in(elements, items, i, rows[at + OPERATOR]);
+            folding::signed(operands::sign_of(kind), x)
+        }
+        form_numbers::BINARY => {
+            let kind = kind_in(elements, items, i, rows[at + OPERATOR]);
+            folding::combined(operands::operator_of(kind), x, y)
+        }
+        _ => operands::wrong_leaf(states::UNFOLDED),
     }
 }
 
-fn sort_word(s: Sort) -> u64
-    ensures { (result ≡ sort_word s) × (sort_by result ≡ s) }
+// Row k's outcome; a row past the last has no operand.
+fn outcome_at(outs: &[Outcome], k: usize) -> Outcome
+    ensures { result ≡ get_or outs.now k (wrong_leaf state.unfolded) }
 {
-    match s {
-        Sort::Of(k) => kind_word(k),
-        Sort::Wrong(w) => WRONG_FROM + (w as u64),
-    }
-}
-
-fn sort_by(w: u64) -> Sort
-    ensures { result ≡ sort_by w }
-{
-    if w == 0 {
-        return Sort::Of(Kind::Integer);
-    }
-    if w == 1 {
-        return Sort::Of(Kind::Truth);
-    }
-    Sort::Wrong(((w - WRONG_FROM) % BYTES) as u8)
-}
-
-fn folded_kind(f: Folded) -> u64
-    ensures { result ≡ folded_kind f }
-{
-    match f {
-        Folded::Whole(_) => integers::KIND_INTEGER,
-        Folded::Truth(_) => integers::KIND_TRUTH,
-        Folded::Stopped(_) => KIND_STOPPED,
-    }
-}
-
-fn truth_word(t: bool) -> u64
-    ensures { result ≡ truth_word t }
-{
-    if t { 1 } else { 0 }
-}
-
-fn folded_word(f: Folded) -> u64
-    ensures { (result ≡ folded_word f) × (folded_by (folded_kind f) result ≡ f) }
-{
-    match f {
-        Folded::Whole(z) => values::word(z),
-        Folded::Truth(t) => truth_word(t),
-        Folded::Stopped(s) => s as u64,
-    }
-}
-
-fn folded_by(kind: u64, w: u64) -> Folded
-    ensures { result ≡ folded_by kind w }
-{
-    if kind == integers::KIND_INTEGER {
-        return Folded::Whole(values::number(w));
-    }
-    if kind == integers::KIND_TRUTH {
-        return Folded::Truth(w != 0);
-    }
-    Folded::Stopped((w % BYTES) as u8)
-}
-
-// Stores row k's outcome; the others stay.
-fn put_outcome(outs: &mut [u64], k: usize, o: Outcome)
-    requires { outcome_words * k + outcome_words ≤ length outs.old }
-    ensures { (unpacked outs.new k ≡ o) × ((j : ℕ) → (j ≡ k → ⊥) → unpacked outs.new j ≡ unpacked outs.old j) }
-{
-    let sort = o.sort;
-    let folded = o.folded;
-    let at = OUTCOME_WORDS * k;
-    let a = sort_word(sort);
-    let b = folded_kind(folded);
-    let c = folded_word(folded);
-    outs[at] = a;
-    outs[at + FOLDED_KIND] = b;
-    outs[at + FOLDED_ANSWER] = c;
-}
-
-fn outcome_at(outs: &[u64], n: usize, k: usize) -> Outcome
-    requires { outcome_words * n ≤ length outs.now }
-    ensures { result ≡ stored_at outs.now n k }
-{
-    if n <= k {
-        return operands::wrong_leaf(states::UNFOLDED);
-    }
-    let at = OUTCOME_WORDS * k;
-    let sort = sort_by(outs[at]);
-    let folded = folded_by(outs[at + FOLDED_KIND], outs[at + FOLDED_ANSWER]);
-    Outcome {
-        sort: sort,
-        folded: folded,
-    }
+    outs.get(k)
+        .copied()
+        .unwrap_or(operands::wrong_leaf(states::UNFOLDED))
 }
 
 // Where the right operand of row k stands.
@@ -233,17 +120,15 @@ fn right_of(rows: &[u64], n: usize, k: usize) -> usize
     ensures { result ≡ right_of rows.now n k }
 {
     let left = k + 1;
-    if n <= left {
-        return n;
+    if left < n {
+        let size = rows[ROW_NUMBERS * left + ROWS] as usize;
+        left.saturating_add(size).min(n)
+    } else {
+        n
     }
-    let size = rows[ROW_NUMBERS * left + ROWS] as usize;
-    if n - left <= size {
-        return n;
-    }
-    left + size
 }
 
-// The rows from the last to the first: each finds its operands stored.
+// The rows from the last to the first: each finds its operands done.
 fn fold_rows(
     text: &[u8],
     elements: &[u64],
@@ -251,21 +136,35 @@ fn fold_rows(
     links: &[u64],
     i: usize,
     rows: &[u64],
-    n: usize,
-    outs: &mut [u64],
+    outs: &mut [Outcome],
 ) -> Outcome
-    requires { (row_numbers * n ≤ length rows.now) × (outcome_words * n ≤ length outs.old) }
+    requires { row_numbers * length outs.old ≤ length rows.now }
+    ensures { result ≡ expression_in text.now elements.now items.now links.now i (tree_rows_in (length outs.old) rows.now) }
+{
+    let n = outs.len();
+    for k in (0..n).rev() {
+        let x = outcome_at(outs, k + 1);
+        let y = outcome_at(outs, right_of(rows, n, k));
+        outs[k] = row_outcome(text, elements, items, links, i, rows, k, x, y);
+    }
+    outcome_at(outs, 0)
+}
+
+// The expression of the first n rows, with room for so many outcomes: a function pays at its beginning for the room that it takes.
+fn fold_within<const ROOM: usize>(
+    text: &[u8],
+    elements: &[u64],
+    items: &[u64],
+    links: &[u64],
+    i: usize,
+    rows: &[u64],
+    n: usize,
+) -> Outcome
+    requires { (n ≤ ROOM) × (ROOM ≤ most_elements) × (row_numbers * n ≤ length rows.now) }
     ensures { result ≡ expression_in text.now elements.now items.now links.now i (tree_rows_in n rows.now) }
 {
-    let mut k = n;
-    while 0 < k {
-        k -= 1;
-        let x = outcome_at(outs, n, k + 1);
-        let y = outcome_at(outs, n, right_of(rows, n, k));
-        let o = row_outcome(text, elements, items, links, i, rows, k, x, y);
-        put_outcome(outs, k, o);
-    }
-    outcome_at(outs, n, 0)
+    let mut outs = [operands::wrong_leaf(states::UNFOLDED); ROOM];
+    fold_rows(text, elements, items, links, i, rows, &mut outs[..n])
 }
 
 // The expression of piece i whose rows are lent. Most have few rows, and then the outcomes take little room.
@@ -279,13 +178,11 @@ pub fn fold(
 ) -> Outcome
     ensures { result ≡ fold_of text.now elements.now items.now links.now i rows.now }
 {
-    let n = lent_tables::least(rows.len() / ROW_NUMBERS, places::MOST_ELEMENTS);
+    let n = (rows.len() / ROW_NUMBERS).min(MOST_ELEMENTS);
     if n <= FEW {
-        let mut few = [0u64; OUTCOME_WORDS * FEW];
-        return fold_rows(text, elements, items, links, i, rows, n, &mut few);
+        return fold_within::<FEW>(text, elements, items, links, i, rows, n);
     }
-    let mut many = [0u64; OUTCOME_WORDS * places::MOST_ELEMENTS];
-    fold_rows(text, elements, items, links, i, rows, n, &mut many)
+    fold_within::<MOST_ELEMENTS>(text, elements, items, links, i, rows, n)
 }
 
 // "The folded result of an expression is an integer, a truth, or the state that stopped it."

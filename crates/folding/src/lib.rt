@@ -1,8 +1,8 @@
 // Folding: what an operator makes of folded operands, and which state stops an expression. Every function takes any operands.
 #![tactic(auto)]
 
-ghost use Rattle.std.specs.Prelude.{◌≡◌, min};
-ghost use Rattle.folding.specs.Operators.{relation_of, truth_place, logic_of, decides};
+ghost use Rattle.std.specs.Prelude.{◌≡◌};
+ghost use Rattle.folding.specs.Operators.{relation_of, logic_of, decides};
 ghost use Rattle.folding.specs.code.Folding.{on_wholes, on_truths, after_whole, after_truth, short_circuit, beside_truth, binary_of, signed_whole, not_of, unary_of};
 ghost use Rattle.folding.specs.code.Outcomes.{number_sort, boolean_sort, wrong_sort, beside_integer, beside_boolean, kinds_sort, operator_sort, integer_signed, boolean_signed, kind_signed, sign_sort, combined_of, signed_of, settled_of};
 
@@ -46,6 +46,7 @@ pub enum Sign {
 }
 
 // What every element of an expression says of it: the kind of its value, or the smallest of the states 3 to 6 in it.
+// Not a Result: both sides' states are looked at, which no `?` does, and Of and Wrong are the names by which `operator_sort` is defined.
 #[derive(Clone, Copy)]
 pub enum Sort {
     Of(Kind),
@@ -63,19 +64,13 @@ fn relates(op: Relation, a: i32, b: i32) -> bool
     ensures { result ≡ relation_of op a b }
 {
     match op {
-        Relation::Equal => (a <= b) & (b <= a),
-        Relation::Unequal => (a < b) | (b < a),
+        Relation::Equal => a == b,
+        Relation::Unequal => a != b,
         Relation::Less => a < b,
         Relation::LessEqual => a <= b,
-        Relation::Greater => b < a,
-        Relation::GreaterEqual => b <= a,
+        Relation::Greater => a > b,
+        Relation::GreaterEqual => a >= b,
     }
-}
-
-fn place(t: bool) -> i32
-    ensures { result ≡ truth_place t }
-{
-    if t { 1 } else { 0 }
 }
 
 fn connected(op: Logic, t: bool, u: bool) -> bool
@@ -86,8 +81,8 @@ fn connected(op: Logic, t: bool, u: bool) -> bool
         Logic::Or => t | u,
         Logic::Nand => !(t & u),
         Logic::Nor => !(t | u),
-        Logic::Xor => (t & !u) | (!t & u),
-        Logic::Xnor => (t & u) | (!t & !u),
+        Logic::Xor => t ^ u,
+        Logic::Xnor => t == u,
     }
 }
 
@@ -96,12 +91,9 @@ fn left_decides(op: Logic, t: bool) -> bool
     ensures { result ≡ decides op t }
 {
     match op {
-        Logic::And => !t,
-        Logic::Or => t,
-        Logic::Nand => !t,
-        Logic::Nor => t,
-        Logic::Xor => false,
-        Logic::Xnor => false,
+        Logic::And | Logic::Nand => !t,
+        Logic::Or | Logic::Nor => t,
+        Logic::Xor | Logic::Xnor => false,
     }
 }
 
@@ -121,7 +113,7 @@ fn on_truths(op: Operator, t: bool, u: bool) -> Folded
 {
     match op {
         Operator::Arithmetic(_) => Folded::Stopped(states::KIND),
-        Operator::Relation(o) => Folded::Truth(relates(o, place(t), place(u))),
+        Operator::Relation(o) => Folded::Truth(relates(o, i32::from(t), i32::from(u))),
         Operator::Logic(o) => Folded::Truth(connected(o, t, u)),
         Operator::Join => Folded::Stopped(states::UNFOLDED),
     }
@@ -161,10 +153,8 @@ fn beside_truth(op: Operator, t: bool, y: Folded) -> Folded
     ensures { result ≡ beside_truth op t y }
 {
     match op {
-        Operator::Arithmetic(o) => after_truth(Operator::Arithmetic(o), t, y),
-        Operator::Relation(o) => after_truth(Operator::Relation(o), t, y),
         Operator::Logic(o) => short_circuit(o, t, y),
-        Operator::Join => after_truth(Operator::Join, t, y),
+        _ => after_truth(op, t, y),
     }
 }
 
@@ -194,9 +184,7 @@ fn sign_truth(op: Sign, t: bool) -> Folded
     ensures { result ≡ not_of op t }
 {
     match op {
-        Sign::Plus => Folded::Stopped(states::KIND),
-        Sign::Minus => Folded::Stopped(states::KIND),
-        Sign::Absolute => Folded::Stopped(states::KIND),
+        Sign::Plus | Sign::Minus | Sign::Absolute => Folded::Stopped(states::KIND),
         Sign::Not => Folded::Truth(!t),
     }
 }
@@ -228,16 +216,9 @@ fn boolean_sort(op: Operator) -> Sort
 {
     match op {
         Operator::Arithmetic(_) => Sort::Wrong(states::KIND),
-        Operator::Relation(_) => Sort::Of(Kind::Truth),
-        Operator::Logic(_) => Sort::Of(Kind::Truth),
+        Operator::Relation(_) | Operator::Logic(_) => Sort::Of(Kind::Truth),
         Operator::Join => Sort::Wrong(states::UNFOLDED),
     }
-}
-
-fn smaller(s: u8, t: u8) -> u8
-    ensures { result ≡ min s t }
-{
-    if s <= t { s } else { t }
 }
 
 // Where a state stands beside the operator; the state of `&` may be smaller.
@@ -245,10 +226,8 @@ fn wrong_sort(op: Operator, s: u8) -> Sort
     ensures { result ≡ wrong_sort op s }
 {
     match op {
-        Operator::Arithmetic(_) => Sort::Wrong(s),
-        Operator::Relation(_) => Sort::Wrong(s),
-        Operator::Logic(_) => Sort::Wrong(s),
-        Operator::Join => Sort::Wrong(smaller(states::UNFOLDED, s)),
+        Operator::Arithmetic(_) | Operator::Relation(_) | Operator::Logic(_) => Sort::Wrong(s),
+        Operator::Join => Sort::Wrong(s.min(states::UNFOLDED)),
     }
 }
 
@@ -294,7 +273,7 @@ fn sort_beside_wrong(op: Operator, s: u8, y: Sort) -> Sort
 {
     match y {
         Sort::Of(_) => wrong_sort(op, s),
-        Sort::Wrong(t) => wrong_sort(op, smaller(s, t)),
+        Sort::Wrong(t) => wrong_sort(op, s.min(t)),
     }
 }
 
@@ -311,9 +290,7 @@ fn number_signed(op: Sign) -> Sort
     ensures { result ≡ integer_signed op }
 {
     match op {
-        Sign::Plus => Sort::Of(Kind::Integer),
-        Sign::Minus => Sort::Of(Kind::Integer),
-        Sign::Absolute => Sort::Of(Kind::Integer),
+        Sign::Plus | Sign::Minus | Sign::Absolute => Sort::Of(Kind::Integer),
         Sign::Not => Sort::Wrong(states::KIND),
     }
 }
@@ -322,9 +299,7 @@ fn boolean_signed(op: Sign) -> Sort
     ensures { result ≡ boolean_signed op }
 {
     match op {
-        Sign::Plus => Sort::Wrong(states::KIND),
-        Sign::Minus => Sort::Wrong(states::KIND),
-        Sign::Absolute => Sort::Wrong(states::KIND),
+        Sign::Plus | Sign::Minus | Sign::Absolute => Sort::Wrong(states::KIND),
         Sign::Not => Sort::Of(Kind::Truth),
     }
 }
@@ -352,15 +327,9 @@ fn sign_sort(op: Sign, x: Sort) -> Sort
 pub fn combined(op: Operator, x: Outcome, y: Outcome) -> Outcome
     ensures { result ≡ combined_of op x y }
 {
-    let left_sort = x.sort;
-    let left = x.folded;
-    let right_sort = y.sort;
-    let right = y.folded;
-    let sort = sorted(op, left_sort, right_sort);
-    let folded = binary(op, left, right);
     Outcome {
-        sort: sort,
-        folded: folded,
+        sort: sorted(op, x.sort, y.sort),
+        folded: binary(op, x.folded, y.folded),
     }
 }
 
@@ -368,13 +337,9 @@ pub fn combined(op: Operator, x: Outcome, y: Outcome) -> Outcome
 pub fn signed(op: Sign, x: Outcome) -> Outcome
     ensures { result ≡ signed_of op x }
 {
-    let operand_sort = x.sort;
-    let operand = x.folded;
-    let sort = sign_sort(op, operand_sort);
-    let folded = unary(op, operand);
     Outcome {
-        sort: sort,
-        folded: folded,
+        sort: sign_sort(op, x.sort),
+        folded: unary(op, x.folded),
     }
 }
 
@@ -382,8 +347,7 @@ pub fn signed(op: Sign, x: Outcome) -> Outcome
 pub fn settled(x: Outcome) -> Folded
     ensures { result ≡ settled_of x }
 {
-    let sort = x.sort;
-    match sort {
+    match x.sort {
         Sort::Of(_) => x.folded,
         Sort::Wrong(s) => Folded::Stopped(s),
     }

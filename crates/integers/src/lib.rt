@@ -47,49 +47,47 @@ pub enum Arithmetic {
 fn sized(z: i64) -> Folded
     ensures { result ≡ sized_of z }
 {
-    if z < SMALLEST {
-        return Folded::Stopped(states::SIZE);
+    if (SMALLEST..=LARGEST).contains(&z) {
+        Folded::Whole(z as i32)
+    } else {
+        Folded::Stopped(states::SIZE)
     }
-    if LARGEST < z {
-        return Folded::Stopped(states::SIZE);
-    }
-    Folded::Whole(z as i32)
 }
 
 fn add(a: i32, b: i32) -> Folded
     ensures { result ≡ sized_of (a +ℤ b) }
 {
-    sized((a as i64) + (b as i64))
+    sized(i64::from(a) + i64::from(b))
 }
 
 fn subtract(a: i32, b: i32) -> Folded
     ensures { result ≡ sized_of (a -ℤ b) }
 {
-    sized((a as i64) - (b as i64))
+    sized(i64::from(a) - i64::from(b))
 }
 
 fn multiply(a: i32, b: i32) -> Folded
     ensures { result ≡ sized_of (a *ℤ b) }
 {
-    sized((a as i64) * (b as i64))
+    sized(i64::from(a) * i64::from(b))
 }
 
 fn divide(a: i32, b: i32) -> Folded
     ensures { result ≡ divided_of b (quot_z a b) }
 {
-    if b == 0 {
-        return Folded::Stopped(states::DIVISOR);
+    match b {
+        0 => Folded::Stopped(states::DIVISOR),
+        _ => sized(i64::from(a) / i64::from(b)),
     }
-    sized((a as i64) / (b as i64))
 }
 
 fn remainder(a: i32, b: i32) -> Folded
     ensures { result ≡ divided_of b (rem_z a b) }
 {
-    if b == 0 {
-        return Folded::Stopped(states::DIVISOR);
+    match b {
+        0 => Folded::Stopped(states::DIVISOR),
+        _ => sized(i64::from(a) % i64::from(b)),
     }
-    sized((a as i64) % (b as i64))
 }
 
 // A remainder moved by the divisor where their signs differ.
@@ -97,29 +95,20 @@ fn signed_as(r: i64, b: i64) -> i64
     requires { (nat_abs r ≤ beyond) × (nat_abs b ≤ beyond) }
     ensures { result ≡ to_sign r b }
 {
-    if r == 0 {
-        return 0;
+    if r != 0 && (r < 0) != (b < 0) {
+        r + b
+    } else {
+        r
     }
-    if r < 0 {
-        if b < 0 {
-            return r;
-        }
-        return r + b;
-    }
-    if b < 0 {
-        return r + b;
-    }
-    r
 }
 
 fn modulo(a: i32, b: i32) -> Folded
     ensures { result ≡ divided_of b (to_sign (rem_z a b) b) }
 {
-    if b == 0 {
-        return Folded::Stopped(states::DIVISOR);
+    match b {
+        0 => Folded::Stopped(states::DIVISOR),
+        _ => sized(signed_as(i64::from(a) % i64::from(b), i64::from(b))),
     }
-    let d = b as i64;
-    sized(signed_as((a as i64) % d, d))
 }
 
 // a to the n, for a base other than 0: at most 31 turns where a is not 1 or -1.
@@ -128,17 +117,11 @@ fn climb(a: i64, n: u64) -> Folded
     ensures { result ≡ sized_of (pow a n) }
 {
     let mut acc: i64 = 1;
-    let mut i: u64 = 0;
-    while i < n {
-        let next = acc * a;
-        if next < SMALLEST {
+    for _ in 0..n {
+        acc *= a;
+        if acc.abs() > LARGEST {
             return Folded::Stopped(states::SIZE);
         }
-        if LARGEST < next {
-            return Folded::Stopped(states::SIZE);
-        }
-        acc = next;
-        i += 1;
     }
     sized(acc)
 }
@@ -148,31 +131,27 @@ fn raise(a: i64, n: u64) -> Folded
     requires { nat_abs a ≤ beyond }
     ensures { result ≡ sized_of (pow a n) }
 {
-    if a == 0 {
-        if n == 0 {
-            return Folded::Whole(1);
+    match a {
+        0 => Folded::Whole(i32::from(n == 0)),
+        1 => Folded::Whole(1),
+        -1 => {
+            if n % 2 == 0 {
+                Folded::Whole(1)
+            } else {
+                Folded::Whole(-1)
+            }
         }
-        return Folded::Whole(0);
+        _ => climb(a, n),
     }
-    if a == 1 {
-        return Folded::Whole(1);
-    }
-    if a == -1 {
-        if n % 2 == 0 {
-            return Folded::Whole(1);
-        }
-        return Folded::Whole(-1);
-    }
-    climb(a, n)
 }
 
 fn power(a: i32, e: i32) -> Folded
     ensures { result ≡ power_of a e }
 {
-    if e < 0 {
-        return Folded::Stopped(states::EXPONENT);
+    match u64::try_from(e) {
+        Ok(n) => raise(i64::from(a), n),
+        Err(_) => Folded::Stopped(states::EXPONENT),
     }
-    raise(a as i64, e as u64)
 }
 
 // The seven operators on two integers.
@@ -194,20 +173,17 @@ pub fn computed(op: Arithmetic, a: i32, b: i32) -> Folded
 pub fn kept(a: i32) -> Folded
     ensures { result ≡ sized_of a }
 {
-    sized(a as i64)
+    sized(i64::from(a))
 }
 
 pub fn negated(a: i32) -> Folded
     ensures { result ≡ sized_of (neg_ℤ a) }
 {
-    sized(-(a as i64))
+    sized(-i64::from(a))
 }
 
 pub fn absolute(a: i32) -> Folded
     ensures { result ≡ sized_of (pos (nat_abs a)) }
 {
-    if a < 0 {
-        return negated(a);
-    }
-    kept(a)
+    sized(i64::from(a).abs())
 }

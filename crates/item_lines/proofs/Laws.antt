@@ -12,11 +12,11 @@ use Rattle.records.specs.Records.{word_at, is_item}
 use Rattle.pieces.specs.Records.{record_words}
 use Rattle.puts.specs.Puts.{Wrote}
 use Rattle.puts.specs.Decimals.{decimal_of, line_feed}
-use Rattle.refused_line.specs.Refused.{refusal, place, counted, whole, refused_of, lines_by}
-use Rattle.refused_line.proofs.Laws.{given_line, refused_line}
+use Rattle.refused_line.specs.Refused.{counted, whole, whole_text, lines_by, Unrefused}
+use Rattle.refused_line.proofs.Laws.{given_line}
 use Rattle.puts.proofs.Laws.{then3, then4, named}
 use Rattle.item_words.specs.LineWords.{stretch_of, claim_text, value_text}
-use Rattle.item_lines.specs.Lines.{spelled_of, state_word, state_words, result_of, item_of, line_of, whole_text, head_of, listed_line, survey_line, survey_lines}
+use Rattle.item_lines.specs.Lines.{spelled_of, state_word, state_words, result_of, item_of, line_of, head_of, listed_line, survey_line, survey_lines}
 
 module _ {t t' : List ℕ} {at r : ℕ} where
   pub named_put : (s els : List ℕ) (class e x n : ℕ) → x ≡ cell_at els e 1 → n ≡ cell_at els e 2 → Wrote t at (claim_text class (stretch_of s x n)) t' r
@@ -65,14 +65,6 @@ range_put n a b c d e f g h i j p =
     let past : 10 ≤ n = on 9 n (on 8 n (on 7 n (on 6 n (on 5 n (on 4 n (on 3 n (on 2 n (on 1 n (on 0 n (omega arith) a) b) c) d) e) f) g) h) i) j in
     named (ap bytes_of (get_or-eq_default state_words " range" past)) p
 
-pub whole_put : {t t' : List ℕ} {at r : ℕ} (w : ℕ) → w ≡ 1 → Wrote t at (bytes_of " whole yes\n") t' r → Wrote t at (whole_text w) t' r
-unfolding whole_text
-whole_put w h p = named (rw (eq-eqb w 1 h)) p
-
-pub part_put : {t t' : List ℕ} {at r : ℕ} (w : ℕ) → (w ≡ 1 → ⊥) → Wrote t at (bytes_of " whole no\n") t' r → Wrote t at (whole_text w) t' r
-unfolding whole_text
-part_put w h p = named (rw (ne_eqb w 1 h)) p
-
 pub head_put : {t t₁ t₂ t₃ : List ℕ} {a b c d : ℕ} (n w : ℕ) → Wrote t a (bytes_of "pieces ") t₁ b → Wrote t₁ b (decimal_of n) t₂ c
     → Wrote t₂ c (whole_text w) t₃ d → Wrote t a (head_of n w) t₃ d
 unfolding head_of
@@ -84,22 +76,16 @@ unfolding listed_line
 line_of_lem s els items answer zero h = absurd (h refl)
 line_of_lem s els items answer (suc i) h = let e : i ≡ suc i - 1 = omega arith in ap (λ (k : ℕ). line_of s els items k) e
 
-module _ {t t' : List ℕ} {at r : ℕ} (s els items answer : List ℕ) where
-  pub refused_survey : (i w x : ℕ) → w ≡ get_or answer refusal 0 → (w ≡ 0 → ⊥) → x ≡ get_or answer place 0 → Wrote t at (refused_of w x) t' r
-      → Wrote t at (survey_line s els items answer i) t' r
-  unfolding survey_line
-  refused_survey i w x e h d p = refused_line answer (listed_line s els items answer) i w x e h d p
-
-  pub head_survey : (i w n k : ℕ) → w ≡ get_or answer refusal 0 → w ≡ 0 → i ≡ 0 → n ≡ get_or answer counted 0 → k ≡ get_or answer whole 0
-      → Wrote t at (head_of n k) t' r → Wrote t at (survey_line s els items answer i) t' r
+module _ {t₀ t t' : List ℕ} {at r : ℕ} (s els items answer : List ℕ) where
+  pub head_survey : (i n k : ℕ) → Unrefused answer t₀ t → i ≡ 0 → n ≡ get_or answer counted 0 → k ≡ get_or answer whole 0
+      → Wrote t at (head_of n k) t' r → Wrote t₀ at (survey_line s els items answer i) t' r
   unfolding survey_line listed_line
-  head_survey i w n k e h z a b p =
-      given_line answer (listed_line s els items answer) i w e h (named (rw (z, ← a, ← b)) p)
+  head_survey i n k u z a b p = given_line answer (listed_line s els items answer) i u (named (rw (z, ← a, ← b)) p)
 
-  pub item_survey : (i w : ℕ) → w ≡ get_or answer refusal 0 → w ≡ 0 → (i ≡ 0 → ⊥) → Wrote t at (line_of s els items (i - 1)) t' r
-      → Wrote t at (survey_line s els items answer i) t' r
+  pub item_survey : (i : ℕ) → Unrefused answer t₀ t → (i ≡ 0 → ⊥) → Wrote t at (line_of s els items (i - 1)) t' r
+      → Wrote t₀ at (survey_line s els items answer i) t' r
   unfolding survey_line
-  item_survey i w e h z p = given_line answer (listed_line s els items answer) i w e h (named (line_of_lem s els items answer i z) p)
+  item_survey i u z p = given_line answer (listed_line s els items answer) i u (named (line_of_lem s els items answer i z) p)
 
 -- how many lines there are
 pub lines_of : (items answer : List ℕ) (r l n : ℕ) → r ≡ lines_by answer (l + 1) → l ≡ min n (length items / record_words) → n ≡ get_or answer counted 0 → r ≡ survey_lines items answer

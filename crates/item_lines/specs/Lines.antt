@@ -10,6 +10,7 @@ use Rattle.puts.specs.Decimals.{decimal_of, line_feed}
 use Rattle.puts.specs.Lines.{lines_from}
 use Rattle.item_words.specs.LineWords.{stretch_of, claim_text, value_text}
 use Rattle.refused_line.specs.Refused.{counted, whole, line_by, lines_by}
+pub use Rattle.refused_line.specs.Refused.{whole_text}
 
 -- "Names print as spelled": the bytes of an element, none where the tables point outside
 unfoldable pub spelled_of : List ℕ → List ℕ → ℕ → List ℕ
@@ -39,9 +40,6 @@ unfoldable pub line_of : List ℕ → List ℕ → List ℕ → ℕ → List ℕ
 line_of text elements items i = cond (is_item (word_at items i column.class)) (item_of text elements items i) []
 
 -- "pieces 6 whole no": the first line
-unfoldable pub whole_text : ℕ → List ℕ
-whole_text w = cond (eqb w 1) (bytes_of " whole yes\n") (bytes_of " whole no\n")
-
 unfoldable pub head_of : ℕ → ℕ → List ℕ
 head_of pieces w = bytes_of "pieces " ++ (decimal_of pieces ++ whole_text w)
 

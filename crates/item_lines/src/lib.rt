@@ -6,12 +6,12 @@ ghost use Rattle.std.specs.Prelude.{◌≡◌, length};
 ghost use Rattle.puts.specs.Puts.{Wrote};
 ghost use Rattle.puts.specs.Lines.{Part};
 ghost use Rattle.item_words.specs.LineWords.{claim_text};
-ghost use Rattle.item_lines.specs.Lines.{spelled_of, state_word, result_of, item_of, line_of, whole_text, head_of, survey_line, survey_lines};
+ghost use Rattle.item_lines.specs.Lines.{spelled_of, state_word, result_of, item_of, line_of, head_of, survey_line, survey_lines};
 
 use pieces::RECORD_WORDS;
 use places::ElementNumber;
 use puts::Filled;
-use refused_line::{COUNT, PLACE, REFUSAL, WHOLE};
+use refused_line::{COUNT, WHOLE};
 
 // The states, by the words of a record.
 const BROKEN: u64 = states::BROKEN as u64;
@@ -126,22 +126,13 @@ pub fn put_line(
     puts::put_none(out, at)
 }
 
-fn put_whole(whole: u64, out: &mut [u8], at: usize) -> usize
-    ensures { Wrote out.old at (whole_text whole) out.new result }
-{
-    if whole == 1 {
-        return puts::put_bytes(b" whole yes\n", out, at);
-    }
-    puts::put_bytes(b" whole no\n", out, at)
-}
-
 // The listing's first line.
 pub fn put_head(pieces: u64, whole: u64, out: &mut [u8], at: usize) -> usize
     ensures { Wrote out.old at (head_of pieces whole) out.new result }
 {
     let a = puts::put_bytes(b"pieces ", out, at);
     let b = puts::put_decimal(pieces, out, a);
-    put_whole(whole, out, b)
+    refused_line::put_whole(whole, out, b)
 }
 
 // A line by its number: a refusal's, the head, or that of the record before.
@@ -156,9 +147,8 @@ fn put_survey_line(
 ) -> usize
     ensures { Wrote out.old at (survey_line text.now elements.now items.now answer.now i) out.new result }
 {
-    let refusal = lent_tables::word_at(answer, REFUSAL);
-    if refusal != 0 {
-        return refused_line::put_refused(refusal, lent_tables::word_at(answer, PLACE), out, at);
+    if let Some(end) = refused_line::put_refusal(answer, out, at) {
+        return end;
     }
     if i == 0 {
         let pieces = lent_tables::word_at(answer, COUNT);
@@ -172,7 +162,7 @@ fn survey_lines(items: &[u64], answer: &[u64]) -> usize
     ensures { result ≡ survey_lines items.now answer.now }
 {
     let pieces = lent_tables::word_at(answer, COUNT) as usize;
-    let records = lent_tables::least(pieces, items.len() / RECORD_WORDS);
+    let records = pieces.min(items.len() / RECORD_WORDS);
     refused_line::lines_by(answer, records + 1)
 }
 
@@ -187,16 +177,10 @@ pub fn fill_survey(
 ) -> Filled
     ensures { Part (survey_line text.now elements.now items.now answer.now) from (survey_lines items.now answer.now) (length out.old) result out.new }
 {
-    let to = survey_lines(items, answer);
-    let mut i = from;
-    let mut w: usize = 0;
-    while i < to {
-        let r = put_survey_line(text, elements, items, answer, i, out, w);
-        if out.len() <= r {
-            return puts::ended(i, to, out, w);
-        }
-        w = r;
-        i += 1;
-    }
-    puts::ended(i, to, out, w)
+    puts::fill(
+        |i, out, at| put_survey_line(text, elements, items, answer, i, out, at),
+        from,
+        survey_lines(items, answer),
+        out,
+    )
 }

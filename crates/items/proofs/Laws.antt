@@ -73,9 +73,9 @@ module _ (rows items : List ℕ) (i from most m : ℕ) (inv : Left rows items i 
         let z : rows_until (most - m) (drop (row_numbers * (from + m)) rows) ≡ suc (rows_until (most - (m + 1)) (drop (row_numbers * (from + (m + 1))) rows)) = opened ∙ rw (ne_eqb (row_at rows (from + m)).form 0 h) in
         omega (arith, inv, z)
 
-  pub held_end : most ≤ m → m ≡ rows_held rows items i
+  pub held_end : most ≤ m → m ≤ most → most ≡ rows_held rows items i
   unfolding rows_until
-  held_end l = let a : most - m ≡ 0 = omega arith in rw (a, add-zero m) at inv
+  held_end l k = let a : most - m ≡ 0 = omega arith in let b : most ≡ m = omega arith in b ∙ (rw (a, add-zero m) at inv)
 
 -- ---- the word downto
 
@@ -139,18 +139,9 @@ part_is text table items links rows i from a m r p z =
     rw (← p, ← e) z
 
 module _ (items rows : List ℕ) (i m : ℕ) (h : bound_at ≤ m) where
-  pub second_none : m ≡ bound_at → ◌≡◌ {A = ℕ} bound_at (range_at items i rows m)
+  pub second_none : m ≡ bound_at → m ≡ range_at items i rows m
   unfolding range_at
   second_none e = omega arith
-
-  module _ (from size : ℕ) (p : from ≡ word_at items i column.first) (q : size ≡ (row_at rows (from + bound_at)).rows) where
-    pub second_past : m - bound_at ≤ size → m ≡ range_at items i rows m
-    unfolding range_at
-    second_past l = rw (← p, ← q) (omega arith)
-
-    pub second_there : size < m - bound_at → bound_at + size ≡ range_at items i rows m
-    unfolding range_at
-    second_there l = rw (← p, ← q) (omega arith)
 
 module _ (text table items links rows : List ℕ) (i m : ℕ) (mark r : Value) where
   pub unbounded : m ≡ after_mark → r ≡ subtype_of mark → r ≡ bounded_at text table items links i rows m mark

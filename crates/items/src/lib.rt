@@ -19,27 +19,19 @@ const AFTER_MARK: usize = 2;
 
 const FIRST_BOUND: usize = 3;
 
-fn minus(a: usize, b: usize) -> usize
-    ensures { result ≡ a - b }
-{
-    if b <= a { a - b } else { 0 }
-}
-
 // How many rows piece i has: up to the first of form 0.
 fn rows_held(rows: &[u64], items: &[u64], i: usize) -> usize
     ensures { result ≡ rows_held rows.now items.now i }
 {
     let from = records::word(items, i, pieces::FIRST) as usize;
     let count = records::word(items, i, pieces::COUNT) as usize;
-    let most = lent_tables::least(count, minus(rows.len() / ROW_NUMBERS, from));
-    let mut m: usize = 0;
-    while m < most {
+    let most = count.min((rows.len() / ROW_NUMBERS).saturating_sub(from));
+    for m in 0..most {
         if rows[ROW_NUMBERS * (from + m)] == 0 {
             return m;
         }
-        m += 1;
     }
-    m
+    most
 }
 
 // Whether the word downto stands in piece i.
@@ -49,14 +41,11 @@ fn goes_down(elements: &[u64], items: &[u64], i: usize) -> bool
     let n = places::rows_in(elements);
     let from = records::word(items, i, pieces::FIRST) as usize;
     let count = records::word(items, i, pieces::COUNT) as usize;
-    let most = lent_tables::least(count, minus(n, from));
-    let mut m: usize = 0;
-    while m < most {
-        let e = from + m;
-        if places::kind_of(elements, ElementNumber(e)) == pieces::WORD_DOWNTO {
+    let most = count.min(n.saturating_sub(from));
+    for m in 0..most {
+        if places::kind_of(elements, ElementNumber(from + m)) == pieces::WORD_DOWNTO {
             return true;
         }
-        m += 1;
     }
     false
 }
@@ -104,14 +93,11 @@ fn second_bound(items: &[u64], i: usize, rows: &[u64], m: usize) -> usize
     ensures { result ≡ range_at items.now i rows.now m }
 {
     if m == FIRST_BOUND {
-        return FIRST_BOUND;
+        return m;
     }
     let from = records::word(items, i, pieces::FIRST) as usize;
     let size = rows[ROW_NUMBERS * (from + FIRST_BOUND) + ROWS] as usize;
-    if m - FIRST_BOUND <= size {
-        return m;
-    }
-    FIRST_BOUND + size
+    FIRST_BOUND.saturating_add(size).min(m)
 }
 
 // A subtype by its mark.
@@ -244,10 +230,8 @@ pub fn complete_items(
 )
     ensures { items.new ≡ completed text.now elements.now links.now twins.now rows.now items.old n }
 {
-    let most = lent_tables::least(n, items.len() / RECORD_WORDS);
-    let mut i: usize = 0;
-    while i < most {
+    let most = n.min(items.len() / RECORD_WORDS);
+    for i in 0..most {
         complete(text, elements, links, twins, rows, items, i);
-        i += 1;
     }
 }

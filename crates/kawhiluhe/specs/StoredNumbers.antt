@@ -1,26 +1,21 @@
 -- The answers of storing and of reading what was stored as numbers, 0 for what is absent. Assumes nothing.
-use Rattle.std.specs.Prelude.{ℕ, ◌≡◌, List}
+use Rattle.std.specs.Prelude.{ℕ, ◌≡◌, List, Ok, Err}
 use Rattle.storing.specs.Refusals.{storing_number, storing_place}
 use Rattle.storing.specs.Permitted as storing
-use Rattle.storing.specs.declared.Storing.{Storing}
-use Rattle.storing.specs.declared.Storing.TheVariants as store
+use Rattle.storing.specs.Refusals.{Storing}
 use Rattle.stored_reading.specs.Refusals.{stored_number, stored_place}
 use Rattle.stored_reading.specs.Permitted as reading
-use Rattle.stored_reading.specs.declared.StoredReading.{StoredReading}
-use Rattle.stored_reading.specs.declared.StoredReading.TheVariants as read
+use Rattle.stored_reading.specs.Permitted.{StoredReading}
 use Rattle.storing_again.specs.Refusals.{again_number, again_place}
 use Rattle.storing_again.specs.Permitted as twice
-use Rattle.storing_again.specs.declared.Again.{Again}
-use Rattle.storing_again.specs.declared.Again.TheVariants as again
+use Rattle.storing_again.specs.Refusals.{Again}
 use Rattle.kawhiluhe.specs.declared.Kept.{Kept}
 use Rattle.kawhiluhe.specs.declared.Unstored.{Unstored}
 
 -- storing a survey: a refusal and its place, or how many bytes were written
 abbrev pub bytes_stored : Storing → ℕ
-bytes_stored (store.Stored n) = n
-bytes_stored (store.Refused r) = 0
-bytes_stored store.NotWhole = 0
-bytes_stored (store.OutputShort room) = 0
+bytes_stored (Ok n) = n
+bytes_stored (Err r) = 0
 
 abbrev pub store_numbers : Storing → Kept
 store_numbers x = record { refusal = storing_number x; place = storing_place x; bytes = bytes_stored x }
@@ -32,17 +27,16 @@ StorePermitted text element_words item_words out_bytes k elements items out =
 
 -- reading a stored table: a refusal and its place, or how many items it has, and where the package's name stands and how long that is
 abbrev pub unstore_numbers : StoredReading → Unstored
-unstore_numbers (read.Read first size count) = record { refusal = 0; place = 0; items = count; name = first.0; length = size }
-unstore_numbers (read.Refused r) = record { refusal = stored_number r; place = stored_place r; items = 0; name = 0; length = 0 }
+unstore_numbers (Ok t) = record { refusal = 0; place = 0; items = t.items; name = t.name.0; length = t.length }
+unstore_numbers (Err r) = record { refusal = stored_number r; place = stored_place r; items = 0; name = 0; length = 0 }
 
 abbrev pub UnstorePermitted : List ℕ → ℕ → Unstored → (rows : List ℕ) → Type 0
 UnstorePermitted bytes row_words u rows = (a : StoredReading) × ((u ≡ unstore_numbers a) × reading.Permitted bytes row_words a rows)
 
 -- storing again what was read: a refusal and its place, or how many bytes were written
 abbrev pub bytes_again : Again → ℕ
-bytes_again (again.Stored n) = n
-bytes_again (again.Refused r) = 0
-bytes_again (again.OutputShort room) = 0
+bytes_again (Ok n) = n
+bytes_again (Err r) = 0
 
 abbrev pub again_numbers : Again → Kept
 again_numbers x = record { refusal = again_number x; place = again_place x; bytes = bytes_again x }

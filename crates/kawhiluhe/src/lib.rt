@@ -19,17 +19,17 @@ ghost use Rattle.kawhiluhe.specs.AnswerWords.{element_words, judged_words, surve
 ghost use Rattle.kawhiluhe.specs.AnswerNumbers.{element_numbers, strict_numbers, StrictPermitted, pair_number, earlier_number, later_number, survey_numbers, SurveyPermitted, found_number};
 ghost use Rattle.kawhiluhe.specs.StoredNumbers.{bytes_stored, store_numbers, StorePermitted, unstore_numbers, UnstorePermitted, bytes_again, again_numbers, AgainPermitted};
 
-use element_reading::Reading;
-use lookup::{Found, Item};
-use pairs::Pair;
+use lookup::Item;
 use pieces::RECORD_WORDS;
+use places::ElementNumber;
 use puts::Filled;
+use refusals::{Refusal, StrictRefusal, SurveyRefusal};
 use states::STATES;
-use stored_reading::StoredReading;
-use storing::Storing;
-use storing_again::Again;
-use strict_reading::Strict;
-use survey_reading::{Ended, Survey};
+use stored_reading::{StoredRefusal, StoredTable};
+use storing::StoringRefusal;
+use storing_again::AgainRefusal;
+use strict_reading::Judgement;
+use survey_reading::Summary;
 use verdict::Verdict;
 
 // How many words each answer has; a survey's end with its tally.
@@ -101,16 +101,16 @@ pub struct Unstored {
     pub length: u64,
 }
 
-fn element_numbers(r: Reading) -> Elements
+fn element_numbers(r: Result<ElementNumber, Refusal>) -> Elements
     ensures { result ≡ element_numbers r }
 {
     match r {
-        Reading::Read(e) => Elements {
+        Ok(e) => Elements {
             refusal: 0,
             place: 0,
             elements: e.0 as u64,
         },
-        Reading::Refused(x) => Elements {
+        Err(x) => Elements {
             refusal: refusals::refusal_number(x),
             place: refusals::refusal_place(x) as u64,
             elements: 0,
@@ -130,15 +130,15 @@ fn rows_judged(rows: u64, passes: u64, row: u64) -> Judged
     }
 }
 
-fn strict_numbers(x: Strict) -> Judged
+fn strict_numbers(x: Result<Judgement, StrictRefusal>) -> Judged
     ensures { result ≡ strict_numbers x }
 {
     match x {
-        Strict::Read(rows, verdict) => match verdict {
-            Verdict::Passes => rows_judged(rows as u64, 1, 0),
-            Verdict::NotSupported(row) => rows_judged(rows as u64, 0, row as u64),
+        Ok(j) => match j.verdict {
+            Verdict::Passes => rows_judged(j.rows as u64, 1, 0),
+            Verdict::NotSupported(row) => rows_judged(j.rows as u64, 0, row as u64),
         },
-        Strict::Refused(r) => Judged {
+        Err(r) => Judged {
             refusal: refusals::strict_number(r),
             place: refusals::strict_place(r) as u64,
             rows: 0,
@@ -148,60 +148,49 @@ fn strict_numbers(x: Strict) -> Judged
     }
 }
 
-fn truth_number(t: bool) -> u64
-    ensures { result ≡ one_if t }
-{
-    if t { 1 } else { 0 }
-}
-
-fn pair_number(p: Pair) -> u64
+fn pair_number(p: Option<(usize, usize)>) -> u64
     ensures { result ≡ pair_number p }
 {
-    match p {
-        Pair::Both(_, _) => 1,
-        Pair::Neither => 0,
-    }
+    u64::from(p.is_some())
 }
 
-fn earlier_number(p: Pair) -> u64
+fn earlier_number(p: Option<(usize, usize)>) -> u64
     ensures { result ≡ earlier_number p }
 {
     match p {
-        Pair::Both(i, _) => i as u64,
-        Pair::Neither => 0,
+        Some((i, _)) => i as u64,
+        None => 0,
     }
 }
 
-fn later_number(p: Pair) -> u64
+fn later_number(p: Option<(usize, usize)>) -> u64
     ensures { result ≡ later_number p }
 {
     match p {
-        Pair::Both(_, j) => j as u64,
-        Pair::Neither => 0,
+        Some((_, j)) => j as u64,
+        None => 0,
     }
 }
 
-fn survey_numbers(x: Survey) -> Surveyed
+fn survey_numbers(x: Result<Summary, SurveyRefusal>) -> Surveyed
     ensures { result ≡ survey_numbers x }
 {
-    let outcome = x.outcome;
-    let tally = x.tally.counts;
-    match outcome {
-        Ended::Done(s) => {
-            let pair = s.pair;
+    match x {
+        Ok(s) => {
+            let tally = s.tally.counts;
             Surveyed {
                 refusal: 0,
                 place: 0,
                 pieces: s.pieces as u64,
-                frame: truth_number(s.frame),
-                whole: truth_number(s.whole),
-                pair: pair_number(pair),
-                earlier: earlier_number(pair),
-                later: later_number(pair),
-                tally: tally,
+                frame: u64::from(s.frame),
+                whole: u64::from(s.whole),
+                pair: pair_number(s.pair),
+                earlier: earlier_number(s.pair),
+                later: later_number(s.pair),
+                tally,
             }
-        }
-        Ended::Refused(r) => Surveyed {
+        },
+        Err(r) => Surveyed {
             refusal: refusals::survey_number(r),
             place: refusals::survey_place(r) as u64,
             pieces: 0,
@@ -210,32 +199,30 @@ fn survey_numbers(x: Survey) -> Surveyed
             pair: 0,
             earlier: 0,
             later: 0,
-            tally: tally,
+            tally: [0; STATES],
         },
     }
 }
 
-fn found_number(x: Found, none: u64) -> u64
+fn found_number(x: Option<usize>, none: u64) -> u64
     ensures { result ≡ found_number x none }
 {
     match x {
-        Found::At(i) => i as u64,
-        Found::Nothing => none,
+        Some(i) => i as u64,
+        None => none,
     }
 }
 
-fn bytes_stored(x: Storing) -> u64
+fn bytes_stored(x: Result<usize, StoringRefusal>) -> u64
     ensures { result ≡ bytes_stored x }
 {
     match x {
-        Storing::Stored(n) => n as u64,
-        Storing::Refused(_) => 0,
-        Storing::NotWhole => 0,
-        Storing::OutputShort(_) => 0,
+        Ok(stored) => stored as u64,
+        Err(_) => 0,
     }
 }
 
-fn store_numbers(x: Storing) -> Kept
+fn store_numbers(x: Result<usize, StoringRefusal>) -> Kept
     ensures { result ≡ store_numbers x }
 {
     Kept {
@@ -245,17 +232,16 @@ fn store_numbers(x: Storing) -> Kept
     }
 }
 
-fn bytes_again(x: Again) -> u64
+fn bytes_again(x: Result<usize, AgainRefusal>) -> u64
     ensures { result ≡ bytes_again x }
 {
     match x {
-        Again::Stored(n) => n as u64,
-        Again::Refused(_) => 0,
-        Again::OutputShort(_) => 0,
+        Ok(stored_again) => stored_again as u64,
+        Err(_) => 0,
     }
 }
 
-fn again_numbers(x: Again) -> Kept
+fn again_numbers(x: Result<usize, AgainRefusal>) -> Kept
     ensures { result ≡ again_numbers x }
 {
     Kept {
@@ -265,18 +251,18 @@ fn again_numbers(x: Again) -> Kept
     }
 }
 
-fn unstore_numbers(x: StoredReading) -> Unstored
+fn unstore_numbers(x: Result<StoredTable, StoredRefusal>) -> Unstored
     ensures { result ≡ unstore_numbers x }
 {
     match x {
-        StoredReading::Read(name, length, items) => Unstored {
+        Ok(table) => Unstored {
             refusal: 0,
             place: 0,
-            items: items as u64,
-            name: name.0 as u64,
-            length: length as u64,
+            items: table.items as u64,
+            name: table.name.0 as u64,
+            length: table.length as u64,
         },
-        StoredReading::Refused(r) => Unstored {
+        Err(r) => Unstored {
             refusal: stored_reading::stored_number(r),
             place: stored_reading::stored_place(r) as u64,
             items: 0,

@@ -3,37 +3,51 @@
 #![tactic(auto)]
 
 ghost use Rattle.std.specs.Prelude.{◌≡◌, min, length, get_or, take, replicate};
+ghost use Rattle.lent_tables.specs.TableWords.{word_in};
 
 pub fn clear(t: &mut [u64])
     ensures { t.new ≡ replicate (length t.old) 0 }
 {
-    let mut i = 0;
-    while i < t.len() {
-        t[i] = 0;
-        i += 1;
-    }
+    t.fill(0);
+}
+
+// The item at a place, another past the end.
+pub fn item_or<T: Copy>(s: &[T], i: usize, other: T) -> T
+    ensures { result ≡ get_or s.now i other }
+{
+    s.get(i).copied().unwrap_or(other)
 }
 
 // The word at a place, 0 past the end.
 pub fn word_at(t: &[u64], i: usize) -> u64
     ensures { result ≡ get_or t.now i 0 }
 {
-    if i < t.len() { t[i] } else { 0 }
+    item_or(t, i, 0)
+}
+
+// The word of a column of a row, where each row has WIDTH words: 0 where there is no such row or column.
+pub fn word_in<const WIDTH: usize>(table: &[u64], row: usize, column: usize) -> u64
+    ensures { result ≡ word_in WIDTH table.now row column }
+{
+    if WIDTH <= column {
+        return 0;
+    }
+    if row < table.len() / WIDTH {
+        return table[WIDTH * row + column];
+    }
+    0
 }
 
 // The least of two numbers.
 pub fn least(a: usize, b: usize) -> usize
     ensures { result ≡ min a b }
 {
-    if a <= b { a } else { b }
+    a.min(b)
 }
 
 // The first bytes, all of them where there are fewer.
 pub fn front(s: &[u8], n: usize) -> &[u8]
     ensures { result.now ≡ take n s.now }
 {
-    if n <= s.len() {
-        return &s[..n];
-    }
-    s
+    &s[..n.min(s.len())]
 }

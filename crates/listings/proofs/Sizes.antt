@@ -15,10 +15,10 @@ use Rattle.words.specs.Words.{bytes_of}
 use Rattle.places.specs.Places.{cell_at, within}
 use Rattle.records.specs.Records.{word_at, is_item}
 use Rattle.puts.specs.Decimals.{digits_of, decimal_of, signed_text}
-use Rattle.refused_line.specs.Refused.{refusal, place, counted, place_text, refused_of, line_by}
+use Rattle.refused_line.specs.Refused.{refusal, place, counted, place_text, refused_of, line_by, whole_text}
 use Rattle.listings.specs.WrittenParts.{beside_text, LinesFit}
 use Rattle.item_words.specs.LineWords.{stretch_of, claim_text, folded_text, upper_of, value_text}
-use Rattle.item_lines.specs.Lines.{spelled_of, state_word, state_words, result_of, item_of, line_of, whole_text, head_of, listed_line, survey_line}
+use Rattle.item_lines.specs.Lines.{spelled_of, state_word, state_words, result_of, item_of, line_of, head_of, listed_line, survey_line}
 
 -- a choice is no longer than the longer
 pub either : (b : Bool) (x y : List ℕ) {n : ℕ} → length x ≤ n → length y ≤ n → length (cond b x y) ≤ n

@@ -16,8 +16,8 @@ use Rattle.item_words.specs.LineWords.{stretch_of, claim_text, folded_text, uppe
 use Rattle.stored.proofs.Examples.{five_fields}
 use Rattle.stored.specs.Examples.{five_items, five_bytes}
 use Rattle.stored_reading.specs.StoredRows.{stored_row_words, stored_class_column, stored_place_column, stored_length_column, stored_kind_column, stored_low_column, stored_high_column, stored_rows_from}
-use Rattle.stored_reading.specs.declared.StoredReading.{StoredReading}
-use Rattle.stored_reading.specs.declared.StoredReading.TheVariants.{Read}
+use Rattle.stored_reading.specs.Permitted.{StoredReading}
+use Rattle.stored_reading.specs.Permitted.{read_table}
 use Rattle.stored_reading.proofs.Promises.{no_choice}
 use Rattle.stored_lines.specs.Lines.{row_word, name_first, name_length, count_text, stored_head, stored_item, stored_listed, stored_line, stored_lines, stored_listing}
 use Rattle.kawhiluhe.specs.StoredNumbers.{unstore_numbers}
@@ -79,7 +79,7 @@ stored_lines_fit bytes rows answer i h w a =
 pub sample_stored : SampleStored
 unfolding stored_rows_from unstored_words row_word digits_of decimal_of signed_text lines_from line_by lines_by stretch_of claim_text folded_text upper_of value_text count_text stored_head stored_item stored_listed stored_line stored_lines stored_listing bytes_of
 sample_stored = (
-  Read (record { 0 = 3 }) 1 4,
+  read_table (record { 0 = 3 }) 1 4,
   (
     stored_rows_from 4 five_items,
     (

@@ -9,15 +9,16 @@ use Rattle.same_names.specs.Alike.{agree, spelled_same, same_name}
 use Rattle.element_reading.specs.Rows.{rows_of}
 use Rattle.element_reading.specs.Table.{cells}
 use Rattle.element_reading.specs.Reading.{reading_of, table_of, table_by}
-use Rattle.element_reading.specs.declared.Reading.{Reading}
-use Rattle.element_reading.specs.declared.Reading.TheVariants.{Read}
+use Rattle.std.specs.Prelude.{Result, Ok, Err}
+use Rattle.places.specs.declared.ElementNumber.{ElementNumber}
+use Rattle.refusals.specs.declared.Refusal.{Refusal}
+use Rattle.refusals.specs.declared.StrictRefusal.{StrictRefusal}
 use Rattle.forms.specs.RowWords.{row_numbers}
 use Rattle.tree.specs.code.Answers.{terminals_of}
 use Rattle.verdict.specs.code.Judging.{verdict_from, forms_in, verdict_of}
 use Rattle.verdict.specs.declared.Verdict.TheVariants.{Passes}
 use Rattle.refusals.specs.declared.StrictRefusal.TheVariants.{NoFile}
-use Rattle.strict_reading.specs.declared.Strict.{Strict}
-use Rattle.strict_reading.specs.declared.Strict.TheVariants as strict
+use Rattle.strict_reading.specs.declared.Judgement.{Judgement}
 use Rattle.strict_reading.specs.code.Strict.{unreadable_from, tree_table, file_of, elements_as, strict_by_reading, strict_of, elements_after_strict, tree_as, tree_by_reading, tree_after}
 use Rattle.strict_reading.proofs.Promises.{is_permitted}
 use Rattle.puts.specs.Decimals.{digits_of, decimal_of, signed_text, field_of, fields_of}
@@ -33,14 +34,14 @@ use Rattle.listings.proofs.Samples as gas-is
 use Rattle.listings.proofs.Samples.{gas_rows, gas_elements}
 
 -- the incident: its elements begin no file past the fifteenth
-gas_answer_lem : elements_as gas gas_elements 38 tree_room ≡ strict.Refused (NoFile (record { 0 = 15 }))
+gas_answer_lem : elements_as gas gas_elements 38 tree_room ≡ Err (NoFile (record { 0 = 15 }))
 unfolding elements_as unreadable_from file_of tree_table terminals_of kinds_of gas_elements gas_rows computing agree spelled_same same_name cell_at
 gas_answer_lem = refl
 
-gas_strict : strict_of gas element_room tree_room ≡ strict.Refused (NoFile (record { 0 = 15 }))
+gas_strict : strict_of gas element_room tree_room ≡ Err (NoFile (record { 0 = 15 }))
 unfolding strict_of
 gas_strict =
-    ap (λ (r : Reading). strict_by_reading r gas (table_of gas element_room) tree_room) gas-is.reading_is
+    ap (λ (r : Result ElementNumber Refusal). strict_by_reading r gas (table_of gas element_room) tree_room) gas-is.reading_is
     ∙ ap (λ (t : List ℕ). elements_as gas t 38 tree_room) gas-is.table_is ∙ gas_answer_lem
 
 refused_line_is : (tree : List ℕ) → tree_listing tree (5 ∷ 15 ∷ 0 ∷ 0 ∷ 0 ∷ []) ≡ bytes_of "refused 5 at 15\n"
@@ -58,7 +59,7 @@ sample_refused = (
       (
         is_permitted gas element_room tree_room,
         sym
-            (ap (λ (x : Strict). tree_listing (tree_after gas element_room tree_room) (judged_words (strict_numbers x))) gas_strict
+            (ap (λ (x : Result Judgement StrictRefusal). tree_listing (tree_after gas element_room tree_room) (judged_words (strict_numbers x))) gas_strict
             ∙ refused_line_is (tree_after gas element_room tree_room)),
       ),
     ),
@@ -89,14 +90,14 @@ count_is : length (rows_of small_text) ≡ 12
 unfolding computing
 count_is = refl
 
-reading_is : reading_of small_text element_room ≡ Read (record { 0 = 12 })
+reading_is : reading_of small_text element_room ≡ Ok (record { 0 = 12 })
 unfolding computing reading_of
 reading_is = refl
 
 table_is : table_of small_text element_room ≡ small_elements
 unfolding table_of small_elements
 table_is =
-    ap (λ (r : Reading). table_by r small_text element_room) reading_is
+    ap (λ (r : Result ElementNumber Refusal). table_by r small_text element_room) reading_is
     ∙ ap (λ (l : List ℕ). l ++ replicate (element_room - row_words * length (rows_of small_text)) 0) rows_are
     ∙ ap (λ (n : ℕ). small_rows ++ replicate (element_room - row_words * n) 0) count_is
 
@@ -107,17 +108,17 @@ tree_is = refl
 tree_left_lem : tree_after small_text element_room tree_room ≡ small_table
 unfolding tree_after
 tree_left_lem =
-    ap (λ (r : Reading). tree_by_reading r small_text (table_of small_text element_room) tree_room) reading_is
+    ap (λ (r : Result ElementNumber Refusal). tree_by_reading r small_text (table_of small_text element_room) tree_room) reading_is
     ∙ ap (λ (t : List ℕ). tree_as small_text t 12 tree_room) table_is ∙ tree_is
 
-answer_is : elements_as small_text small_elements 12 tree_room ≡ strict.Read 4 Passes
+answer_is : elements_as small_text small_elements 12 tree_room ≡ Ok (record { rows = 4; verdict = Passes })
 unfolding elements_as unreadable_from file_of tree_table terminals_of kinds_of small_elements small_rows computing agree spelled_same same_name cell_at verdict_from forms_in verdict_of
 answer_is = refl
 
-strict_is : strict_of small_text element_room tree_room ≡ strict.Read 4 Passes
+strict_is : strict_of small_text element_room tree_room ≡ Ok (record { rows = 4; verdict = Passes })
 unfolding strict_of
 strict_is =
-    ap (λ (r : Reading). strict_by_reading r small_text (table_of small_text element_room) tree_room) reading_is
+    ap (λ (r : Result ElementNumber Refusal). strict_by_reading r small_text (table_of small_text element_room) tree_room) reading_is
     ∙ ap (λ (t : List ℕ). elements_as small_text t 12 tree_room) table_is ∙ answer_is
 
 lines_are : tree_listing small_table (0 ∷ 0 ∷ 4 ∷ 1 ∷ 0 ∷ []) ≡ small_tree_lines
@@ -135,7 +136,7 @@ sample_tree = (
       (
         is_permitted small_text element_room tree_room,
         sym
-            (ap (λ (x : Strict). tree_listing (tree_after small_text element_room tree_room) (judged_words (strict_numbers x))) strict_is
+            (ap (λ (x : Result Judgement StrictRefusal). tree_listing (tree_after small_text element_room tree_room) (judged_words (strict_numbers x))) strict_is
             ∙ ap (λ (t : List ℕ). tree_listing t (0 ∷ 0 ∷ 4 ∷ 1 ∷ 0 ∷ [])) tree_left_lem ∙ lines_are),
       ),
     ),

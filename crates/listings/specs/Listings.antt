@@ -1,10 +1,12 @@
 -- The listing of a text: the lines of what a reader of it may answer and leave in its lent tables, of so many words each. proofs/Promises.antt
 -- proves that it is one. Assumes nothing: these are definitions.
-use Rattle.std.specs.Prelude.{ℕ, ◌≡◌, List}
+use Rattle.std.specs.Prelude.{ℕ, ◌≡◌, List, Result}
 use Rattle.element_reading.specs.Reading.{reading_of, table_of}
-use Rattle.strict_reading.specs.declared.Strict.{Strict}
+use Rattle.refusals.specs.declared.StrictRefusal.{StrictRefusal}
+use Rattle.refusals.specs.declared.SurveyRefusal.{SurveyRefusal}
+use Rattle.strict_reading.specs.declared.Judgement.{Judgement}
 use Rattle.strict_reading.specs.Permitted as strict
-use Rattle.survey_reading.specs.declared.Survey.{Survey}
+use Rattle.survey_reading.specs.declared.Summary.{Summary}
 use Rattle.survey_reading.specs.Permitted as survey
 use Rattle.item_lines.specs.Lines.{survey_listing}
 use Rattle.record_lines.specs.Lines.{record_listing}
@@ -16,19 +18,19 @@ use Rattle.kawhiluhe.specs.AnswerWords.{element_words, judged_words, surveyed_wo
 -- what `survey` prints of a text
 abbrev pub IsItemListing : List ℕ → ℕ → ℕ → List ℕ → Type 0
 IsItemListing text element_room item_room bytes =
-    (x : Survey) × ((elements : List ℕ) × ((items : List ℕ)
+    (x : Result Summary SurveyRefusal) × ((elements : List ℕ) × ((items : List ℕ)
     × (survey.Permitted text element_room item_room x elements items × (bytes ≡ survey_listing text elements items (surveyed_words (survey_numbers x))))))
 
 -- what `survey --records` prints
 abbrev pub IsRecordListing : List ℕ → ℕ → ℕ → List ℕ → Type 0
 IsRecordListing text element_room item_room bytes =
-    (x : Survey) × ((elements : List ℕ) × ((items : List ℕ)
+    (x : Result Summary SurveyRefusal) × ((elements : List ℕ) × ((items : List ℕ)
     × (survey.Permitted text element_room item_room x elements items × (bytes ≡ record_listing items (surveyed_words (survey_numbers x))))))
 
 -- what `strict` prints
 abbrev pub IsTreeListing : List ℕ → ℕ → ℕ → List ℕ → Type 0
 IsTreeListing text element_room tree_room bytes =
-    (x : Strict) × ((elements : List ℕ) × ((tree : List ℕ)
+    (x : Result Judgement StrictRefusal) × ((elements : List ℕ) × ((tree : List ℕ)
     × (strict.Permitted text element_room tree_room x elements tree × (bytes ≡ tree_listing tree (judged_words (strict_numbers x))))))
 
 -- what `strict --elements` prints

@@ -6,7 +6,7 @@ use Rattle.puts.specs.Decimals.{word_end}
 use Rattle.stored.specs.Examples.{five_items, five_bytes}
 use Rattle.stored_reading.specs.StoredRows.{stored_row_words}
 use Rattle.stored_reading.specs.Permitted.{Permitted}
-use Rattle.stored_reading.specs.declared.StoredReading.{StoredReading}
+use Rattle.stored_reading.specs.Permitted.{StoredReading}
 use Rattle.stored_lines.specs.Lines.{stored_line, stored_listing}
 use Rattle.kawhiluhe.specs.StoredNumbers.{unstore_numbers}
 use Rattle.kawhiluhe.specs.AnswerWords.{unstored_words}

@@ -3,7 +3,7 @@
 
 ghost use Rattle.std.specs.Prelude.{◌≡◌, ◌+◌, ◌*◌, ◌^◌, ◌≤◌, ◌<◌, min, pos, drop};
 ghost use Rattle.classes.specs.Bytes.{least_base, greatest_base};
-ghost use Rattle.numbers.specs.Digits.{digit_in, value_spelled, leading};
+ghost use Rattle.numbers.specs.Digits.{leading};
 ghost use Rattle.integers.specs.Integers.{largest, sized_of};
 ghost use Rattle.integers.specs.FoldedNumbers.{beyond};
 ghost use Rattle.literals.specs.Literals.{exponent_of, number_in, literal_of};
@@ -14,48 +14,20 @@ use integers::Folded;
 // How large a literal is at most, and the first number beyond.
 const LARGEST: u64 = integers::LARGEST as u64;
 
-const BEYOND: u64 = LARGEST + 1;
+const BEYOND: u32 = integers::LARGEST as u32 + 1;
 
 // "base 2 to 16"
 const LEAST_BASE: u64 = numbers::LEAST_BASE as u64;
 
 const GREATEST_BASE: u64 = classes::GREATEST_BASE as u64;
 
-// One digit more, where the first number beyond the largest stands for any from there on.
-fn with_digit(base: u8, v: u64, b: u8) -> u64
-    requires { (least_base ≤ base) × (base ≤ greatest_base) × (v ≤ beyond) }
-    ensures { result ≡ min beyond (digit_in base v b) }
-{
-    if b == b'_' {
-        return v;
-    }
-    let n = v * (base as u64) + (classes::digit_value(b) as u64);
-    if BEYOND < n {
-        return BEYOND;
-    }
-    n
-}
-
-// The number that digits and underscores spell, or the first number beyond the largest where it is larger.
-fn capped(base: u8, s: &[u8]) -> u64
-    requires { (least_base ≤ base) × (base ≤ greatest_base) }
-    ensures { result ≡ min beyond (value_spelled base 0 s.now) }
-{
-    let mut v: u64 = 0;
-    let mut i = 0;
-    while i < s.len() {
-        v = with_digit(base, v, s[i]);
-        i += 1;
-    }
-    v
-}
-
+// The number that the digits at the front spell, or the first number beyond the largest where it is larger.
 fn leading_value(base: u8, s: &[u8]) -> u64
     requires { (least_base ≤ base) × (base ≤ greatest_base) }
     ensures { result ≡ min beyond (leading base s.now) }
 {
     let n = classes::run_length(Run::Below(base), s);
-    capped(base, &s[..n])
+    u64::from(numbers::capped_value(base, BEYOND, &s[..n]))
 }
 
 fn exponent_at(s: &[u8], at: usize) -> u64
@@ -81,14 +53,12 @@ fn scaled(m: u64, base: u8, e: u64) -> Folded
         return Folded::Whole(0);
     }
     let mut acc = m;
-    let mut i: u64 = 0;
-    while i < e {
-        let next = acc * (base as u64);
+    for _turn in 0..e {
+        let next = acc * u64::from(base);
         if LARGEST < next {
             return Folded::Stopped(states::SIZE);
         }
         acc = next;
-        i += 1;
     }
     Folded::Whole(acc as i32)
 }

@@ -9,16 +9,15 @@ use native.Mathlib.Omega.{arith}
 use borrow.Author.Tests.{le-leb, leb-true, ltb-true, ltb-false}
 use lib.Dec.{ltb}
 use lib.ListN.{length, take, drop, get_or}
+use Rattle.std.specs.Prelude.{Option, Some, None}
 use Rattle.laws.proofs.Laws.{clash}
 use Rattle.places.specs.Places.{rows_in, cell_at, within, row_words}
 use Rattle.same_names.specs.Spelling.{spelt, by_kind}
 use Rattle.same_names.specs.Alike.{spelled_as}
-use Rattle.records.specs.Records.{word_at, is_claim}
+use Rattle.records.specs.Records.{is_claim}
 use Rattle.lookup.specs.Lookup.{is_named, claims_name, found_from, found_of}
-use Rattle.lookup.specs.Finds.{records_held, class_in, name_element, kind_in, first_byte, size_in, InsideText, Spells, Claims, NoneOfFirst, Finds}
+use Rattle.lookup.specs.Finds.{records_held, class_in, name_element, kind_in, first_byte, size_in, InsideText, Spells, Claims, Finds}
 use Rattle.lookup.specs.Promises.{OneAnswer, OutsideClaimsNothing, ByNameElement, FoundExactly}
-use Rattle.lookup.specs.declared.Found.{Found}
-use Rattle.lookup.specs.declared.Found.TheVariants.{At, Nothing}
 
 -- ---- an element is the name, by its row
 
@@ -64,9 +63,9 @@ module _ (text elements name items : List ℕ) where
   abbrev test : ℕ → Bool
   test = claims_name text elements name items
 
-  claims_so : (i : ℕ) → test i ≡ true → Claims text elements name items i
+  pub claims_at : (i : ℕ) → test i ≡ true → Claims text elements name items i
   unfolding claims_name Claims
-  claims_so i h = go (is_claim (class_in items i)) (is_named text elements (name_element items i) name) refl refl h
+  claims_at i h = go (is_claim (class_in items i)) (is_named text elements (name_element items i) name) refl refl h
     where
       go : (b c : Bool) → is_claim (class_in items i) ≡ b → is_named text elements (name_element items i) name ≡ c → (b && c) ≡ true
           → (is_claim (class_in items i) ≡ true) × InsideText text elements (name_element items i) × Spells text elements (name_element items i) name
@@ -77,39 +76,39 @@ module _ (text elements name items : List ℕ) where
   unfolding claims_name Claims
   so_claims i (c, p, s) = rw (c, so_named text elements (name_element items i) name p s)
 
-  claims_not : (i : ℕ) → test i ≡ false → Claims text elements name items i → ⊥
-  claims_not i e c = let z = so_claims i c in let o : ◌≡◌ {A = ℕ} 0 1 = cc in clash o
+  pub claims_not_at : (i : ℕ) → test i ≡ false → Claims text elements name items i → ⊥
+  claims_not_at i e c = let z = so_claims i c in let o : ◌≡◌ {A = ℕ} 0 1 = cc in clash o
 
   -- ---- the first of them
 
-  abbrev Ahead : ℕ → ℕ → Found → Type 0
-  Ahead i m (At k) = (i ≤ k) × (k < i + m) × Claims text elements name items k × ((j : ℕ) → i ≤ j → j < k → Claims text elements name items j → ⊥)
-  Ahead i m Nothing = (j : ℕ) → i ≤ j → j < i + m → Claims text elements name items j → ⊥
+  abbrev Ahead : ℕ → ℕ → Option ℕ → Type 0
+  Ahead i m (Some k) = (i ≤ k) × (k < i + m) × Claims text elements name items k × ((j : ℕ) → i ≤ j → j < k → Claims text elements name items j → ⊥)
+  Ahead i m None = (j : ℕ) → i ≤ j → j < i + m → Claims text elements name items j → ⊥
 
   not_here : (i j : ℕ) → test i ≡ false → ((n : ℕ) → suc i ≤ n → n ≡ j → Claims text elements name items n → ⊥) → i ≤ j → Claims text elements name items j → ⊥
   not_here i j e g l c = go (eq-or-lt_of_le l)
     where
       go : (i ≡ j) ⊎ (i < j) → ⊥
-      go (inl q) = claims_not i e (subst (Claims text elements name items) (sym q) c)
+      go (inl q) = claims_not_at i e (subst (Claims text elements name items) (sym q) c)
       go (inr q) = g j q refl c
 
-  further : (i m : ℕ) (f : Found) → test i ≡ false → Ahead (suc i) m f → Ahead i (suc m) f
-  further i m (At k) e (a, b, c, n) = (omega arith, omega arith, c, λ j l h d. not_here i j e (λ x u v w. n x u (omega arith) w) l d)
-  further i m Nothing e n = λ j l h d. not_here i j e (λ x u v w. n x u (omega arith) w) l d
+  further : (i m : ℕ) (f : Option ℕ) → test i ≡ false → Ahead (suc i) m f → Ahead i (suc m) f
+  further i m (Some k) e (a, b, c, n) = (omega arith, omega arith, c, λ j l h d. not_here i j e (λ x u v w. n x u (omega arith) w) l d)
+  further i m None e n = λ j l h d. not_here i j e (λ x u v w. n x u (omega arith) w) l d
 
   ahead : (i m : ℕ) → Ahead i m (found_from test i m)
   unfolding found_from
   ahead i zero = λ j l h c. omega arith
   ahead i (suc m) = go (test i) refl (ahead (suc i) m)
     where
-      go : (b : Bool) → test i ≡ b → Ahead (suc i) m (found_from test (suc i) m) → Ahead i (suc m) (elim b [ true ↦ At i | false ↦ found_from test (suc i) m ])
-      go true e r = (omega arith, omega arith, claims_so i e, λ j l h c. omega arith)
+      go : (b : Bool) → test i ≡ b → Ahead (suc i) m (found_from test (suc i) m) → Ahead i (suc m) (elim b [ true ↦ Some i | false ↦ found_from test (suc i) m ])
+      go true e r = (omega arith, omega arith, claims_at i e, λ j l h c. omega arith)
       go false e r = further i m (found_from test (suc i) m) e r
 
-  ahead_finds : (f : Found) → Ahead 0 (records_held items) f → Finds text elements name items f
+  ahead_finds : (f : Option ℕ) → Ahead 0 (records_held items) f → Finds text elements name items f
   unfolding Finds
-  ahead_finds (At k) (a, b, c, n) = (omega arith, c, λ j l. n j (omega arith) (omega arith))
-  ahead_finds Nothing n = λ j l. n j (omega arith) (omega arith)
+  ahead_finds (Some k) (a, b, c, n) = (omega arith, c, λ j l. n j (omega arith) (omega arith))
+  ahead_finds None n = λ j l. n j (omega arith) (omega arith)
 
   pub finds_found : Finds text elements name items (found_of text elements name items)
   unfolding found_of
@@ -117,15 +116,15 @@ module _ (text elements name items : List ℕ) where
 
 pub one_answer : OneAnswer
 unfolding Finds
-one_answer text elements name items (At k) (At l) (p, c, n) (q, d, m) = go (ltb k l) (ltb l k) refl refl
+one_answer text elements name items (Some k) (Some l) (p, c, n) (q, d, m) = go (ltb k l) (ltb l k) refl refl
   where
-    go : (a b : Bool) → ltb k l ≡ a → ltb l k ≡ b → At k ≡ At l
+    go : (a b : Bool) → ltb k l ≡ a → ltb l k ≡ b → Some k ≡ Some l
     go true b u v = absurd (m k (ltb-true k l u) c)
     go false true u v = absurd (n l (ltb-true l k v) d)
-    go false false u v = let e : k ≡ l = omega (arith, ltb-false k l u, ltb-false l k v) in ap At e
-one_answer text elements name items (At k) Nothing (p, c, n) m = absurd (m k p c)
-one_answer text elements name items Nothing (At l) n (q, d, m) = absurd (n l q d)
-one_answer text elements name items Nothing Nothing n m = refl
+    go false false u v = let e : k ≡ l = omega (arith, ltb-false k l u, ltb-false l k v) in ap Some e
+one_answer text elements name items (Some k) None (p, c, n) m = absurd (m k p c)
+one_answer text elements name items None (Some l) n (q, d, m) = absurd (n l q d)
+one_answer text elements name items None None n m = refl
 
 pub outside_claims_nothing : OutsideClaimsNothing
 unfolding Claims
@@ -146,10 +145,10 @@ claims_same text elements name items others i p q c = rw (← p, ← q) c
 
 pub by_name_element : ByNameElement
 unfolding Finds
-by_name_element text elements name items others e h (At k) (l, c, n) = (
+by_name_element text elements name items others e h (Some k) (l, c, n) = (
   omega arith,
   claims_same text elements name items others k (h k).0 (h k).1 c,
   λ j u d. n j u (claims_same text elements name others items j (sym (h j).0) (sym (h j).1) d),
 )
-by_name_element text elements name items others e h Nothing n =
+by_name_element text elements name items others e h None n =
     λ j u d. n j (omega arith) (claims_same text elements name others items j (sym (h j).0) (sym (h j).1) d)

@@ -2,19 +2,21 @@
 use mathlib.Core.Path.{◌≡◌, refl, sym, ap, ◌∙◌}
 use mathlib.Core.Bool.{true, false}
 use mathlib.Core.List.{List, [], ◌∷◌}
-use Prim.Native.Nat.{ℕ, zero, suc, ◌+◌, ◌-◌, ◌*◌, ◌/◌, ◌≤◌, ◌<◌}
+use Prim.Native.Nat.{ℕ, zero, suc, ◌+◌, ◌*◌, ◌/◌, ◌<◌}
 use native.Mathlib.Nat.{not-suc-le-zero, le_of_suc-le-suc}
 use native.Mathlib.Omega.{arith}
 use borrow.Author.Tests.{lt-ltb}
 use lib.ListN.{length, get_or}
+use Rattle.std.specs.Prelude.{Option, Some, None, MatchOption}
+use Rattle.std.specs.List.{AllWithin, HoldsAt}
 use Rattle.records.specs.Records.{word_at}
 use Rattle.pieces.specs.Columns as column
 use Rattle.pieces.specs.Columns.{record_words}
-use Rattle.lookup.specs.Lookup.{claims_name, found_from, found_of}
+use Rattle.lookup.specs.Lookup.{claims_name}
 use Rattle.lookup.specs.Structs.{struct_words, no_item, claims_by}
 use Rattle.lookup.specs.declared.Item.{Item}
-use Rattle.lookup.specs.declared.Found.TheVariants.{At, Nothing}
-use Rattle.lookup.proofs.Laws.{found_start, found_hit, found_turn, found_end}
+use Rattle.lookup.specs.Finds.{Finds}
+use Rattle.lookup.proofs.Laws.{finds_by}
 
 words_length : (xs : List Item) → length (struct_words xs) ≡ record_words * length xs
 unfolding struct_words
@@ -47,9 +49,6 @@ unfolding struct_words
 name_first_lem x xs = refl
 
 module _ (text elements name : List ℕ) (xs : List Item) where
-  start_count : length xs ≡ length (struct_words xs) / record_words
-  start_count = sym (words_count xs)
-
   class_at_lem : (i : ℕ) → i < length xs → word_at (struct_words xs) i column.class ≡ (get_or xs i no_item).class
   unfolding word_at
   class_at_lem i h = rw (words_count xs, lt-ltb i (length xs) h) (word_at_lem 0 (λ (x : Item). x.class) class_first behind_first xs i h)
@@ -62,16 +61,16 @@ module _ (text elements name : List ℕ) (xs : List Item) where
   unfolding claims_by claims_name
   same_claim i h = rw (class_at_lem i h, name_at_lem i h)
 
-  pub items_start : found_from (claims_name text elements name (struct_words xs)) 0 (length xs - 0) ≡ found_of text elements name (struct_words xs)
-  items_start = found_start text elements name (struct_words xs) (length xs) start_count
-
-  module _ (i : ℕ) (so_far : found_from (claims_name text elements name (struct_words xs)) i (length xs - i) ≡ found_of text elements name (struct_words xs)) where
-    pub items_end : length xs ≤ i → Nothing ≡ found_of text elements name (struct_words xs)
-    items_end h = found_end (claims_name text elements name (struct_words xs)) (length xs) i (found_of text elements name (struct_words xs)) so_far h
-
-    pub items_hit : i < length xs → true ≡ claims_by text elements name (get_or xs i no_item) → At i ≡ found_of text elements name (struct_words xs)
-    items_hit h e = found_hit text elements name (struct_words xs) (length xs) i true (found_of text elements name (struct_words xs)) (e ∙ same_claim i h) h so_far refl
-
-    pub items_turn : i < length xs → false ≡ claims_by text elements name (get_or xs i no_item)
-        → found_from (claims_name text elements name (struct_words xs)) (i + 1) (length xs - (i + 1)) ≡ found_of text elements name (struct_words xs)
-    items_turn h e = found_turn text elements name (struct_words xs) (length xs) i false (found_of text elements name (struct_words xs)) (e ∙ same_claim i h) h so_far refl
+  -- the first item that claims the name, or none, by the test on each
+  pub finds_items : (r : Option ℕ)
+      → MatchOption r
+      (AllWithin (λ x. claims_by text elements name x ≡ false) xs 0 (length xs))
+      (λ i. (i < length xs) × HoldsAt (λ x. claims_by text elements name x ≡ true) xs i × AllWithin (λ x. claims_by text elements name x ≡ false) xs 0 i)
+      → Finds text elements name (struct_words xs) r
+  finds_items (Some i) h = finds_by text elements name (struct_words xs) (Some i) (
+    omega arith,
+    omega (arith, words_count xs),
+    sym (same_claim i h.0) ∙ h.1 no_item,
+    λ k l m. sym (same_claim k (omega arith)) ∙ h.2 k no_item l m,
+  )
+  finds_items None h = finds_by text elements name (struct_words xs) None (λ k l m. let within : k < length xs = omega (arith, words_count xs) in sym (same_claim k within) ∙ h k no_item l within)

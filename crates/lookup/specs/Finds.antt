@@ -1,14 +1,12 @@
 -- "a lookup by name gives the first item that claims it, or none, a record pointing outside the tables claiming nothing". The tables are of any
 -- content. Assumes nothing: these are definitions.
-use Rattle.std.specs.Prelude.{ℕ, ◌+◌, ◌/◌, ◌≤◌, ◌<◌, ◌≡◌, ◌⊎◌, true, false, List, length, take, drop}
+use Rattle.std.specs.Prelude.{ℕ, ◌+◌, ◌/◌, ◌≤◌, ◌<◌, ◌≡◌, ◌⊎◌, true, false, List, length, take, drop, Option, Some, None}
 use Rattle.places.specs.Places.{kind_column, first_column, size_column, rows_in, cell_at}
 use Rattle.same_names.specs.Spelling.{spelt}
 use Rattle.pieces.specs.Records.{record_words}
 use Rattle.records.specs.Records.{word_at, is_claim}
 use Rattle.pieces.specs.Columns as column
 use Rattle.places.specs.Kinds.{identifier_kind, extended_kind}
-use Rattle.lookup.specs.declared.Found.{Found}
-use Rattle.lookup.specs.declared.Found.TheVariants.{At, Nothing}
 
 -- how many records there are; of record i, its class and its name element
 abbrev pub records_held : List ℕ → ℕ
@@ -50,6 +48,6 @@ abbrev pub NoneOfFirst : List ℕ → List ℕ → List ℕ → List ℕ → ℕ
 NoneOfFirst text elements name items n = (j : ℕ) → j < n → Claims text elements name items j → ⊥
 
 -- what a lookup may answer: "the first item that claims it, or none"
-unfoldable pub Finds : List ℕ → List ℕ → List ℕ → List ℕ → Found → Type 0
-Finds text elements name items (At k) = (k < records_held items) × Claims text elements name items k × NoneOfFirst text elements name items k
-Finds text elements name items Nothing = NoneOfFirst text elements name items (records_held items)
+unfoldable pub Finds : List ℕ → List ℕ → List ℕ → List ℕ → Option ℕ → Type 0
+Finds text elements name items (Some k) = (k < records_held items) × Claims text elements name items k × NoneOfFirst text elements name items k
+Finds text elements name items None = NoneOfFirst text elements name items (records_held items)

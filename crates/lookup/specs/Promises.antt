@@ -1,13 +1,12 @@
 -- What a lookup promises beside its contract, as statements: proofs/Promises.antt proves each. Assumes nothing: these are definitions.
-use Rattle.std.specs.Prelude.{ℕ, ◌+◌, ◌≤◌, ◌<◌, ◌≡◌, ◌⊎◌, ◌↔◌, List, length}
+use Rattle.std.specs.Prelude.{ℕ, ◌+◌, ◌≤◌, ◌<◌, ◌≡◌, ◌⊎◌, ◌↔◌, List, length, Option}
 use Rattle.places.specs.Places.{rows_in}
 use Rattle.lookup.specs.Finds.{records_held, class_in, name_element, first_byte, size_in, Claims, Finds}
 use Rattle.lookup.specs.Lookup.{found_of}
-use Rattle.lookup.specs.declared.Found.{Found}
 
 -- Any two permitted answers coincide.
 abbrev pub OneAnswer : Type 0
-OneAnswer = (text elements name items : List ℕ) (x y : Found) → Finds text elements name items x → Finds text elements name items y → x ≡ y
+OneAnswer = (text elements name items : List ℕ) (x y : Option ℕ) → Finds text elements name items x → Finds text elements name items y → x ≡ y
 
 -- "a record pointing outside the tables claiming nothing": its name element has no row in the element table, or the row's bytes are not in the text.
 abbrev pub OutsideClaimsNothing : Type 0
@@ -21,8 +20,8 @@ abbrev pub ByNameElement : Type 0
 ByNameElement =
     (text elements name items others : List ℕ) → records_held items ≡ records_held others
     → ((i : ℕ) → (class_in items i ≡ class_in others i) × (name_element items i ≡ name_element others i))
-    → (x : Found) → Finds text elements name items x → Finds text elements name others x
+    → (x : Option ℕ) → Finds text elements name items x → Finds text elements name others x
 
 -- The answer is the one that the search over the records comes to.
 abbrev pub FoundExactly : Type 0
-FoundExactly = (text elements name items : List ℕ) (x : Found) → Finds text elements name items x ↔ (x ≡ found_of text elements name items)
+FoundExactly = (text elements name items : List ℕ) (x : Option ℕ) → Finds text elements name items x ↔ (x ≡ found_of text elements name items)

@@ -16,8 +16,7 @@ pub fn operand(v: Value) -> Outcome
     match v {
         Value::Number(z) => whole_leaf(z),
         Value::Truth(t) => truth_leaf(t),
-        Value::Range(_, _) => wrong_leaf(states::KIND),
-        Value::Truths => wrong_leaf(states::KIND),
+        Value::Range(_, _) | Value::Truths => wrong_leaf(states::KIND),
         Value::Without(s) => wrong_leaf(s),
     }
 }
@@ -27,8 +26,7 @@ fn mark_sort(v: Value) -> Sort
     ensures { result ≡ mark_sort v }
 {
     match v {
-        Value::Number(_) => Sort::Wrong(states::KIND),
-        Value::Truth(_) => Sort::Wrong(states::KIND),
+        Value::Number(_) | Value::Truth(_) => Sort::Wrong(states::KIND),
         Value::Range(_, _) => Sort::Of(Kind::Integer),
         Value::Truths => Sort::Of(Kind::Truth),
         Value::Without(s) => Sort::Wrong(s),
@@ -40,8 +38,7 @@ fn without(f: Folded) -> Value
     ensures { result ≡ without_of f }
 {
     match f {
-        Folded::Whole(_) => Value::Without(states::KIND),
-        Folded::Truth(_) => Value::Without(states::KIND),
+        Folded::Whole(_) | Folded::Truth(_) => Value::Without(states::KIND),
         Folded::Stopped(s) => Value::Without(s),
     }
 }
@@ -49,26 +46,20 @@ fn without(f: Folded) -> Value
 fn held(low: i32, high: i32, z: i32) -> Value
     ensures { result ≡ held_by low high z }
 {
-    if low <= z {
-        if z <= high {
-            return Value::Number(z);
-        }
-        return Value::Without(states::RANGE);
+    if (low..=high).contains(&z) {
+        Value::Number(z)
+    } else {
+        Value::Without(states::RANGE)
     }
-    Value::Without(states::RANGE)
 }
 
 // An initial value's folded answer, or the state that its sort has beside the mark's.
 fn beside_mark(mark: Value, x: Outcome) -> Folded
     ensures { result ≡ beside_mark mark x }
 {
-    let value_sort = x.sort;
-    let folded = x.folded;
-    let asked = mark_sort(mark);
-    let sort = sorted(Operator::Relation(Relation::Equal), asked, value_sort);
     settled(Outcome {
-        sort: sort,
-        folded: folded,
+        sort: sorted(Operator::Relation(Relation::Equal), mark_sort(mark), x.sort),
+        folded: x.folded,
     })
 }
 
@@ -78,8 +69,6 @@ pub fn constant_value(mark: Value, x: Outcome) -> Value
 {
     let answer = beside_mark(mark, x);
     match mark {
-        Value::Number(_) => without(answer),
-        Value::Truth(_) => without(answer),
         Value::Range(low, high) => {
             let Folded::Whole(z) = answer else {
                 return without(answer);
@@ -92,7 +81,7 @@ pub fn constant_value(mark: Value, x: Outcome) -> Value
             };
             Value::Truth(t)
         }
-        Value::Without(_) => without(answer),
+        Value::Number(_) | Value::Truth(_) | Value::Without(_) => without(answer),
     }
 }
 
@@ -101,11 +90,8 @@ pub fn subtype_value(mark: Value) -> Value
     ensures { result ≡ subtype_of mark }
 {
     match mark {
-        Value::Number(_) => Value::Without(states::KIND),
-        Value::Truth(_) => Value::Without(states::KIND),
-        Value::Range(low, high) => Value::Range(low, high),
-        Value::Truths => Value::Truths,
-        Value::Without(s) => Value::Without(s),
+        Value::Number(_) | Value::Truth(_) => Value::Without(states::KIND),
+        Value::Range(_, _) | Value::Truths | Value::Without(_) => mark,
     }
 }
 
@@ -113,44 +99,34 @@ pub fn subtype_value(mark: Value) -> Value
 fn first_bound(mark: Value, a: Outcome, b: Outcome) -> Folded
     ensures { result ≡ first_bound mark a b }
 {
-    let first_sort = a.sort;
-    let folded = a.folded;
-    let second_sort = b.sort;
-    let asked = mark_sort(mark);
-    let bounds = sorted(
-        Operator::Arithmetic(Arithmetic::Add),
-        first_sort,
-        second_sort,
-    );
-    let sort = sorted(Operator::Arithmetic(Arithmetic::Add), asked, bounds);
+    let bounds = sorted(Operator::Arithmetic(Arithmetic::Add), a.sort, b.sort);
     settled(Outcome {
-        sort: sort,
-        folded: folded,
+        sort: sorted(
+            Operator::Arithmetic(Arithmetic::Add),
+            mark_sort(mark),
+            bounds,
+        ),
+        folded: a.folded,
     })
 }
 
 fn inside(mark: Value, low: i32, high: i32) -> Value
     ensures { result ≡ inside_of mark low high }
 {
-    let Value::Range(least, most) = mark else {
-        return Value::Without(states::RANGE);
-    };
-    if least <= low {
-        if high <= most {
-            return Value::Range(low, high);
-        }
-        return Value::Without(states::RANGE);
+    match mark {
+        Value::Range(least, most) if least <= low && high <= most => Value::Range(low, high),
+        _ => Value::Without(states::RANGE),
     }
-    Value::Without(states::RANGE)
 }
 
 fn range_in(mark: Value, low: i32, high: i32) -> Value
     ensures { result ≡ range_under mark low high }
 {
     if high < low {
-        return Value::Range(low, high);
+        Value::Range(low, high)
+    } else {
+        inside(mark, low, high)
     }
-    inside(mark, low, high)
 }
 
 // A subtype's value by its mark and the bounds of its range.

@@ -7,6 +7,7 @@ use native.Mathlib.Omega.{arith}
 use borrow.Author.Tests.{ltb-true, ltb-false, eqb-false, ne_eqb, le-leb, lt-leb, not-true}
 use lib.Dec.{eqb, ltb, leb}
 use lib.ListN.{length, get_or, take}
+use Rattle.std.specs.Prelude.{Option, None}
 use Rattle.laws.proofs.Laws.{both_left, both_right}
 use Rattle.same_names.specs.Alike.{same_name, spelled_as}
 use Rattle.places.specs.Places.{cell_at}
@@ -17,8 +18,6 @@ use Rattle.element_reading.proofs.Promises.{stand_in_order}
 use Rattle.pieces.specs.Kinds.{piece_class}
 use Rattle.pieces.specs.Records.{name_of}
 use Rattle.pairs.specs.code.Pairs.{later_of, pair_from}
-use Rattle.pairs.specs.declared.Pair.{Pair}
-use Rattle.pairs.specs.declared.Pair.TheVariants.{Neither}
 use Rattle.records.specs.Records.{word_at, is_claim}
 use Rattle.records.specs.Counting.{one_if}
 use Rattle.names.specs.Language.{language_names}
@@ -224,12 +223,12 @@ module _ (ds cs : List Done) (y v : ℕ) (one : pieces_done ds ≡ pieces_done c
 
 -- ---- where no record has a twin, no pair shares a name
 
-later_none : (f : ℕ → ℕ → Bool) (i j m : ℕ) (o : Pair) → ((b : ℕ) → j ≤ b → b < j + m → f i b ≡ false) → later_of f i j m o ≡ o
+later_none : (f : ℕ → ℕ → Bool) (i j m : ℕ) (o : Option (ℕ × ℕ)) → ((b : ℕ) → j ≤ b → b < j + m → f i b ≡ false) → later_of f i j m o ≡ o
 unfolding later_of
 later_none f i j zero o h = refl
 later_none f i j (suc m) o h = rw (h j (omega arith) (omega arith), later_of) (later_none f i (suc j) m o (λ b l g. h b (omega arith) (omega arith)))
 
-pair_none : (f : ℕ → ℕ → Bool) (i m : ℕ) → ((a b : ℕ) → i ≤ a → a < b → b < i + m → f a b ≡ false) → pair_from f i m ≡ Neither
+pair_none : (f : ℕ → ℕ → Bool) (i m : ℕ) → ((a b : ℕ) → i ≤ a → a < b → b < i + m → f a b ≡ false) → pair_from f i m ≡ None
 unfolding pair_from
 pair_none f i zero h = refl
 pair_none f i (suc m) h =

@@ -10,8 +10,11 @@ use borrow.Author.Tests.{eqb-true, eqb-false, eq-eqb, ne_eqb}
 use lib.Dec.{eqb}
 use lib.ListN.{length, get_or, replicate, take, drop, length-append, length-replicate}
 use lib.Seq.{split_at}
+use Rattle.std.specs.Prelude.{Option, Some, None}
+use Rattle.std.specs.Option.{is_some}
 use Rattle.laws.proofs.Laws.{both_left, both_right}
 use Rattle.places.specs.Places.{rows_in}
+use Rattle.places.specs.declared.ElementNumber.{ElementNumber}
 use Rattle.same_names.specs.Alike.{same_name}
 use Rattle.element_reading.specs.Rows.{rows_of}
 use Rattle.element_reading.specs.Table.{cells}
@@ -21,7 +24,7 @@ use Rattle.pieces.specs.Classes.{is_either}
 use Rattle.pieces.specs.Kinds.{piece_class, is_heading, is_closing, ends_at, has_name, behind_word, claim_class, class_at}
 use Rattle.places.specs.Kinds.{is_name}
 use Rattle.pieces.specs.Records.{name_of, pieces_in}
-use Rattle.pieces.specs.Frames.{framed, unframed, last_framed, framed_from, frame_of}
+use Rattle.pieces.specs.Frames.{closing_name, framed, unframed, last_framed, framed_from, frame_of}
 use Rattle.pieces.specs.declared.Frame.{Frame}
 use Rattle.records.specs.Frames.{name_agrees, good_in, frame_good}
 use Rattle.meaning.specs.Elements.{Element, Piece, at}
@@ -39,22 +42,22 @@ abbrev Others : List Piece → ℕ → Type 0
 Others ps n = (i : ℕ) → i < n → is_either (class_of (piece_at ps i)) ≡ false
 
 -- the last of them is a closing, and no other is a heading or a closing
-ended : (name from : ℕ) (ps : List Piece) (n : ℕ) → length ps ≡ suc n → (framed_from name from (kinds_each ps)).good ≡ true
+ended : (name from : ℕ) (ps : List Piece) (n : ℕ) → length ps ≡ suc n → is_some (framed_from name from (kinds_each ps)) ≡ true
     → (class_of (piece_at ps n) ≡ class.closing) × Others ps n
 unfolding kinds_each framed_from last_framed
 ended name from [] n e h = absurd (omega arith)
 ended name from (p ∷ []) (suc n) e h = absurd (omega arith)
 ended name from (p ∷ []) zero e h = (go (eqb (class_of p) class.closing) refl h, λ i l. absurd (omega arith))
   where
-    go : (b : Bool) → eqb (class_of p) class.closing ≡ b → (cond b (framed name (name_of from (name_place p))) unframed).good ≡ true → class_of p ≡ class.closing
+    go : (b : Bool) → eqb (class_of p) class.closing ≡ b → is_some (cond b (framed name (closing_name from (name_place p))) unframed) ≡ true → class_of p ≡ class.closing
     go true q k = eqb-true (class_of p) class.closing q
     go false q k = absurd (false≢true k)
 ended name from (p ∷ (q ∷ ps)) zero e h = absurd (omega arith)
 ended name from (p ∷ (q ∷ ps)) (suc n) e h = go (is_either (class_of p)) refl (λ k. ended name (from + length (kinds_in_piece p)) (q ∷ ps) n (omega arith) k) h
   where
     go : (b : Bool) → is_either (class_of p) ≡ b
-        → ((framed_from name (from + length (kinds_in_piece p)) (kinds_each (q ∷ ps))).good ≡ true → (class_of (piece_at (q ∷ ps) n) ≡ class.closing) × Others (q ∷ ps) n)
-        → (cond b unframed (framed_from name (from + length (kinds_in_piece p)) (kinds_each (q ∷ ps)))).good ≡ true
+        → (is_some (framed_from name (from + length (kinds_in_piece p)) (kinds_each (q ∷ ps))) ≡ true → (class_of (piece_at (q ∷ ps) n) ≡ class.closing) × Others (q ∷ ps) n)
+        → is_some (cond b unframed (framed_from name (from + length (kinds_in_piece p)) (kinds_each (q ∷ ps)))) ≡ true
         → (class_of (piece_at (q ∷ ps) n) ≡ class.closing) × Others (p ∷ (q ∷ ps)) (suc n)
     go true u again k = absurd (false≢true k)
     go false u again k = let r = again k in (r.0, each r.1)
@@ -64,7 +67,7 @@ ended name from (p ∷ (q ∷ ps)) (suc n) e h = go (is_either (class_of p)) ref
         each f (suc i) l = f i (omega arith)
 
 ends : (name from : ℕ) (ps : List Piece) (n : ℕ) → length ps ≡ suc n → class_of (piece_at ps n) ≡ class.closing → Others ps n
-    → framed_from name from (kinds_each ps) ≡ framed name (name_of (from + total (take n ps)) (name_place (piece_at ps n)))
+    → framed_from name from (kinds_each ps) ≡ framed name (closing_name (from + total (take n ps)) (name_place (piece_at ps n)))
 unfolding kinds_each framed_from last_framed total
 ends name from [] n e c o = absurd (omega arith)
 ends name from (p ∷ []) (suc n) e c o = absurd (omega arith)
@@ -73,7 +76,7 @@ ends name from (p ∷ (q ∷ ps)) zero e c o = absurd (omega arith)
 ends name from (p ∷ (q ∷ ps)) (suc n) e c o =
     ap (λ (b : Bool). cond b unframed (framed_from name (from + length (kinds_in_piece p)) (kinds_each (q ∷ ps)))) (o 0 (omega arith))
     ∙ ends name (from + length (kinds_in_piece p)) (q ∷ ps) n (omega arith) c (λ i l. o (suc i) (omega arith))
-    ∙ ap (λ (k : ℕ). framed name (name_of k (name_place (piece_at (q ∷ ps) n))))
+    ∙ ap (λ (k : ℕ). framed name (closing_name k (name_place (piece_at (q ∷ ps) n))))
     (ap (λ (k : ℕ). from + k + total (take n (q ∷ ps))) (kinds_length p) ∙ add_assoc from (length p) (total (take n (q ∷ ps))))
 
 -- where a heading's and a closing's name stand
@@ -132,15 +135,12 @@ module _ (s t : List ℕ) where
   abbrev NamesAgree : List Piece → Type 0
   NamesAgree ps =
       (n : ℕ) → length ps ≡ suc n → 1 ≤ n → class_of (piece_at ps 0) ≡ class.heading → class_of (piece_at ps n) ≡ class.closing
-      → (name_agrees s t (name_of 0 (name_place (piece_at ps 0))) (name_of (total (take n ps)) (name_place (piece_at ps n))) ≡ true) ↔ Agrees (piece_at ps 0) (piece_at ps n)
+      → (name_agrees s t (name_of 0 (name_place (piece_at ps 0))) (closing_name (total (take n ps)) (name_place (piece_at ps n))) ≡ true) ↔ Agrees (piece_at ps 0) (piece_at ps n)
 
-  good_of : (f : Frame) → good_in s t f ≡ true → f.good ≡ true
+  good_of : (f : Option Frame) → good_in s t f ≡ true → is_some f ≡ true
   unfolding good_in
-  good_of f = go f.good
-    where
-      go : (b : Bool) → cond b (name_agrees s t f.heading.0 f.closing.0) false ≡ true → b ≡ true
-      go true h = refl
-      go false h = h
+  good_of (Some f) h = refl
+  good_of None h = h
 
   none_good : good_in s t unframed ≡ true → ⊥
   unfolding good_in
@@ -157,20 +157,20 @@ module _ (s t : List ℕ) where
     last_one : length all - 1 ≡ n
     last_one = omega arith
 
-    abbrev rest : Frame
+    abbrev rest : Option Frame
     rest = framed_from (name_of 0 (name_place p)) (length (kinds_in_piece p)) (kinds_each (q ∷ ps))
 
-    rest_is : class_of (piece_at all n) ≡ class.closing → Others (q ∷ ps) (length ps) → rest ≡ framed (name_of 0 (name_place p)) (name_of (total (take n all)) (name_place (piece_at all n)))
+    rest_is : class_of (piece_at all n) ≡ class.closing → Others (q ∷ ps) (length ps) → rest ≡ framed (name_of 0 (name_place p)) (closing_name (total (take n all)) (name_place (piece_at all n)))
     unfolding total
     rest_is c o =
         ends (name_of 0 (name_place p)) (length (kinds_in_piece p)) (q ∷ ps) (length ps) refl c o
-        ∙ ap (λ (k : ℕ). framed (name_of 0 (name_place p)) (name_of (k + total (take (length ps) (q ∷ ps))) (name_place (piece_at all n)))) (kinds_length p)
+        ∙ ap (λ (k : ℕ). framed (name_of 0 (name_place p)) (closing_name (k + total (take (length ps) (q ∷ ps))) (name_place (piece_at all n)))) (kinds_length p)
 
     headed : class_of p ≡ class.heading → good_in s t rest ≡ true → GoodFrame all
     unfolding good_in
     headed a g =
         let r = ended (name_of 0 (name_place p)) (length (kinds_in_piece p)) (q ∷ ps) (length ps) refl (good_of rest g) in
-        let k = (agree n refl (omega arith) a r.0).0 (subst (λ (f : Frame). good_in s t f ≡ true) (rest_is r.0 r.1) g) in
+        let k = (agree n refl (omega arith) a r.0).0 (subst (λ (f : Option Frame). good_in s t f ≡ true) (rest_is r.0 r.1) g) in
         record {
           first = a;
           last = subst (λ (i : ℕ). class_of (piece_at all i) ≡ class.closing) (sym last_one) r.0;
@@ -187,7 +187,7 @@ module _ (s t : List ℕ) where
     heads g =
         let c : class_of (piece_at all n) ≡ class.closing = subst (λ (i : ℕ). class_of (piece_at all i) ≡ class.closing) last_one g.last in
         let o : Others (q ∷ ps) (length ps) = λ i l. g.others (suc i) (omega arith) (omega (arith, last_one)) in
-        subst (λ (f : Frame). good_in s t f ≡ true) (sym (rest_is c o))
+        subst (λ (f : Option Frame). good_in s t f ≡ true) (sym (rest_is c o))
         ((agree n refl (omega arith) g.first c).1 (subst (λ (i : ℕ). Agrees p (piece_at all i)) last_one g.agrees))
 
   there : (ps : List Piece) → NamesAgree ps → good_in s t (frame_of (kinds_each ps)) ≡ true → GoodFrame ps
@@ -237,8 +237,8 @@ module _ (s : List ℕ) (z : ℕ) where
     abbrev hn : ℕ
     hn = name_of 0 (name_place h)
 
-    abbrev cn : ℕ
-    cn = name_of (total (take n ps)) (name_place c)
+    abbrev cn : Option ElementNumber
+    cn = closing_name (total (take n ps)) (name_place c)
 
     head_name : at (elements s) hn ≡ at h (name_place h)
     unfolding name_of total
@@ -246,20 +246,20 @@ module _ (s : List ℕ) (z : ℕ) where
         let q = heading_place (kinds_in_piece h) a in
         ap (λ (k : ℕ). at (elements s) (name_of 0 k)) q.0 ∙ element_here 0 1 (omega arith) q.1 ∙ ap (at h) (sym q.0)
 
-    last_place : eqb (name_place c) 0 ≡ false → cn ≡ total (take n ps) + name_place c
-    unfolding name_of
+    last_place : eqb (name_place c) 0 ≡ false → cn ≡ Some (record { 0 = total (take n ps) + name_place c })
+    unfolding closing_name
     last_place q = rw q
 
-    last_none : eqb (name_place c) 0 ≡ true → cn ≡ 0
-    unfolding name_of
+    last_none : eqb (name_place c) 0 ≡ true → cn ≡ None
+    unfolding closing_name
     last_none q = rw q
 
-    last_name : eqb (name_place c) 0 ≡ false → at (elements s) cn ≡ at c (name_place c)
+    last_name : eqb (name_place c) 0 ≡ false → at (elements s) (total (take n ps) + name_place c) ≡ at c (name_place c)
     last_name q = go (closing_place (kinds_in_piece c) b)
       where
-        go : (name_place c ≡ 0) ⊎ (is_name (get_or (kinds_in_piece c) (name_place c) 0) ≡ true) → at (elements s) cn ≡ at c (name_place c)
+        go : (name_place c ≡ 0) ⊎ (is_name (get_or (kinds_in_piece c) (name_place c) 0) ≡ true) → at (elements s) (total (take n ps) + name_place c) ≡ at c (name_place c)
         go (inl k) = absurd (eqb-false (name_place c) 0 q k)
-        go (inr k) = ap (at (elements s)) (last_place q) ∙ element_here n (name_place c) (omega arith) k
+        go (inr k) = element_here n (name_place c) (omega arith) k
 
     agrees_is : (name_agrees s (table_of s z) hn cn ≡ true) ↔ Agrees h c
     unfolding name_agrees
@@ -269,9 +269,9 @@ module _ (s : List ℕ) (z : ℕ) where
         go true q = ((λ x. inl (eqb-true (name_place c) 0 q)), λ x. rw (last_none q))
         go false q =
             let k = eqb-false (name_place c) 0 q in
-            let far : eqb cn 0 ≡ false = ne_eqb cn 0 (λ u. k (omega (arith, last_place q))) in
-            let same : same_name s (table_of s z) hn cn ≡ same_as (at h (name_place h)) (at c (name_place c)) = same_name_lem s z hn cn ∙ ap₂ same_as head_name (last_name q) in
-            ((λ x. inr (sym same ∙ rw far at x)), λ x. rw far (same ∙ agree k x))
+            let named = total (take n ps) + name_place c in
+            let same : same_name s (table_of s z) hn named ≡ same_as (at h (name_place h)) (at c (name_place c)) = same_name_lem s z hn named ∙ ap₂ same_as head_name (last_name q) in
+            ((λ x. inr (sym same ∙ rw (last_place q) at x)), λ x. rw (last_place q) (same ∙ agree k x))
           where
             agree : (name_place c ≡ 0 → ⊥) → Agrees h c → same_as (at h (name_place h)) (at c (name_place c)) ≡ true
             agree k (inl x) = absurd (k x)

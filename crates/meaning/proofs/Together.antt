@@ -7,13 +7,12 @@ use native.Mathlib.Omega.{arith}
 use borrow.Author.Tests.{eqb-true, eqb-false, eq-eqb, ne_eqb, ltb-true, ltb-false}
 use lib.Dec.{eqb, ltb}
 use lib.ListN.{length, length-append}
+use Rattle.std.specs.Prelude.{Option, Some, None}
 use Rattle.laws.proofs.Laws.{both_right}
 use Rattle.records.specs.Records.{word_at, is_item, is_claim}
 use Rattle.records.specs.Tallies.{in_state}
 use Rattle.records.specs.Counting.{one_if}
 use Rattle.pairs.specs.code.Pairs.{later_of, pair_from}
-use Rattle.pairs.specs.declared.Pair.{Pair}
-use Rattle.pairs.specs.declared.Pair.TheVariants.{Both, Neither}
 use Rattle.names.specs.code.Names.{share, shared_pair}
 use Rattle.values.specs.ValueWords.{state_of}
 use Rattle.pieces.specs.Columns as column
@@ -86,14 +85,14 @@ none_folds (d ∷ ds) n h = (zero_here, none_folds ds n.1 (λ k a b. omega (arit
 
 module _ (f : ℕ → ℕ → Bool) (n : ℕ) where
   -- of the pairs below n whose earlier one is not below lo
-  data FirstFrom (lo : ℕ) : Pair → Type 0 where
-    found : {i j : ℕ} → lo ≤ i → i < j → j < n → f i j ≡ true → ((a b : ℕ) → lo ≤ a → a < b → b < n → f a b ≡ true → (i ≤ a) × (a ≡ i → j ≤ b)) → FirstFrom lo (Both i j)
-    nowhere : ((a b : ℕ) → lo ≤ a → a < b → b < n → f a b ≡ true → ⊥) → FirstFrom lo Neither
+  data FirstFrom (lo : ℕ) : Option (ℕ × ℕ) → Type 0 where
+    found : {i j : ℕ} → lo ≤ i → i < j → j < n → f i j ≡ true → ((a b : ℕ) → lo ≤ a → a < b → b < n → f a b ≡ true → (i ≤ a) × (a ≡ i → j ≤ b)) → FirstFrom lo (Some (i, j))
+    nowhere : ((a b : ℕ) → lo ≤ a → a < b → b < n → f a b ≡ true → ⊥) → FirstFrom lo None
 
   never : (b : Bool) → b ≡ false → b ≡ true → ⊥
   never b p q = false≢true (sym p ∙ q)
 
-  widen : (i : ℕ) {o : Pair} → ((b : ℕ) → i < b → b < n → f i b ≡ false) → FirstFrom (suc i) o → FirstFrom i o
+  widen : (i : ℕ) {o : Option (ℕ × ℕ)} → ((b : ℕ) → i < b → b < n → f i b ≡ false) → FirstFrom (suc i) o → FirstFrom i o
   widen i none (found {i = k} {j = j} l m h t least) = found {i = k} {j = j} (omega arith) m h t below
     where
       below : (a b : ℕ) → i ≤ a → a < b → b < n → f a b ≡ true → (k ≤ a) × (a ≡ k → j ≤ b)
@@ -111,7 +110,7 @@ module _ (f : ℕ → ℕ → Bool) (n : ℕ) where
           go true e = let q = eqb-true a i e in never (f i b) (none b (omega arith) z) (subst (λ (v : ℕ). f v b ≡ true) q w)
           go false e = let q = eqb-false a i e in least a b (omega arith) y z w
 
-  later_first : (i j m : ℕ) (o : Pair) → n ≡ j + m → i < j → ((b : ℕ) → i < b → b < j → f i b ≡ false) → FirstFrom (suc i) o → FirstFrom i (later_of f i j m o)
+  later_first : (i j m : ℕ) (o : Option (ℕ × ℕ)) → n ≡ j + m → i < j → ((b : ℕ) → i < b → b < j → f i b ≡ false) → FirstFrom (suc i) o → FirstFrom i (later_of f i j m o)
   unfolding later_of
   later_first i j zero o e l none h = widen i (λ b x y. none b x (omega arith)) h
   later_first i j (suc m) o e l none h = go (f i j) refl (λ q. later_first i (suc j) m o (omega arith) (omega arith) q h)
@@ -148,18 +147,18 @@ shares_inside ps a b h = go (ltb b (length ps)) refl
         let k = both_right (is_claim (class_of (piece_at ps a))) (claims (own_name (piece_at ps a)) (piece_at ps b)) (sym (shares_one ps a b) ∙ h) in
         absurd (false≢true (sym (none_claims (own_name (piece_at ps a))) ∙ ap (claims (own_name (piece_at ps a))) (sym (past_end ps b (ltb-false b (length ps) e))) ∙ k))
 
-first_of_lem : (ps : List Piece) (o : Pair) → FirstFrom (shares ps) (length ps) 0 o → FirstPair ps o
+first_of_lem : (ps : List Piece) (o : Option (ℕ × ℕ)) → FirstFrom (shares ps) (length ps) 0 o → FirstPair ps o
 first_of_lem ps o (found l m h t least) = both m t (λ a b x w. least a b (omega arith) x (shares_inside ps a b w) w)
 first_of_lem ps o (nowhere none) = neither (λ a b x w. none a b (omega arith) x (shares_inside ps a b w) w)
 
 -- at most one pair is the first
-pub one_pair : (ps : List Piece) (o q : Pair) → FirstPair ps o → FirstPair ps q → o ≡ q
+pub one_pair : (ps : List Piece) (o q : Option (ℕ × ℕ)) → FirstPair ps o → FirstPair ps q → o ≡ q
 one_pair ps o q (both {i = i} {j = j} l t least) (both {i = a} {j = b} m u other) =
     let x = least a b m u in
     let y = other i j l t in
     let z : i ≡ a = omega (arith, x.0, y.0) in
     let w : j ≡ b = omega (arith, x.1 (sym z), y.1 z) in
-    ap₂ Both z w
+    cc
 one_pair ps o q (both {i = i} {j = j} l t least) (neither none) = absurd (none i j l t)
 one_pair ps o q (neither none) (both {i = i} {j = j} l t least) = absurd (none i j l t)
 one_pair ps o q (neither none) (neither other) = refl

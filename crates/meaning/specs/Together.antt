@@ -1,13 +1,11 @@
 -- What the pieces of a package say together: frame, first pair, tally and whole (01, "Pieces, items, states"). Nothing here speaks of records.
 -- Assumes nothing: these are definitions.
-use Rattle.std.specs.Prelude.{ℕ, ◌+◌, ◌-◌, ◌≤◌, ◌<◌, ◌≡◌, ◌⊎◌, Bool, true, false, ◌&&◌, ◌||◌, List, [], ◌∷◌, eqb, length, get_or}
+use Rattle.std.specs.Prelude.{ℕ, ◌+◌, ◌-◌, ◌≤◌, ◌<◌, ◌≡◌, ◌⊎◌, Bool, true, false, ◌&&◌, ◌||◌, List, [], ◌∷◌, eqb, length, get_or, Option, Some, None}
 use Rattle.pieces.specs.Kinds as pieces
 use Rattle.pieces.specs.Classes as class
 use Rattle.pieces.specs.Classes.{is_either}
 use Rattle.records.specs.Records.{is_item}
 use Rattle.records.specs.Counting.{one_if}
-use Rattle.pairs.specs.declared.Pair.{Pair}
-use Rattle.pairs.specs.declared.Pair.TheVariants.{Both, Neither}
 use Rattle.values.specs.ValueWords.{state_of}
 use Rattle.meaning.specs.Elements.{Element, Piece, at}
 use Rattle.meaning.specs.Pieces.{kinds_in_piece, class_of}
@@ -41,9 +39,9 @@ abbrev pub shares : List Piece → ℕ → ℕ → Bool
 shares ps i j = claims_one_of (names_claimed (piece_at ps i)) (piece_at ps j)
 
 -- "the first pair of own items that share a name: smallest earlier piece, then smallest later"
-pub data FirstPair (ps : List Piece) : Pair → Type 0 where
-  both : {i j : ℕ} → i < j → shares ps i j ≡ true → ((a b : ℕ) → a < b → shares ps a b ≡ true → (i ≤ a) × (a ≡ i → j ≤ b)) → FirstPair ps (Both i j)
-  neither : ((a b : ℕ) → a < b → shares ps a b ≡ true → ⊥) → FirstPair ps Neither
+pub data FirstPair (ps : List Piece) : Option (ℕ × ℕ) → Type 0 where
+  both : {i j : ℕ} → i < j → shares ps i j ≡ true → ((a b : ℕ) → a < b → shares ps a b ≡ true → (i ≤ a) × (a ≡ i → j ≤ b)) → FirstPair ps (Some (i, j))
+  neither : ((a b : ℕ) → a < b → shares ps a b ≡ true → ⊥) → FirstPair ps None
 
 -- "a tally of items by state": how many items are in a state
 unfoldable pub count_in : ℕ → List Done → ℕ

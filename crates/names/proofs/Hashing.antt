@@ -5,7 +5,8 @@ use mathlib.Core.List.{List}
 use Prim.Native.Nat.{ℕ, zero, suc, ◌+◌, ◌-◌, ◌/◌, ◌≤◌, ◌<◌}
 use native.Mathlib.Omega.{arith}
 use lib.Dec.{eqb}
-use lib.ListN.{length, get_or}
+use lib.ListN.{length, get_or, take, drop}
+use Rattle.std.proofs.lemmas.List.{length-take, length-drop, get_or-take, get_or-drop}
 use borrow.Author.Tests.{le-leb, leb-true}
 use Rattle.same_names.specs.Alike.{agree, same_name}
 use Rattle.same_names.specs.Spelling.{counts, by_kind}
@@ -68,6 +69,14 @@ same_bucket s l a b h =
     let z : hash_from o.basic s (cell_at l a 1) (cell_at l a 2) 0 ≡ hash_from o.basic s (cell_at l b 1) (cell_at l a 2) 0 =
     hash_agrees o.basic s (cell_at l a 1) (cell_at l b 1) (cell_at l a 2) 0 o.agrees in
     rw (le-leb (cell_at l a 1 + cell_at l a 2) (length s) o.first_in, le-leb (cell_at l b 1 + cell_at l b 2) (length s) o.second_in, ← o.kinds, ← o.sizes, ← k) (ap chain_of z)
+
+-- the part of the text that is hashed: its length, and its bytes
+module _ (s : List ℕ) (x n : ℕ) (inside : x + n ≤ length s) where
+  pub part_long : length (take (x + n - x) (drop x s)) ≡ n
+  part_long = simp (length-take, length-drop) (omega arith)
+
+  pub part_at : (i : ℕ) → i < n → get_or (take (x + n - x) (drop x s)) i 0 ≡ get_or s (x + i) 0
+  part_at i l = get_or-take (x + n - x) (drop x s) i 0 (omega arith) ∙ get_or-drop x s i 0
 
 -- bytes that stand in the text
 pub stands_in : (s : List ℕ) (x n : ℕ) (t : Bool) → t ≡ within s x n → t ≡ true → x + n ≤ length s

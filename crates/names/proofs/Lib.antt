@@ -1,5 +1,6 @@
 pub mod Firsts
 pub mod Tables
+pub mod Copying
 pub mod Hashing
 pub mod Chaining
 pub mod Owning

@@ -8,18 +8,17 @@ use native.Mathlib.Omega.{arith}
 use lib.Dec.{eqb}
 use lib.ListN.{length, get_or}
 use borrow.Author.Tests.{eqb-true, eqb-false, eq-eqb, ne_eqb, not-true}
+use Rattle.std.specs.Prelude.{Option, Some, None}
 use Rattle.laws.proofs.Laws.{both_left, both_right}
 use Rattle.pairs.specs.code.Pairs.{same_number, later_of, pair_from, pair_of}
-use Rattle.pairs.specs.declared.Pair.{Pair}
-use Rattle.pairs.specs.declared.Pair.TheVariants.{Both, Neither}
 use Rattle.names.specs.code.Names.{share, shared_pair}
 use Rattle.names.specs.code.Links.{records_in, own_of, another, twin_of, any_twin, owns_table}
 use Rattle.names.proofs.Firsts.{any_at}
 use Rattle.names.proofs.Tables.{filled_length, filled_at}
 use Rattle.names.proofs.Owning.{shared_owns, owns_shared}
 
-module _ (s : ℕ → ℕ → Bool) (i j m : ℕ) (other : Pair) where
-  hit : s i j ≡ true → later_of s i j (suc m) other ≡ Both i j
+module _ (s : ℕ → ℕ → Bool) (i j m : ℕ) (other : Option (ℕ × ℕ)) where
+  hit : s i j ≡ true → later_of s i j (suc m) other ≡ Some (i, j)
   unfolding later_of
   hit e = rw (e, later_of)
 
@@ -29,7 +28,7 @@ module _ (s : ℕ → ℕ → Bool) (i j m : ℕ) (other : Pair) where
 
 -- two tests that agree below n have one first pair
 module _ (s t : ℕ → ℕ → Bool) (n : ℕ) (same : (i j : ℕ) → i < n → j < n → s i j ≡ t i j) where
-  later_same : (i j m : ℕ) (other : Pair) → i < n → j + m ≤ n → later_of s i j m other ≡ later_of t i j m other
+  later_same : (i j m : ℕ) (other : Option (ℕ × ℕ)) → i < n → j + m ≤ n → later_of s i j m other ≡ later_of t i j m other
   unfolding later_of
   later_same i j zero other a b = refl
   later_same i j (suc m) other a b = go (t i j) refl (same i j a (omega arith)) (later_same i (suc j) m other a (omega arith))
@@ -46,12 +45,12 @@ module _ (s t : ℕ → ℕ → Bool) (n : ℕ) (same : (i j : ℕ) → i < n �
 
 -- a test that none passes has no pair
 module _ (s : ℕ → ℕ → Bool) (n : ℕ) (none : (i j : ℕ) → i < j → j < n → s i j ≡ false) where
-  later_none : (i j m : ℕ) (other : Pair) → i < j → j + m ≤ n → later_of s i j m other ≡ other
+  later_none : (i j m : ℕ) (other : Option (ℕ × ℕ)) → i < j → j + m ≤ n → later_of s i j m other ≡ other
   unfolding later_of
   later_none i j zero other a b = refl
   later_none i j (suc m) other a b = miss s i j m other (none i j a (omega arith)) ∙ later_none i (suc j) m other (omega arith) (omega arith)
 
-  pair_none : (i m : ℕ) → i + m ≤ n → pair_from s i m ≡ Neither
+  pair_none : (i m : ℕ) → i + m ≤ n → pair_from s i m ≡ None
   unfolding pair_from
   pair_none i zero b = refl
   pair_none i (suc m) b = later_none i (suc i) m (pair_from s (suc i) m) (omega arith) (omega arith) ∙ pair_none (suc i) m (omega arith)
@@ -97,7 +96,7 @@ module _ (text table items : List ℕ) where
         agree i j a b = rw (word i a, word j b) (numbers_share i j (omega arith))
 
     -- no name is claimed twice: there is no such pair
-    pub none_shared : any_twin text table items ≡ false → shared_pair text table items n ≡ Neither
+    pub none_shared : any_twin text table items ≡ false → shared_pair text table items n ≡ None
     unfolding shared_pair any_twin twin_of
     none_shared e = pair_none (share text table items) n alone 0 n (omega arith)
       where

@@ -22,7 +22,8 @@ const MULTIPLIER: u64 = 2654435761;
 
 const PER_CHAIN: u64 = HASHES / (BUCKETS as u64);
 
-// The names that the language claims, by number.
+// The names that the language claims, by number. They stay numbers, with 0 for none: `language_of` says them so, and by it the definitions and
+// theorems of the crates above.
 pub const INTEGER: u64 = 1;
 
 pub const NATURAL: u64 = 2;
@@ -44,11 +45,23 @@ const INTEGER_SIZE: u64 = 7;
 
 const POSITIVE_SIZE: u64 = 8;
 
+// The records that claim names, chained by the hashes of the names in a text: the first record of each chain and the one after each, and one
+// more; 0 where there is none.
+#[derive(Clone, Copy)]
+struct Chains<'a> {
+    text: &'a [u8],
+    elements: &'a [u64],
+    items: &'a [u64],
+    heads: &'a [u64; BUCKETS],
+    next: &'a [u64; MOST_PIECES],
+    ghost chained: { Chained (in_bucket text.now elements.now items.now) (records_in items.now) 0 heads.now next.now },
+}
+
 fn mixed(h: u64, b: u8) -> u64
     requires { h < hashes }
     ensures { (result ≡ mixed_with h b) × (result < hashes) }
 {
-    (h + (b as u64)) * MULTIPLIER % HASHES
+    (h + u64::from(b)) * MULTIPLIER % HASHES
 }
 
 fn hashed(text: &[u8], first: BytePlace, n: usize, basic: bool) -> u64
@@ -57,10 +70,8 @@ fn hashed(text: &[u8], first: BytePlace, n: usize, basic: bool) -> u64
 {
     let from = first.0;
     let mut h: u64 = 0;
-    let mut i: usize = 0;
-    while i < n {
-        h = mixed(h, same_names::counted(basic, text[from + i]));
-        i += 1;
+    for b in &text[from..from + n] {
+        h = mixed(h, same_names::counted(basic, *b));
     }
     h
 }
@@ -91,9 +102,7 @@ fn chain_names(
     requires { (n ≤ most_pieces) × (heads.old ≡ replicate buckets 0) × (next.old ≡ replicate most_pieces 0) }
     ensures { Chained (in_bucket text.now elements.now items.now) n 0 heads.new next.new }
 {
-    let mut i = n;
-    while 0 < i {
-        i -= 1;
+    for i in (0..n).rev() {
         if records::is_claim(records::word(items, i, pieces::CLASS)) {
             let b = bucket(
                 text,
@@ -106,117 +115,69 @@ fn chain_names(
     }
 }
 
-// The first record that claims element e's name, and one more; 0 where none does.
-fn find(
-    text: &[u8],
-    elements: &[u64],
-    items: &[u64],
-    heads: &[u64; BUCKETS],
-    next: &[u64; MOST_PIECES],
-    e: ElementNumber,
-) -> u64
-    requires { Chained (in_bucket text.now elements.now items.now) (records_in items.now) 0 heads.now next.now }
-    ensures { result ≡ link_of text.now elements.now items.now e.0 }
+// The first record that claims element e's name, and one more; 0 where none does: the lent tables hold it so.
+fn find(chains: &Chains, e: ElementNumber) -> u64
+    ensures { result ≡ link_of chains.now.text.now chains.now.elements.now chains.now.items.now e.0 }
 {
-    let mut h = heads[bucket(text, elements, e)];
+    let mut h = chains.heads[bucket(chains.text, chains.elements, e)];
+    // a while: each turn goes on by what the chain says
     while h != 0 {
         let j = (h - 1) as usize;
         if same_names::same_name(
-            text,
-            elements,
-            ElementNumber(records::word(items, j, pieces::NAME) as usize),
+            chains.text,
+            chains.elements,
+            ElementNumber(records::word(chains.items, j, pieces::NAME) as usize),
             e,
         ) {
             return h;
         }
-        h = next[j];
+        h = chains.next[j];
     }
     0
 }
 
 // Element e's link: only a name has one.
-fn link_at(
-    text: &[u8],
-    elements: &[u64],
-    items: &[u64],
-    rows: usize,
-    heads: &[u64; BUCKETS],
-    next: &[u64; MOST_PIECES],
-    e: ElementNumber,
-) -> u64
-    requires { Chained (in_bucket text.now elements.now items.now) (records_in items.now) 0 heads.now next.now }
-    ensures { result ≡ up_to (link_of text.now elements.now items.now) rows e.0 }
+fn link_at(chains: &Chains, rows: usize, e: ElementNumber) -> u64
+    ensures { result ≡ up_to (link_of chains.now.text.now chains.now.elements.now chains.now.items.now) rows e.0 }
 {
     if e.0 < rows {
-        let kind = places::kind_of(elements, e);
+        let kind = places::kind_of(chains.elements, e);
         if (kind == places::IDENTIFIER) | (kind == places::EXTENDED) {
-            return find(text, elements, items, heads, next, e);
+            return find(chains, e);
         }
     }
     0
 }
 
-fn write_links(
-    text: &[u8],
-    elements: &[u64],
-    items: &[u64],
-    rows: usize,
-    heads: &[u64; BUCKETS],
-    next: &[u64; MOST_PIECES],
-    links: &mut [u64],
-)
-    requires { Chained (in_bucket text.now elements.now items.now) (records_in items.now) 0 heads.now next.now }
-    ensures { links.new ≡ filled (link_of text.now elements.now items.now) rows (length links.old) }
+fn write_links(chains: &Chains, rows: usize, links: &mut [u64])
+    ensures { links.new ≡ filled (link_of chains.now.text.now chains.now.elements.now chains.now.items.now) rows (length links.old) }
 {
-    let mut e: usize = 0;
-    while e < links.len() {
-        links[e] = link_at(text, elements, items, rows, heads, next, ElementNumber(e));
-        e += 1;
+    for (e, link) in links.iter_mut().enumerate() {
+        *link = link_at(chains, rows, ElementNumber(e));
     }
 }
 
 // A claim's name is an element, and linked already where the links reach it.
-fn own_link(
-    text: &[u8],
-    elements: &[u64],
-    items: &[u64],
-    rows: usize,
-    heads: &[u64; BUCKETS],
-    next: &[u64; MOST_PIECES],
-    links: &[u64],
-    i: usize,
-) -> u64
-    requires { Chained (in_bucket text.now elements.now items.now) (records_in items.now) 0 heads.now next.now × (links.now ≡ filled (link_of text.now elements.now items.now) rows (length links.now)) }
-    ensures { result ≡ own_of text.now elements.now items.now i }
+fn own_link(chains: &Chains, rows: usize, links: &[u64], i: usize) -> u64
+    requires { links.now ≡ filled (link_of chains.now.text.now chains.now.elements.now chains.now.items.now) rows (length links.now) }
+    ensures { result ≡ own_of chains.now.text.now chains.now.elements.now chains.now.items.now i }
 {
-    if records::is_claim(records::word(items, i, pieces::CLASS)) {
-        let e = records::word(items, i, pieces::NAME) as usize;
-        if e < lent_tables::least(rows, links.len()) {
+    if records::is_claim(records::word(chains.items, i, pieces::CLASS)) {
+        let e = records::word(chains.items, i, pieces::NAME) as usize;
+        if e < rows.min(links.len()) {
             return links[e];
         }
-        return find(text, elements, items, heads, next, ElementNumber(e));
+        return find(chains, ElementNumber(e));
     }
     0
 }
 
-fn own_links(
-    text: &[u8],
-    elements: &[u64],
-    items: &[u64],
-    n: usize,
-    rows: usize,
-    heads: &[u64; BUCKETS],
-    next: &[u64; MOST_PIECES],
-    links: &[u64],
-    own: &mut [u64; MOST_PIECES],
-)
-    requires { (n ≤ most_pieces) × Chained (in_bucket text.now elements.now items.now) (records_in items.now) 0 heads.now next.now × (own.old ≡ replicate most_pieces 0) × (links.now ≡ filled (link_of text.now elements.now items.now) rows (length links.now)) }
-    ensures { (i : ℕ) → i < n → get_or own.new i 0 ≡ own_of text.now elements.now items.now i }
+fn own_links(chains: &Chains, n: usize, rows: usize, links: &[u64], own: &mut [u64; MOST_PIECES])
+    requires { (n ≤ most_pieces) × (own.old ≡ replicate most_pieces 0) × (links.now ≡ filled (link_of chains.now.text.now chains.now.elements.now chains.now.items.now) rows (length links.now)) }
+    ensures { (i : ℕ) → i < n → get_or own.new i 0 ≡ own_of chains.now.text.now chains.now.elements.now chains.now.items.now i }
 {
-    let mut i: usize = 0;
-    while i < n {
-        own[i] = own_link(text, elements, items, rows, heads, next, links, i);
-        i += 1;
+    for i in 0..n {
+        own[i] = own_link(chains, rows, links, i);
     }
 }
 
@@ -226,24 +187,15 @@ fn find_twins(own: &[u64; MOST_PIECES], n: usize, flags: &mut [u64; MOST_PIECES]
     ensures { Flagging own.now n n flags.new result }
 {
     let mut any = false;
-    let mut i: usize = 0;
-    while i < n {
+    for i in 0..n {
         let f = own[i];
         if (f != 0) & (f != (i as u64) + 1) {
             flags[i] = 1;
             flags[(f - 1) as usize] = 1;
             any = true;
         }
-        i += 1;
     }
     any
-}
-
-fn word_at(from: &[u64; MOST_PIECES], n: usize, i: usize) -> u64
-    requires { n ≤ most_pieces }
-    ensures { result ≡ up_to (λ (k : ℕ). get_or from.now k 0) n i }
-{
-    if i < n { from[i] } else { 0 }
 }
 
 // The first n words, then zeros.
@@ -251,11 +203,9 @@ fn write_words(from: &[u64; MOST_PIECES], n: usize, to: &mut [u64])
     requires { n ≤ most_pieces }
     ensures { to.new ≡ filled (λ (k : ℕ). get_or from.now k 0) n (length to.old) }
 {
-    let mut i: usize = 0;
-    while i < to.len() {
-        to[i] = word_at(from, n, i);
-        i += 1;
-    }
+    let size = n.min(to.len());
+    to[..size].copy_from_slice(&from[..size]);
+    to[size..].fill(0);
 }
 
 // For each element, the first record that claims its name and one more, 0 where none does or it is no name; for each record the same of
@@ -274,16 +224,21 @@ pub fn link_names(
     ensures owns_after { owns.new ≡ owns_table text.now elements.now items.now (length owns.old) }
     ensures twins_after { twins.new ≡ twins_table text.now elements.now items.now (length twins.old) }
 {
-    let n = lent_tables::least(items.len() / RECORD_WORDS, MOST_PIECES);
+    let n = (items.len() / RECORD_WORDS).min(MOST_PIECES);
     let mut heads = [0u64; BUCKETS];
     let mut next = [0u64; MOST_PIECES];
     chain_names(text, elements, items, n, &mut heads, &mut next);
-    let rows = lent_tables::least(count, places::rows_in(elements));
-    write_links(text, elements, items, rows, &heads, &next, links);
+    let rows = count.min(places::rows_in(elements));
+    let chains = Chains {
+        text,
+        elements,
+        items,
+        heads: &heads,
+        next: &next,
+    };
+    write_links(&chains, rows, links);
     let mut own = [0u64; MOST_PIECES];
-    own_links(
-        text, elements, items, n, rows, &heads, &next, links, &mut own,
-    );
+    own_links(&chains, n, rows, links, &mut own);
     let mut flags = [0u64; MOST_PIECES];
     let any = find_twins(&own, n, &mut flags);
     write_words(&own, n, owns);

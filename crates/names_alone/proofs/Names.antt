@@ -1,5 +1,6 @@
 -- What an identifier and an extended identifier are by the rules of elements, that they are so with nothing behind them, and that such bytes
 -- are read so. Assumes nothing.
+use Rattle.std.proofs.Common.{Option, Some, None}
 use Prim.Native.Nat.{ℕ, zero, suc, ◌+◌, ◌≤◌}
 use mathlib.Core.Path.{◌≡◌, refl, sym, ap, subst, ◌∙◌}
 use mathlib.Core.Bool.{Bool, true, false, cond, not, ◌&&◌, ◌||◌, false≢true}
@@ -20,14 +21,10 @@ use Rattle.classes.specs.declared.Run.{Run}
 use Rattle.classes.specs.declared.Run.TheVariants.{Word}
 use Rattle.classes.proofs.Laws.{count_more, count_none, run_some, letter_in_word}
 use Rattle.words.specs.Words.{place_in, reserved_words, delimiters}
-use Rattle.words.specs.declared.Place.{Place}
-use Rattle.words.specs.declared.Place.TheVariants as W
 use Rattle.numbers.specs.Numbers.{number}
 use Rattle.numbers.specs.declared.Number.{Number}
 use Rattle.numbers.specs.declared.Number.TheVariants as N
 use Rattle.quoted.specs.Quoted.{closed_from, closed}
-use Rattle.quoted.specs.declared.Closed.{Closed}
-use Rattle.quoted.specs.declared.Closed.TheVariants as Q
 use Rattle.quoted.proofs.Laws.{closed_in}
 use Rattle.elements.specs.Element.{first_is, first_are, unreadable_front, identifier_by, identifier_front, extended_by, extended_front, numeral_by, string_by, string_front, apostrophe_front, delimiter_by, delimiter_front, ruled, spoils, unless_spoilt, element_at}
 use Rattle.elements.specs.declared.Kind.{Kind}
@@ -41,13 +38,13 @@ use Rattle.names_alone.specs.Alone.{ReadsAs}
 pub record Basic (s : List ℕ) (n : ℕ) : Type 0 where
   pub letter : is_letter (get_or s 0 0) ≡ true
   pub size : run Word s ≡ n
-  pub free : place_in (take n s) reserved_words ≡ W.Nowhere
+  pub free : place_in (take n s) reserved_words ≡ None
 
 -- an extended one
 pub record Extended (s : List ℕ) (n : ℕ) : Type 0 where
   pub first : get_or s 0 0 ≡ signs.backslash
   pub inside : ℕ
-  pub closes : closed signs.backslash (drop 1 s) ≡ Q.After inside
+  pub closes : closed signs.backslash (drop 1 s) ≡ Some inside
   pub some : eqb inside 1 ≡ false
   pub size : inside + 1 ≡ n
 
@@ -79,19 +76,19 @@ is_identifier_lem : (s : List ℕ) → is_letter (get_or s 0 0) ≡ true → Fro
 unfolding identifier_front
 is_identifier_lem s h = go (place_in (take (run Word s) s) reserved_words) refl
   where
-    go : (p : Place) → place_in (take (run Word s) s) reserved_words ≡ p → FrontIs s (identifier_by p (run Word s))
-    go (W.At n) e = tt
-    go W.Nowhere e = record { letter = h; size = refl; free = e }
+    go : (p : Option ℕ) → place_in (take (run Word s) s) reserved_words ≡ p → FrontIs s (identifier_by p (run Word s))
+    go (Some n) e = tt
+    go None e = record { letter = h; size = refl; free = e }
 
 is_extended : (s : List ℕ) → get_or s 0 0 ≡ signs.backslash → FrontIs s (extended_front s)
 unfolding extended_front
 is_extended s h = go (closed signs.backslash (drop 1 s)) refl
   where
-    go : (c : Closed) → closed signs.backslash (drop 1 s) ≡ c → FrontIs s (extended_by c s)
-    go (Q.After n) e =
+    go : (c : Option ℕ) → closed signs.backslash (drop 1 s) ≡ c → FrontIs s (extended_by c s)
+    go (Some n) e =
         is_unless s (eqb n 1) (unreadable_front s) (Element Kind.Extended (n + 1)) (is_unreadable s)
         (λ m. record { first = h; inside = n; closes = e; some = m; size = refl })
-    go Q.Never e = is_unreadable s
+    go None e = is_unreadable s
 
 is_numeral : (n : Number) (s : List ℕ) → FrontIs s (numeral_by n s)
 is_numeral (N.Integer n) s = tt
@@ -102,18 +99,18 @@ is_string : (s : List ℕ) → FrontIs s (string_front s)
 unfolding string_front
 is_string s = go (closed signs.quote (drop 1 s))
   where
-    go : (c : Closed) → FrontIs s (string_by c s)
-    go (Q.After n) = tt
-    go Q.Never = is_unreadable s
+    go : (c : Option ℕ) → FrontIs s (string_by c s)
+    go (Some n) = tt
+    go None = is_unreadable s
 
 is_apostrophe : (ticks : Bool) (s : List ℕ) → FrontIs s (apostrophe_front ticks s)
 unfolding apostrophe_front
 is_apostrophe ticks s =
     is_when s (not ticks && eqb (get_or s 2 0) signs.apostrophe) _ _ (λ _. is_when s (is_graphic (get_or s 1 0)) _ (unreadable_front s) (λ _. tt) (is_unreadable s)) tt
 
-is_delimiter : (s : List ℕ) (p : Place) (n : ℕ) (x : Front) → FrontIs s x → FrontIs s (delimiter_by p n x)
-is_delimiter s (W.At k) n x h = tt
-is_delimiter s W.Nowhere n x h = h
+is_delimiter : (s : List ℕ) (p : Option ℕ) (n : ℕ) (x : Front) → FrontIs s x → FrontIs s (delimiter_by p n x)
+is_delimiter s (Some k) n x h = tt
+is_delimiter s None n x h = h
 
 is_delimiters : (s : List ℕ) → FrontIs s (delimiter_front s)
 unfolding delimiter_front
@@ -212,13 +209,13 @@ basic_cut s n h = record {
 }
 
 -- a quoted stretch, cut off behind its closing quote
-same_after : (a b : ℕ) → Q.After a ≡ Q.After b → a ≡ b
+same_after : (a b : ℕ) → Some a ≡ Some b → a ≡ b
 same_after a b e = cc
 
-never_after : {A : Type 0} (n : ℕ) → Q.Never ≡ Q.After n → A
+never_after : {A : Type 0} (n : ℕ) → None ≡ Some n → A
 never_after n e = let z : ◌≡◌ {A = ℕ} 0 1 = cc in clash z
 
-closed_cut : (q m d : ℕ) (s : List ℕ) → closed_from q m s ≡ Q.After (m + d) → closed_from q m (take d s) ≡ Q.After (m + d)
+closed_cut : (q m d : ℕ) (s : List ℕ) → closed_from q m s ≡ Some (m + d) → closed_from q m (take d s) ≡ Some (m + d)
 unfolding closed_from
 closed_cut q m d [] e = never_after (m + d) e
 closed_cut q m zero (b ∷ s) e = absurd (omega (arith, (closed_in q (b ∷ s) m (m + 0) e).0))
@@ -230,20 +227,20 @@ closed_cut q m (suc d) (b ∷ []) e = ap (closed_from q m) (all d) ∙ e
 closed_cut q m (suc d) (b ∷ c ∷ s) e = go (eqb b q) (eqb c q) (is_graphic b) d refl refl refl e (λ k w. closed_cut q (suc (suc m)) k s w) (λ k w. closed_cut q (suc m) k (c ∷ s) w)
   where
     go : (x y z : Bool) (d : ℕ) → eqb b q ≡ x → eqb c q ≡ y → is_graphic b ≡ z
-        → cond x (cond y (closed_from q (suc (suc m)) s) (Q.After (suc m))) (cond z (closed_from q (suc m) (c ∷ s)) Q.Never) ≡ Q.After (m + suc d)
-        → ((k : ℕ) → closed_from q (suc (suc m)) s ≡ Q.After (suc (suc m) + k) → closed_from q (suc (suc m)) (take k s) ≡ Q.After (suc (suc m) + k))
-        → ((k : ℕ) → closed_from q (suc m) (c ∷ s) ≡ Q.After (suc m + k) → closed_from q (suc m) (take k (c ∷ s)) ≡ Q.After (suc m + k))
-        → closed_from q m (take (suc d) (b ∷ c ∷ s)) ≡ Q.After (m + suc d)
+        → cond x (cond y (closed_from q (suc (suc m)) s) (Some (suc m))) (cond z (closed_from q (suc m) (c ∷ s)) None) ≡ Some (m + suc d)
+        → ((k : ℕ) → closed_from q (suc (suc m)) s ≡ Some (suc (suc m) + k) → closed_from q (suc (suc m)) (take k s) ≡ Some (suc (suc m) + k))
+        → ((k : ℕ) → closed_from q (suc m) (c ∷ s) ≡ Some (suc m + k) → closed_from q (suc m) (take k (c ∷ s)) ≡ Some (suc m + k))
+        → closed_from q m (take (suc d) (b ∷ c ∷ s)) ≡ Some (m + suc d)
     go true true z zero p r g e two one = absurd (omega (arith, (closed_in q s (suc (suc m)) (m + 1) e).0))
     go true true z (suc d) p r g e two one =
         let w : m + suc (suc d) ≡ suc (suc m) + d = omega arith in
-        rw (p, r) (two d (e ∙ ap Q.After w) ∙ ap Q.After (sym w))
+        rw (p, r) (two d (e ∙ ap Some w) ∙ ap Some (sym w))
     go true false z zero p r g e two one = rw p e
     go true false z (suc d) p r g e two one = absurd (omega (arith, same_after (suc m) (m + suc (suc d)) e))
     go false y true zero p r g e two one = absurd (omega (arith, (closed_in q (c ∷ s) (suc m) (m + 1) e).0))
     go false y true (suc d) p r g e two one =
         let w : m + suc (suc d) ≡ suc m + suc d = omega arith in
-        rw (p, g) (one (suc d) (e ∙ ap Q.After w) ∙ ap Q.After (sym w))
+        rw (p, g) (one (suc d) (e ∙ ap Some w) ∙ ap Some (sym w))
     go false y false d p r g e two one = never_after (m + suc d) e
 
 extended_cut : (s : List ℕ) (n : ℕ) → Extended s n → Extended (take n s) n
@@ -252,7 +249,7 @@ extended_cut s n h = record {
   inside = h.inside;
   closes =
       ap (closed signs.backslash) (sym (behind h.inside n s h.size))
-      ∙ closed_cut signs.backslash 0 h.inside (drop 1 s) (h.closes ∙ ap Q.After (zero_plus h.inside)) ∙ ap Q.After (sym (zero_plus h.inside));
+      ∙ closed_cut signs.backslash 0 h.inside (drop 1 s) (h.closes ∙ ap Some (zero_plus h.inside)) ∙ ap Some (sym (zero_plus h.inside));
   some = h.some;
   size = h.size;
 }

@@ -1,4 +1,5 @@
 -- The ways of the definitions of numbers, in the code's terms: each premise is what a call or a test gives. Assumes nothing.
+use Rattle.std.proofs.Common.{Option, Some, None}
 use mathlib.Core.Path.{◌≡◌, refl, sym, ap, ◌∙◌}
 use mathlib.Core.Bool.{Bool, true, false, not, ◌&&◌, ◌||◌, and-false}
 use mathlib.Core.List.{List, [], ◌∷◌}
@@ -15,16 +16,9 @@ use Rattle.classes.specs.Runs.{run, in_run}
 use Rattle.classes.specs.declared.Run.TheVariants.{Below}
 use Rattle.classes.proofs.Laws.{part_rest, run_le, byte_inside, digit_inside, by_test, run_some, digit_in_ten}
 use Rattle.numbers.specs.Numbers.{digits, exponent, below_base, integer_past, based, pointed, number}
-use Rattle.numbers.specs.Digits.{digit_in, value_spelled, leading, exponent_head}
+use Rattle.numbers.specs.Digits.{value_spelled, leading, exponent_head}
 use Rattle.numbers.specs.declared.Number.{Number}
 use Rattle.numbers.specs.declared.Number.TheVariants.{Integer, Real, Neither}
-use Rattle.numbers.specs.declared.Size.{Size}
-use Rattle.numbers.specs.declared.Size.TheVariants.{Of, Nothing}
-use Rattle.numbers.proofs.Spelled.{on_digit}
-
--- one digit more after a number above 1 is above 16
-pub capped_large : (v b : ℕ) → (b ≡ 95 → ⊥) → 1 < v → ◌≡◌ {A = ℕ} 17 (min 17 (digit_in 10 v b))
-capped_large v b e h = omega (arith, on_digit 10 v b e)
 
 -- the ways of an exponent
 module _ (s : List ℕ) (either : Bool) where
@@ -55,18 +49,18 @@ module _ (s : List ℕ) (either : Bool) where
 
 -- digits below a base, a `#`, perhaps an exponent
 module _ (base : ℕ) (s : List ℕ) (b : ℕ) (x : Bool) (p : b ≡ get_or s 0 0) (y : x ≡ in_run (Below base) b) where
-  pub below_none : not x ≡ true → Nothing ≡ below_base base s
+  pub below_none : not x ≡ true → None ≡ below_base base s
   unfolding below_base
   below_none z = simp (← p, ← y, not-true x z)
 
   module _ (n d : ℕ) (z : not x ≡ false) (h : n ≡ run (Below base) s) (q : d ≡ get_or s n 0) where
-    pub below_open : (d ≡ 35 → ⊥) → Nothing ≡ below_base base s
+    pub below_open : (d ≡ 35 → ⊥) → None ≡ below_base base s
     unfolding below_base
     below_open t = simp (← p, ← y, not-false x z, ← h, ← q, ne_eqb d 35 t)
 
-    pub below_whole : (r : ℕ) → d ≡ 35 → r ≡ exponent false (take (length s - (n + 1)) (drop (n + 1) s)) → Of (n + 1 + r) ≡ below_base base s
+    pub below_whole : (r : ℕ) → d ≡ 35 → r ≡ exponent false (take (length s - (n + 1)) (drop (n + 1) s)) → Some (n + 1 + r) ≡ below_base base s
     unfolding below_base
-    below_whole r t k = simp (← p, ← y, not-false x z, ← h, ← q, eq-eqb d 35 t) (ap (λ (m : ℕ). Of (n + 1 + m)) (rw (part_rest s (n + 1)) at k))
+    below_whole r t k = simp (← p, ← y, not-false x z, ← h, ← q, eq-eqb d 35 t) (ap (λ (m : ℕ). Some (n + 1 + m)) (rw (part_rest s (n + 1)) at k))
 
 -- a byte that is neither 0 nor past the end
 pub byte_at : (s : List ℕ) (n d : ℕ) (k : ℕ) → d ≡ get_or s n 0 → d ≡ suc k → n < length s
@@ -115,9 +109,9 @@ pub fraction_fits : (s : List ℕ) (n r : ℕ) → n ≤ length s → r ≡ digi
 fraction_fits s n r h e = omega (arith, fraction_le (drop n s), length-drop n s, rw (part_rest s n) at e)
 
 -- a number whose n digits stand before a `#`; v is their value, as far as 17
-abbrev SizeIn : ℕ → Size → Type 0
-SizeIn n (Of k) = k ≤ n
-SizeIn n Nothing = Unit {0}
+abbrev SizeIn : ℕ → Option ℕ → Type 0
+SizeIn n (Some k) = k ≤ n
+SizeIn n None = Unit {0}
 
 below_in : (base : ℕ) (s : List ℕ) → SizeIn (length s) (below_base base s)
 unfolding below_base
@@ -127,7 +121,7 @@ below_in base s =
     omega (arith, i, exponent_le false (drop (run (Below base) s + 1) s), length-drop (run (Below base) s + 1) s))
     (λ _. tt)
 
-below_le : (base : ℕ) (s : List ℕ) (k : ℕ) → below_base base s ≡ Of k → k ≤ length s
+below_le : (base : ℕ) (s : List ℕ) (k : ℕ) → below_base base s ≡ Some k → k ≤ length s
 below_le base s k e = rw e at (below_in base s)
 
 module _ (s : List ℕ) (n v : ℕ) (h : n ≡ digits s) (w : v ≡ min 17 (value_spelled 10 0 (take n s))) where
@@ -143,18 +137,18 @@ module _ (s : List ℕ) (n v : ℕ) (h : n ≡ digits s) (w : v ≡ min 17 (valu
   unfolding based leading digits
   base_large l = rw (← h, lt-leb (value_spelled 10 0 (take n s)) 16 (omega (arith, w)), and-false (leb 2 (value_spelled 10 0 (take n s))))
 
-  module _ (st : Size) (g : 2 ≤ v) (l : v ≤ 16) (e : st ≡ below_base v (take (length s - (n + 1)) (drop (n + 1) s))) where
+  module _ (st : Option ℕ) (g : 2 ≤ v) (l : v ≤ 16) (e : st ≡ below_base v (take (length s - (n + 1)) (drop (n + 1) s))) where
     based_as : based s ≡ integer_past (n + 1) st
     unfolding based
     based_as = rw (← base_is l, le-leb 2 v g, le-leb v 16 l, ← h, e, part_rest s (n + 1))
 
-    pub based_whole : (k : ℕ) → st ≡ Of k → Integer (n + 1 + k) ≡ based s
+    pub based_whole : (k : ℕ) → st ≡ Some k → Integer (n + 1 + k) ≡ based s
     based_whole k m = sym (rw m at based_as)
 
-    pub based_none : st ≡ Nothing → Neither ≡ based s
+    pub based_none : st ≡ None → Neither ≡ based s
     based_none m = sym (rw m at based_as)
 
-    pub based_fits : (k : ℕ) → n < length s → st ≡ Of k → n + 1 + k ≤ length s
+    pub based_fits : (k : ℕ) → n < length s → st ≡ Some k → n + 1 + k ≤ length s
     based_fits k i m = omega (arith, below_le v (drop (n + 1) s) k (ap (below_base v) (sym (part_rest s (n + 1))) ∙ sym e ∙ m), length-drop (n + 1) s)
 
 -- after n digits stands the byte b
@@ -192,9 +186,9 @@ based_in : (s : List ℕ) → digits s < length s → NumberIn (length s) (based
 unfolding based
 based_in s l = by_test (NumberIn (length s)) (between 2 16 (leading 10 s)) (λ _. go (below_base (leading 10 s) (drop (digits s + 1) s)) refl) (λ _. tt)
   where
-    go : (z : Size) → below_base (leading 10 s) (drop (digits s + 1) s) ≡ z → NumberIn (length s) (integer_past (digits s + 1) z)
-    go (Of k) e = (omega arith, omega (arith, below_le (leading 10 s) (drop (digits s + 1) s) k e, length-drop (digits s + 1) s))
-    go Nothing e = tt
+    go : (z : Option ℕ) → below_base (leading 10 s) (drop (digits s + 1) s) ≡ z → NumberIn (length s) (integer_past (digits s + 1) z)
+    go (Some k) e = (omega arith, omega (arith, below_le (leading 10 s) (drop (digits s + 1) s) k e, length-drop (digits s + 1) s))
+    go None e = tt
 
 pointed_in : (s : List ℕ) → digits s < length s → NumberIn (length s) (pointed s)
 unfolding pointed

@@ -4,8 +4,8 @@ use mathlib.Core.Path.{◌≡◌, refl, sym, ap, ◌∙◌}
 use mathlib.Core.Bool.{Bool, true, false}
 use mathlib.Core.List.{List, [], ◌∷◌}
 use mathlib.Core.Logic.{◌⊎◌, inl, inr}
-use Prim.Native.Nat.{ℕ, suc, ◌+◌, ◌*◌, ◌≤◌, ◌<◌, min}
-use native.Mathlib.Nat.{le-mul_of_pos_right}
+use Prim.Native.Nat.{ℕ, zero, suc, ◌+◌, ◌*◌, ◌≤◌, ◌<◌, min}
+use native.Mathlib.Nat.{le-mul_of_pos_right, mul-zero}
 use native.Mathlib.Numerals.{add-one}
 use native.Mathlib.Omega.{arith}
 use borrow.Author.Tests.{eq-eqb, ne_eqb, leb-true, leb-false}
@@ -34,20 +34,23 @@ module _ (base v b : ℕ) where
   on_digit e = rw (ne_eqb b 95 e)
 
 module _ (most base v b : ℕ) where
-  pub capped_under : b ≡ 95 → most < v → most ≡ min most (digit_in base v b)
-  capped_under e h = omega (arith, on_under base v b e)
-
   pub kept_under : b ≡ 95 → v ≤ most → v ≡ min most (digit_in base v b)
   kept_under e h = omega (arith, on_under base v b e)
 
-  pub capped_digit : (n : ℕ) → n ≡ digit_value b → (b ≡ 95 → ⊥) → most < v * base + n → most ≡ min most (digit_in base v b)
-  capped_digit n d e h = omega (arith, on_digit base v b e)
+  -- in the code's terms: x and y are v and the base as wider numbers
+  pub digit_more : (x y d n m r : ℕ) → (b ≡ 95 → ⊥) → x ≡ v → y ≡ base → d ≡ digit_value b → n ≡ d → m ≡ most → r ≡ min (x * y + n) m
+      → r ≡ min most (digit_in base v b)
+  digit_more x y d n m r e p q g k l h =
+      let z : x * y ≡ v * base = cc in
+      omega (arith, z, on_digit base v b e)
 
-  pub kept_digit : (n : ℕ) → n ≡ digit_value b → (b ≡ 95 → ⊥) → v * base + n ≤ most → v * base + n ≡ min most (digit_in base v b)
-  kept_digit n d e h = omega (arith, on_digit base v b e)
+-- a number is 0 or above
+zero_or : (n : ℕ) → (n ≡ 0) ⊎ (1 ≤ n)
+zero_or zero = inl refl
+zero_or (suc n) = inr (omega arith)
 
 -- to cap on the way changes nothing
-module _ (most base : ℕ) (g : 2 ≤ base) where
+module _ (most base : ℕ) where
   capped_step : (v b : ℕ) → min most (digit_in base (min most v) b) ≡ min most (digit_in base v b)
   unfolding digit_in
   capped_step v b = go (eqb b 95) refl (sides v most)
@@ -57,7 +60,11 @@ module _ (most base : ℕ) (g : 2 ≤ base) where
       go false e (inl h) = let k : min most v ≡ v = omega arith in rw k
       go false e (inr h) =
           let k : min most v ≡ most = omega arith in
-          rw (k, e) (omega (arith, le-mul_of_pos_right {m = base} v (omega arith), le-mul_of_pos_right {m = base} most (omega arith)))
+          rest k (zero_or base)
+        where
+          rest : min most v ≡ most → (base ≡ 0) ⊎ (1 ≤ base) → min most (digit_in base (min most v) b) ≡ min most (digit_in base v b)
+          rest k (inl z) = rw (k, e, z, mul-zero most, mul-zero v)
+          rest k (inr p) = rw (k, e) (omega (arith, le-mul_of_pos_right {m = base} v (omega arith), le-mul_of_pos_right {m = base} most (omega arith)))
 
   capped_value : (v : ℕ) (s : List ℕ) → min most (value_spelled base (min most v) s) ≡ min most (value_spelled base v s)
   unfolding value_spelled
@@ -69,9 +76,9 @@ module _ (most base : ℕ) (g : 2 ≤ base) where
 
 -- the turns of a loop over the digits
 module _ (most base : ℕ) (s : List ℕ) (i v whole : ℕ) (h : min most (value_spelled base v (drop i s)) ≡ whole) where
-  pub value_turn : (w : ℕ) → 2 ≤ base → i < length s → w ≡ min most (digit_in base v (get_or s i 0)) → min most (value_spelled base w (drop (i + 1) s)) ≡ whole
+  pub value_turn : (w : ℕ) → i < length s → w ≡ min most (digit_in base v (get_or s i 0)) → min most (value_spelled base w (drop (i + 1) s)) ≡ whole
   unfolding value_spelled
-  value_turn w g l e = rw (e, add-one) (capped_value most base g (digit_in base v (get_or s i 0)) (drop (suc i) s) ∙ (rw (drop-cons s i 0 l) at h))
+  value_turn w l e = rw (e, add-one) (capped_value most base (digit_in base v (get_or s i 0)) (drop (suc i) s) ∙ (rw (drop-cons s i 0 l) at h))
 
   pub value_end : v ≤ most → length s ≤ i → v ≡ whole
   unfolding value_spelled

@@ -1,6 +1,6 @@
 -- The integer and real literals of 01's section "Elements": how far a number goes at the front of a line's rest. Past the end of a list `get_or`
 -- gives 0, a byte of no class. Assumes nothing.
-use Rattle.std.specs.Prelude.{ℕ, ◌+◌, Bool, true, false, cond, ◌&&◌, List, eqb, get_or, drop}
+use Rattle.std.specs.Prelude.{ℕ, ◌+◌, Bool, true, false, cond, ◌&&◌, List, eqb, get_or, drop, Option, Some, None}
 use Rattle.classes.specs.Bytes.{between, lower, is_digit, ten, least_base, greatest_base}
 use Rattle.classes.specs.Bytes as byte
 use Rattle.classes.specs.Signs as sign
@@ -9,8 +9,6 @@ use Rattle.classes.specs.declared.Run.TheVariants.{Below}
 use Rattle.numbers.specs.Digits.{leading, exponent_head}
 use Rattle.numbers.specs.declared.Number.{Number}
 use Rattle.numbers.specs.declared.Number.TheVariants.{Integer, Real, Neither}
-use Rattle.numbers.specs.declared.Size.{Size}
-use Rattle.numbers.specs.declared.Size.TheVariants.{Of, Nothing}
 
 -- a number that is no base
 abbrev pub above_bases : ℕ
@@ -27,15 +25,15 @@ exponent either s =
     0
 
 -- "digits below the base, `#`; then perhaps" an exponent, from after the first `#`
-unfoldable pub below_base : ℕ → List ℕ → Size
+unfoldable pub below_base : ℕ → List ℕ → Option ℕ
 below_base base s =
     cond (in_run (Below base) (get_or s 0 0) && eqb (get_or s (run (Below base) s) 0) byte.hash)
-    (Of (run (Below base) s + 1 + exponent false (drop (run (Below base) s + 1) s)))
-    Nothing
+    (Some (run (Below base) s + 1 + exponent false (drop (run (Below base) s + 1) s)))
+    None
 
-abbrev pub integer_past : ℕ → Size → Number
-integer_past n (Of k) = Integer (n + k)
-integer_past n Nothing = Neither
+abbrev pub integer_past : ℕ → Option ℕ → Number
+integer_past n (Some k) = Integer (n + k)
+integer_past n None = Neither
 
 -- the three ways that a number goes on after its digits: `#`, a point, or neither. In front of the `#` they spell the "base 2 to 16"
 unfoldable pub based : List ℕ → Number

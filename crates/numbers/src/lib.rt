@@ -1,7 +1,7 @@
 // How far an integer or real literal goes. Every function looks at the front of a line's rest, of any bytes.
 #![tactic(auto)]
 
-ghost use Rattle.std.specs.Prelude.{◌≡◌, true, false, ◌+◌, ◌<◌, min, length, drop};
+ghost use Rattle.std.specs.Prelude.{◌≡◌, true, false, ◌+◌, ◌≤◌, ◌<◌, min, length, drop};
 ghost use Rattle.classes.specs.Bytes.{ten};
 ghost use Rattle.numbers.specs.Numbers.{above_bases, digits, exponent, below_base, based, pointed, number};
 ghost use Rattle.numbers.specs.Digits.{digit_in, value_spelled, exponent_head};
@@ -24,43 +24,34 @@ pub enum Number {
     Neither,
 }
 
-#[derive(Clone, Copy)]
-pub enum Size {
-    Of(usize),
-    Nothing,
-}
-
-// One digit more, where ABOVE_BASES stands for any number above the greatest base.
-fn with_digit(v: u8, b: u8) -> u8
-    ensures { result ≡ min above_bases (digit_in ten v b) }
+// One digit more, where `most` stands for any number from there on.
+fn with_digit(base: u8, most: u32, v: u32, b: u8) -> u32
+    requires { v ≤ most }
+    ensures { result ≡ min most (digit_in base v b) }
 {
     if b == b'_' {
-        if ABOVE_BASES < v {
-            return ABOVE_BASES;
-        }
         return v;
     }
-    if 1 < v {
-        return ABOVE_BASES;
+    let n = u64::from(v) * u64::from(base) + u64::from(classes::digit_value(b));
+    n.min(u64::from(most)) as u32
+}
+
+// The number that digits and underscores spell, or `most` where it is larger.
+pub fn capped_value(base: u8, most: u32, s: &[u8]) -> u32
+    ensures { result ≡ min most (value_spelled base 0 s.now) }
+{
+    let mut v: u32 = 0;
+    for b in s {
+        v = with_digit(base, most, v, *b);
     }
-    let n = v * TEN + classes::digit_value(b);
-    if ABOVE_BASES < n {
-        return ABOVE_BASES;
-    }
-    n
+    v
 }
 
 // The number that digits and underscores spell, or ABOVE_BASES where it is above the greatest base.
 fn small_value(s: &[u8]) -> u8
     ensures { result ≡ min above_bases (value_spelled ten 0 s.now) }
 {
-    let mut v: u8 = 0;
-    let mut i = 0;
-    while i < s.len() {
-        v = with_digit(v, s[i]);
-        i += 1;
-    }
-    v
+    capped_value(TEN, u32::from(ABOVE_BASES), s) as u8
 }
 
 fn exponent_head(s: &[u8], either: bool) -> usize
@@ -87,18 +78,18 @@ fn exponent_length(s: &[u8], either: bool) -> usize
     n + classes::run_length(Run::Below(TEN), &s[n..])
 }
 
-fn below_base(base: u8, s: &[u8]) -> Size
+fn below_base(base: u8, s: &[u8]) -> Option<usize>
     ensures { result ≡ below_base base s.now }
 {
     if !classes::in_run(Run::Below(base), classes::byte_or(s, 0)) {
-        return Size::Nothing;
+        return None;
     }
     let n = classes::run_length(Run::Below(base), s);
     if classes::byte_or(s, n) != b'#' {
-        return Size::Nothing;
+        return None;
     }
     let m = n + 1;
-    Size::Of(m + exponent_length(&s[m..], false))
+    Some(m + exponent_length(&s[m..], false))
 }
 
 // A number whose n digits stand before a `#`.
@@ -115,8 +106,8 @@ fn based_at(s: &[u8], n: usize) -> Number
     }
     let m = n + 1;
     match below_base(base, &s[m..]) {
-        Size::Of(k) => Number::Integer(m + k),
-        Size::Nothing => Number::Neither,
+        Some(k) => Number::Integer(m + k),
+        None => Number::Neither,
     }
 }
 

@@ -83,10 +83,9 @@ pub fn wrong_leaf(s: u8) -> Outcome
 pub fn literal_leaf(s: &[u8]) -> Outcome
     ensures { result ≡ literal_leaf s.now }
 {
-    let folded = literals::literal(s);
     Outcome {
         sort: Sort::Of(Kind::Integer),
-        folded: folded,
+        folded: literals::literal(s),
     }
 }
 
@@ -122,16 +121,12 @@ pub fn operator_of(kind: u64) -> Operator
 pub fn sign_of(kind: u64) -> Sign
     ensures { result ≡ sign_of kind }
 {
-    if kind == MINUS {
-        return Sign::Minus;
+    match kind {
+        MINUS => Sign::Minus,
+        WORD_ABS => Sign::Absolute,
+        WORD_NOT => Sign::Not,
+        _ => Sign::Plus,
     }
-    if kind == WORD_ABS {
-        return Sign::Absolute;
-    }
-    if kind == WORD_NOT {
-        return Sign::Not;
-    }
-    Sign::Plus
 }
 
 // A literal's outcome: an integer's number; any other kind isn't folded.
@@ -142,8 +137,8 @@ pub fn literal_outcome(text: &[u8], elements: &[u64], e: ElementNumber) -> Outco
         return wrong_leaf(states::UNFOLDED);
     }
     let place = places::place_of(elements, e);
-    let first = lent_tables::least(place.0, text.len());
-    let size = lent_tables::least(places::size_of(elements, e) as usize, text.len() - first);
+    let first = place.0.min(text.len());
+    let size = (places::size_of(elements, e) as usize).min(text.len() - first);
     let end = first + size;
     literal_leaf(&text[first..end])
 }

@@ -2,8 +2,7 @@
 // second table; the rest they share. What is said on standard error is tested, not proved.
 #![tactic(auto)]
 
-use arguments::Amount;
-use console::{Got, MOST_ROOM};
+use console::MOST_ROOM;
 use std::env::FillError;
 use std::fs::File;
 use std::io::{Print, Read};
@@ -31,27 +30,37 @@ const NO_TEXT: i32 = 84;
 // How much of an argument that is too long names it.
 const NAMED: usize = 64;
 
-// `other` is that the other job is asked for, `other_rows` the rows of the second table, `room` that of the output; `file` is the number of the argument that
-// names one, or 0; `next` is the argument to look at next; after `--` every argument names a file. Not `good`: nothing is to be read, since
-// the call is wrong, or asked for help or the version, and was answered.
-#[derive(Clone, Copy)]
-pub struct Options {
-    pub good: bool,
-    pub other: bool,
-    pub element_rows: usize,
-    pub other_rows: usize,
-    pub room: usize,
-    pub file: usize,
-    pub next: usize,
-    pub only_files: bool,
-}
-
 // What a program's arguments may lend beside the rows of its second table: those of its element table, room for its output, or both.
 #[derive(Clone, Copy)]
 pub enum Lends {
     Elements,
     Room,
     Both,
+}
+
+// What a program is, as its arguments meet it: its name, what it prints as help, the word that asks for its other job, empty where it has none,
+// the word for the rows of its second table, how many rows that has at most, and what else may be lent.
+#[derive(Clone, Copy)]
+pub struct Program<'a> {
+    pub name: &'a [u8],
+    pub help: &'a [u8],
+    pub other: &'a [u8],
+    pub rows: &'a [u8],
+    pub most: u32,
+    pub lends: Lends,
+}
+
+// `other` is that the other job is asked for, `other_rows` the rows of the second table, `room` that of the output; `file` is the number of the
+// argument that names one; `next` is the argument to look at next; after `--` every argument names a file.
+#[derive(Clone, Copy)]
+pub struct Options {
+    pub other: bool,
+    pub element_rows: usize,
+    pub other_rows: usize,
+    pub room: usize,
+    pub file: Option<usize>,
+    pub next: usize,
+    pub only_files: bool,
 }
 
 #[derive(Clone, Copy)]
@@ -67,34 +76,20 @@ enum Asked {
     Unknown,
 }
 
-fn lends_elements(lends: Lends) -> bool {
-    match lends {
-        Lends::Room => false,
-        _ => true,
-    }
-}
-
-fn lends_room(lends: Lends) -> bool {
-    match lends {
-        Lends::Elements => false,
-        _ => true,
-    }
-}
-
-fn asked_by(word: &[u8], other: &[u8], rows: &[u8], lends: Lends) -> Asked {
-    if word.len() == 0 {
+fn asked_by(program: &Program, word: &[u8]) -> Asked {
+    if word.is_empty() {
         return Asked::File;
     }
-    if arguments::same_bytes(word, other) {
+    if arguments::same_bytes(word, program.other) {
         return Asked::Other;
     }
-    if arguments::same_bytes(word, rows) {
+    if arguments::same_bytes(word, program.rows) {
         return Asked::OtherRows;
     }
-    if arguments::same_bytes(word, b"--element-rows") & lends_elements(lends) {
+    if arguments::same_bytes(word, b"--element-rows") && !matches!(program.lends, Lends::Room) {
         return Asked::ElementRows;
     }
-    if arguments::same_bytes(word, b"--room") & lends_room(lends) {
+    if arguments::same_bytes(word, b"--room") && !matches!(program.lends, Lends::Elements) {
         return Asked::Room;
     }
     if !arguments::same_bytes(lent_tables::front(word, HYPHENS), b"--") {
@@ -118,29 +113,35 @@ fn said_by(word: &[u8]) -> Asked {
 }
 
 // The rows that a value asks for; one that is no number is named on standard error, with its option.
-fn rows_of(rt: &HostRuntime, program: &[u8], option: &[u8], word: &[u8], most: u32) -> Amount {
-    let v = arguments::value_of(word, most);
-    if let Amount::Nothing = v {
-        let _ = rt.stderr().write_all(program);
+fn rows_of(
+    rt: &HostRuntime,
+    program: &Program,
+    option: &[u8],
+    word: &[u8],
+    most: u32,
+) -> Option<usize> {
+    let rows = arguments::value_of(word, most);
+    if rows.is_none() {
+        let _ = rt.stderr().write_all(program.name);
         let _ = rt.stderr().write_all(b": ");
         console::complain(rt, option, b"not a number", word);
     }
-    v
+    rows
 }
 
-// An argument into the buffer: its length, 0 where there is none; or Failed and a line on standard error where it is longer than the buffer.
-fn argument(rt: &HostRuntime, program: &[u8], i: usize, word: &mut [u8]) -> Got {
+// An argument into the buffer: its length, 0 where there is none; or nothing and a line on standard error where it is longer than the buffer.
+fn argument(rt: &HostRuntime, program: &Program, i: usize, word: &mut [u8]) -> Option<usize> {
     match rt.arg(i, word) {
-        Ok(n) => Got::Bytes(n),
-        Err(FillError::NotPresent) => Got::Bytes(0),
+        Ok(n) => Some(n),
+        Err(FillError::NotPresent) => Some(0),
         Err(FillError::TooLong) => {
             console::complain(
                 rt,
-                program,
+                program.name,
                 b"an argument is too long, it begins with",
                 lent_tables::front(word, NAMED),
             );
-            Got::Failed
+            None
         }
     }
 }
@@ -158,196 +159,135 @@ fn argument_count(rt: &HostRuntime, word: &mut [u8]) -> usize {
 impl Options {
     fn new(most: usize) -> Self {
         Options {
-            good: true,
             other: false,
             element_rows: places::MOST_ELEMENTS,
             other_rows: most,
             room: MOST_ROOM,
-            file: 0,
+            file: None,
             next: 1,
             only_files: false,
         }
     }
 
-    fn stopped(mut self) -> Self {
-        self.good = false;
-        self
-    }
-
-    fn with_element_rows(mut self, v: Amount) -> Self {
-        let Amount::Is(n) = v else {
-            return self.stopped();
-        };
-        self.element_rows = n;
-        self
-    }
-
-    fn with_other_rows(mut self, v: Amount) -> Self {
-        let Amount::Is(n) = v else {
-            return self.stopped();
-        };
-        self.other_rows = n;
-        self
-    }
-
-    fn with_room(mut self, v: Amount) -> Self {
-        let Amount::Is(n) = v else {
-            return self.stopped();
-        };
-        self.room = n;
-        self
-    }
-
     // The argument names a file: there may be one.
-    fn with_file(mut self, rt: &HostRuntime, program: &[u8], i: usize, word: &[u8]) -> Self {
-        if 0 < self.file {
-            console::complain(rt, program, b"one file at a time, a second one", word);
-            return self.stopped();
+    fn take_file(
+        &mut self,
+        rt: &HostRuntime,
+        program: &Program,
+        i: usize,
+        word: &[u8],
+    ) -> Option<()> {
+        if self.file.is_some() {
+            console::complain(rt, program.name, b"one file at a time, a second one", word);
+            return None;
         }
         if MOST_ARGUMENTS < i {
-            return self.stopped();
+            return None;
         }
-        self.file = i;
+        self.file = Some(i);
         self.next = i + 1;
-        self
+        Some(())
     }
 
     // An option's value, which is the next argument. A value that is missing is no number.
-    fn with_value(
-        mut self,
+    fn take_value(
+        &mut self,
         rt: &HostRuntime,
-        program: &[u8],
+        program: &Program,
         option: &[u8],
         most: u32,
-        asked: Asked,
         word: &mut [u8],
-    ) -> Self {
+    ) -> Option<usize> {
         let i = self.next;
         if MOST_ARGUMENTS < i {
-            return self.stopped();
+            return None;
         }
         self.next = i + BOTH_WORDS;
-        let Got::Bytes(n) = argument(rt, program, i + 1, word) else {
-            return self.stopped();
-        };
-        let v = rows_of(rt, program, option, lent_tables::front(word, n), most);
-        match asked {
-            Asked::ElementRows => self.with_element_rows(v),
-            Asked::Room => self.with_room(v),
-            _ => self.with_other_rows(v),
-        }
+        let n = argument(rt, program, i + 1, word)?;
+        rows_of(rt, program, option, lent_tables::front(word, n), most)
     }
 
-    // The options with the next argument taken in, and its value where it has one.
-    fn taken(
-        mut self,
-        rt: &HostRuntime,
-        program: &[u8],
-        help: &[u8],
-        other: &[u8],
-        rows: &[u8],
-        most: u32,
-        lends: Lends,
-        word: &mut [u8],
-    ) -> Self {
+    // Takes in the next argument, and its value where it has one. Nothing is to be read where the call is wrong, or asked for help or the
+    // version, and was answered.
+    fn take(&mut self, rt: &HostRuntime, program: &Program, word: &mut [u8]) -> Option<()> {
         let i = self.next;
         if MOST_ARGUMENTS < i {
-            return self.stopped();
+            return None;
         }
-        let Got::Bytes(n) = argument(rt, program, i, word) else {
-            return self.stopped();
-        };
+        let n = argument(rt, program, i, word)?;
         if self.only_files {
-            return self.with_file(rt, program, i, lent_tables::front(word, n));
+            return self.take_file(rt, program, i, lent_tables::front(word, n));
         }
-        match asked_by(lent_tables::front(word, n), other, rows, lends) {
+        match asked_by(program, lent_tables::front(word, n)) {
             Asked::Other => {
                 self.other = true;
                 self.next = i + 1;
-                self
-            },
+            }
             Asked::ElementRows => {
-                self.with_value(
-                    rt,
-                    program,
-                    b"--element-rows",
-                    places::MOST_ELEMENTS as u32,
-                    Asked::ElementRows,
-                    word,
-                )
-            },
-            Asked::OtherRows => self.with_value(rt, program, rows, most, Asked::OtherRows, word),
-            Asked::Room => self.with_value(
-                rt,
-                program,
-                b"--room",
-                MOST_ROOM as u32,
-                Asked::Room,
-                word,
-            ),
+                let most = places::MOST_ELEMENTS as u32;
+                self.element_rows = self.take_value(rt, program, b"--element-rows", most, word)?;
+            }
+            Asked::OtherRows => {
+                self.other_rows = self.take_value(rt, program, program.rows, program.most, word)?;
+            }
+            Asked::Room => {
+                self.room = self.take_value(rt, program, b"--room", MOST_ROOM as u32, word)?;
+            }
             Asked::Help => {
-                console::write_out(rt, program, help);
-                self.stopped()
-            },
+                console::write_out(rt, program.name, program.help);
+                return None;
+            }
             Asked::Version => {
-                if console::write_out(rt, program, program) {
-                    console::write_out(rt, program, b" ");
-                    console::write_out(rt, program, &VERSION);
+                if console::write_out(rt, program.name, program.name) {
+                    console::write_out(rt, program.name, b" ");
+                    console::write_out(rt, program.name, &VERSION);
                 }
-                self.stopped()
-            },
+                return None;
+            }
             Asked::OnlyFiles => {
                 self.only_files = true;
                 self.next = i + 1;
-                self
-            },
-            Asked::File => self.with_file(rt, program, i, lent_tables::front(word, n)),
+            }
+            Asked::File => return self.take_file(rt, program, i, lent_tables::front(word, n)),
             Asked::Unknown => {
-                console::complain(rt, program, b"unknown option", lent_tables::front(word, n));
-                self.stopped()
-            },
+                console::complain(
+                    rt,
+                    program.name,
+                    b"unknown option",
+                    lent_tables::front(word, n),
+                );
+                return None;
+            }
         }
+        Some(())
     }
 }
 
-// What all the arguments ask for: the words are the program's name, its help, its own option, none where it has none, and that of its second
-// table, of at most so many rows.
-pub fn read_options(
-    rt: &HostRuntime,
-    program: &[u8],
-    help: &[u8],
-    other: &[u8],
-    rows: &[u8],
-    most: u32,
-    lends: Lends,
-    word: &mut [u8],
-) -> Options {
+// What all the arguments ask for; nothing where nothing is to be read.
+pub fn read_options(rt: &HostRuntime, program: &Program, word: &mut [u8]) -> Option<Options> {
     let count = argument_count(rt, word);
-    let mut o = Options::new(most as usize);
+    let mut o = Options::new(program.most as usize);
     for _ in 0..count {
         if count <= o.next {
-            return o;
+            return Some(o);
         }
-        if !o.good {
-            return o;
-        }
-        o = o.taken(rt, program, help, other, rows, most, lends, word);
+        o.take(rt, program, word)?;
     }
-    o
+    Some(o)
 }
 
 fn read_or_complain<R: Read>(
     rt: &HostRuntime,
-    program: &[u8],
+    program: &Program,
     input: &mut R,
     name: &[u8],
     text: &mut [u8],
-) -> Got {
+) -> Option<usize> {
     match console::read_text(input, text) {
-        Ok(n) => Got::Bytes(n),
+        Ok(n) => Some(n),
         Err(e) => {
-            console::fail(rt, program, name, &e);
-            Got::Failed
+            console::fail(rt, program.name, name, &e);
+            None
         }
     }
 }
@@ -360,18 +300,19 @@ fn opened(rt: &HostRuntime, name: &[u8]) -> io::Result<File> {
     }
 }
 
-// The text of standard input, or of the file that an argument names; `-` is standard input too.
+// The text of standard input, or of the file that an argument names; `-` is standard input too. How many bytes it has, or nothing and a line on
+// standard error where it can't be read.
 pub fn read_input(
     rt: &HostRuntime,
-    program: &[u8],
-    file: usize,
+    program: &Program,
+    file: Option<usize>,
     word: &mut [u8],
     text: &mut [u8],
-) -> Got {
-    if file == 0 {
+) -> Option<usize> {
+    let Some(i) = file else {
         return read_or_complain(rt, program, &mut rt.stdin(), b"standard input", text);
-    }
-    let n = rt.arg(file, word).unwrap_or(0);
+    };
+    let n = rt.arg(i, word).unwrap_or(0);
     let name = lent_tables::front(word, n);
     if arguments::same_bytes(name, b"-") {
         return read_or_complain(rt, program, &mut rt.stdin(), b"standard input", text);
@@ -382,18 +323,24 @@ pub fn read_input(
             read_or_complain(rt, program, &mut input, name, text)
         }
         Err(e) => {
-            console::fail(rt, program, name, &e);
-            Got::Failed
+            console::fail(rt, program.name, name, &e);
+            None
         }
     }
 }
 
 // One line on standard error of what was read: what is wrong with it.
-pub fn complain_of(rt: &HostRuntime, program: &[u8], what: &[u8], file: usize, word: &mut [u8]) {
-    if file == 0 {
-        console::complain(rt, program, what, b"standard input");
+pub fn complain_of(
+    rt: &HostRuntime,
+    program: &Program,
+    what: &[u8],
+    file: Option<usize>,
+    word: &mut [u8],
+) {
+    let Some(i) = file else {
+        console::complain(rt, program.name, what, b"standard input");
         return;
-    }
-    let n = rt.arg(file, word).unwrap_or(0);
-    console::complain(rt, program, what, lent_tables::front(word, n));
+    };
+    let n = rt.arg(i, word).unwrap_or(0);
+    console::complain(rt, program.name, what, lent_tables::front(word, n));
 }

@@ -8,8 +8,7 @@ use native.Mathlib.Omega.{arith}
 use lib.Dec.{eqb}
 use lib.ListN.{length, get_or}
 use Rattle.pairs.specs.code.Pairs.{same_number, later_of, pair_from, pair_of}
-use Rattle.pairs.specs.declared.Pair.{Pair}
-use Rattle.pairs.specs.declared.Pair.TheVariants.{Both, Neither}
+use Rattle.std.specs.Prelude.{Option, Some, None}
 
 left : (n i : ℕ) → i < n → n - i ≡ suc (n - (i + 1))
 left n i h = omega arith
@@ -19,16 +18,16 @@ module _ (s : ℕ → ℕ → Bool) (n i : ℕ) where
   unfolding pair_from
   outer_turn h = rw (left n i h, add-one i)
 
-  pub outer_none : n ≤ i → pair_from s i (n - i) ≡ Neither
+  pub outer_none : n ≤ i → pair_from s i (n - i) ≡ None
   unfolding pair_from
   outer_none h = let e : n - i ≡ 0 = omega arith in rw e
 
-  module _ (j : ℕ) (other : Pair) where
+  module _ (j : ℕ) (other : Option (ℕ × ℕ)) where
     pub inner_none : n ≤ j → later_of s i j (n - j) other ≡ other
     unfolding later_of
     inner_none h = let e : n - j ≡ 0 = omega arith in rw e
 
-    pub inner_hit : j < n → s i j ≡ true → later_of s i j (n - j) other ≡ Both i j
+    pub inner_hit : j < n → s i j ≡ true → later_of s i j (n - j) other ≡ Some (i, j)
     unfolding later_of
     inner_hit h e = rw (left n j h, e, later_of)
 

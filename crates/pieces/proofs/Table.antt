@@ -19,7 +19,8 @@ use Rattle.places.specs.Kinds.{is_name}
 use Rattle.places.specs.Places.{row_words, rows_in, kinds_of}
 use Rattle.pieces.specs.Records.{name_of, pending_record, pending_records, pieces_in, recording, record_table}
 use Rattle.pieces.specs.declared.PieceClass.{PieceClass}
-use Rattle.pieces.specs.declared.Recording.TheVariants.{Recorded, TooMany, TableShort}
+use Rattle.std.specs.Prelude.{Ok, Err}
+use Rattle.pieces.specs.declared.NotRecorded.TheVariants.{TooMany, TableShort}
 use Rattle.places.proofs.Laws.{kinds_end}
 use Rattle.pieces.proofs.Laws.{size_inside, first_piece}
 use Rattle.pieces.proofs.Classing.{piece_length, behind_small}
@@ -125,15 +126,15 @@ module _ (table : List ℕ) (count rows n words c : ℕ) (d : rows ≡ rows_in t
   unfolding pieces_in
   whole = rw (← d, ← e)
 
-  pub too_many : most_pieces < c → TooMany ≡ recording (length (pieces_in table count)) words
+  pub too_many : most_pieces < c → Err TooMany ≡ recording (length (pieces_in table count)) words
   unfolding recording
   too_many h = rw (whole, ← p, lt-ltb most_pieces c h)
 
-  pub too_short : c ≤ most_pieces → words / record_words < c → TableShort (words / record_words) ≡ recording (length (pieces_in table count)) words
+  pub too_short : c ≤ most_pieces → words / record_words < c → Err (TableShort (words / record_words)) ≡ recording (length (pieces_in table count)) words
   unfolding recording
   too_short h k = rw (whole, ← p, le-ltb most_pieces c h, lt-ltb (words / record_words) c k)
 
-  pub marked : c ≤ most_pieces → c ≤ words / record_words → Recorded c ≡ recording (length (pieces_in table count)) words
+  pub marked : c ≤ most_pieces → c ≤ words / record_words → Ok c ≡ recording (length (pieces_in table count)) words
   unfolding recording
   marked h k = rw (whole, ← p, le-ltb most_pieces c h, le-ltb (words / record_words) c k)
 

@@ -9,7 +9,7 @@ ghost use Rattle.places.specs.Kinds.{is_name};
 ghost use Rattle.places.specs.Places.{all_words, row_words, rows_in, kinds_of};
 ghost use Rattle.pieces.specs.Records.{record_words, name_of, pending_record, pending_records, pieces_in, recording, record_table};
 ghost use Rattle.pieces.specs.Classes.{is_either};
-ghost use Rattle.pieces.specs.Frames.{unframed, last_framed, framed_from, frame_of};
+ghost use Rattle.pieces.specs.Frames.{closing_name, last_framed, framed_from, frame_of};
 
 use places::ElementNumber;
 
@@ -65,10 +65,9 @@ const HEADING_END: usize = HEADING_SIZE - 1;
 
 const BEHIND_BOTH: usize = 2;
 
-// How many pieces were marked; or refusal 9; or refusal 10 with the rows that the table has.
+// Why no piece was marked: refusal 9; or refusal 10 with the rows that the table has.
 #[derive(Clone, Copy)]
-pub enum Recording {
-    Recorded(usize),
+pub enum NotRecorded {
     TooMany,
     TableShort(usize),
 }
@@ -108,26 +107,24 @@ fn size_at(elements: &[u64], n: usize, first: ElementNumber) -> usize
     requires { (row_words * n ≤ length elements.now) × (first.0 < n) }
     ensures { result ≡ piece_size closes_piece opens_piece (drop first.0 (kinds_of n elements.now)) }
 {
-    let from = first.0;
     let mut closed = closes_piece(kind_at(elements, n, first));
-    let mut m: usize = 1;
-    while from + m < n {
-        let next = from + m;
+    let most = n - first.0;
+    for m in 1..most {
+        let next = first.0 + m;
         let k = kind_at(elements, n, ElementNumber(next));
         if closed | opens_piece(k) {
             return m;
         }
         closed = closes_piece(k);
-        m += 1;
     }
-    m
+    most
 }
 
 // How many elements the piece has that begins at an element, 0 past the last.
 pub fn piece_size(elements: &[u64], count: usize, first: ElementNumber) -> usize
     ensures { result ≡ piece_size closes_piece opens_piece (drop first.0 (kinds_of (min count (rows_in elements.now)) elements.now)) }
 {
-    let n = lent_tables::least(count, places::rows_in(elements));
+    let n = count.min(places::rows_in(elements));
     if n <= first.0 {
         return 0;
     }
@@ -140,6 +137,7 @@ fn count_pieces(elements: &[u64], n: usize) -> usize
 {
     let mut at: usize = 0;
     let mut c: usize = 0;
+    // A while: each turn goes on by the piece's size.
     while at < n {
         at += size_at(elements, n, ElementNumber(at));
         c += 1;
@@ -295,6 +293,7 @@ fn write_records(elements: &[u64], n: usize, items: &mut [u64])
 {
     let mut at: usize = 0;
     let mut w: usize = 0;
+    // A while: each turn goes on by the piece's size.
     while at < n {
         let first = ElementNumber(at);
         let count = size_at(elements, n, first);
@@ -305,32 +304,34 @@ fn write_records(elements: &[u64], n: usize, items: &mut [u64])
     }
 }
 
-// Cuts the elements into pieces and marks each; the item table holds the records, and zeros after them or on a refusal.
-pub fn record_pieces(elements: &[u64], count: usize, items: &mut [u64]) -> Recording
+// Cuts the elements into pieces and marks each, and answers how many they are; the item table holds the records, and zeros after them or on a refusal.
+pub fn record_pieces(
+    elements: &[u64],
+    count: usize,
+    items: &mut [u64],
+) -> Result<usize, NotRecorded>
     ensures value { result ≡ recording (length (pieces_in elements.now count)) (length items.old) }
     ensures after { items.new ≡ record_table (pieces_in elements.now count) (length items.old) }
 {
     let rows = items.len() / RECORD_WORDS;
     lent_tables::clear(items);
-    let n = lent_tables::least(count, places::rows_in(elements));
+    let n = count.min(places::rows_in(elements));
     let pieces = count_pieces(elements, n);
     if places::MOST_PIECES < pieces {
-        return Recording::TooMany;
+        return Err(NotRecorded::TooMany);
     }
     if rows < pieces {
-        return Recording::TableShort(rows);
+        return Err(NotRecorded::TableShort(rows));
     }
     write_records(elements, n, items);
-    Recording::Recorded(pieces)
+    Ok(pieces)
 }
 
-// Whether the first piece is a heading, the last a closing and no other is either; and then the elements of their names, 0 where a closing has
-// none.
+// Where the first piece is a heading, the last a closing and no other is either: the elements of their names, of which a closing may have none.
 #[derive(Clone, Copy)]
 pub struct Frame {
-    pub good: bool,
     pub heading: ElementNumber,
-    pub closing: ElementNumber,
+    pub closing: Option<ElementNumber>,
 }
 
 fn is_either(class: u64) -> bool
@@ -339,40 +340,42 @@ fn is_either(class: u64) -> bool
     (class == HEADING) | (class == CLOSING)
 }
 
-fn no_frame() -> Frame
-    ensures { result ≡ unframed }
+// The element of a closing's name, if it has one.
+fn closing_name(first: ElementNumber, place: usize) -> Option<ElementNumber>
+    requires { first.0 + place < all_words }
+    ensures { result ≡ closing_name first.0 place }
 {
-    let heading = ElementNumber(0);
-    let closing = ElementNumber(0);
-    Frame {
-        good: false,
-        heading,
-        closing,
+    if place == 0 {
+        return None;
     }
+    let e = first.0 + place;
+    Some(ElementNumber(e))
 }
 
-// The last piece, which begins at an element: a closing, or there is no good frame.
-fn last_piece(heading: ElementNumber, first: ElementNumber, m: PieceClass) -> Frame
+// The last piece, which begins at an element: a closing, or there is no frame.
+fn last_piece(heading: ElementNumber, first: ElementNumber, m: PieceClass) -> Option<Frame>
     requires { first.0 + m.place < all_words }
     ensures { result ≡ last_framed heading.0 first.0 m }
 {
     if m.class != CLOSING {
-        return no_frame();
+        return None;
     }
-    let closing = name_element(first, m.place);
-    Frame {
-        good: true,
-        heading,
-        closing,
-    }
+    let closing = closing_name(first, m.place);
+    Some(Frame { heading, closing })
 }
 
 // The pieces after a heading, from the one on that begins at an element.
-fn frame_from(elements: &[u64], n: usize, heading: ElementNumber, from: ElementNumber) -> Frame
+fn frame_from(
+    elements: &[u64],
+    n: usize,
+    heading: ElementNumber,
+    from: ElementNumber,
+) -> Option<Frame>
     requires { (row_words * n ≤ length elements.now) × (from.0 ≤ n) }
     ensures { result ≡ framed_from heading.0 from.0 (kind_pieces (drop from.0 (kinds_of n elements.now))) }
 {
     let mut at = from.0;
+    // A while: each turn goes on by the piece's size.
     while at < n {
         let first = ElementNumber(at);
         let count = size_at(elements, n, first);
@@ -382,26 +385,26 @@ fn frame_from(elements: &[u64], n: usize, heading: ElementNumber, from: ElementN
             return last_piece(heading, first, m);
         }
         if is_either(m.class) {
-            return no_frame();
+            return None;
         }
         at = next;
     }
-    no_frame()
+    None
 }
 
 // What the pieces of the elements say of the frame.
-pub fn frame_of(elements: &[u64], count: usize) -> Frame
+pub fn frame_of(elements: &[u64], count: usize) -> Option<Frame>
     ensures { result ≡ frame_of (pieces_in elements.now count) }
 {
-    let n = lent_tables::least(count, places::rows_in(elements));
+    let n = count.min(places::rows_in(elements));
     if n == 0 {
-        return no_frame();
+        return None;
     }
     let first = ElementNumber(0);
     let size = size_at(elements, n, first);
     let m = piece_class(elements, n, first, size);
     if m.class != HEADING {
-        return no_frame();
+        return None;
     }
     let heading = name_element(first, m.place);
     frame_from(elements, n, heading, ElementNumber(size))

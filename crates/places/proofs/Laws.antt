@@ -8,15 +8,16 @@ use lib.Dec.{leb}
 use lib.ListN.{length, get_or, set, take, drop, length-drop, drop_of_length-le}
 use lib.Seq.{drop-cons, get_or-drop, take_all}
 use borrow.Author.Tests.{lt-ltb, le-ltb, le-leb, lt-leb, leb-true, leb-false}
+use Rattle.lent_tables.specs.TableWords.{word_in}
 use Rattle.places.specs.Places.{rows_from, cell_at, kinds_of, put_row, within}
 
 pub cell_in : (l : List ℕ) (i j : ℕ) → i < length l / 3 → get_or l (3 * i + j) 0 ≡ cell_at l i j
 unfolding cell_at
 cell_in l i j h = rw (lt-ltb i (length l / 3) h)
 
-pub cell_out : (l : List ℕ) (i j : ℕ) → length l / 3 ≤ i → 0 ≡ cell_at l i j
-unfolding cell_at
-cell_out l i j h = rw (le-ltb i (length l / 3) h)
+pub cell_is : (l : List ℕ) (i j : ℕ) → j < 3 → word_in 3 l i j ≡ cell_at l i j
+unfolding word_in cell_at
+cell_is l i j h = rw (lt-ltb j 3 h)
 
 -- the kinds one after the other, and each by its row
 pub kinds_length : (n : ℕ) (l : List ℕ) → length (kinds_of n l) ≡ n

@@ -73,10 +73,7 @@ fn cell(table: &[u64], i: usize, j: usize) -> u64
     requires { j < row_words }
     ensures { result ≡ cell_at table.now i j }
 {
-    if i < table.len() / ROW_WORDS {
-        return table[ROW_WORDS * i + j];
-    }
-    0
+    lent_tables::word_in::<ROW_WORDS>(table, i, j)
 }
 
 // Puts a row at its number, where the table has room for it.

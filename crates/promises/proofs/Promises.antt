@@ -9,8 +9,10 @@ use Rattle.element_reading.specs.Rows as elements
 use Rattle.element_reading.specs.Permitted.{Permitted as ElementsPermitted}
 use Rattle.element_reading.specs.Given.{element_count}
 use Rattle.element_reading.specs.Reading.{reading_of, table_of}
-use Rattle.element_reading.specs.declared.Reading.{Reading}
-use Rattle.element_reading.specs.declared.Reading.TheVariants as reading
+use Rattle.std.specs.Prelude.{Result, Ok, Err}
+use Rattle.places.specs.declared.ElementNumber.{ElementNumber}
+use Rattle.refusals.specs.declared.Refusal.{Refusal}
+use Rattle.refusals.specs.declared.SurveyRefusal.{SurveyRefusal}
 use Rattle.element_reading.proofs.Promises as reads
 use Rattle.forms.specs.Tree.{Row}
 use Rattle.forms.specs.code.RuleActions as frames
@@ -35,10 +37,8 @@ use Rattle.meaning.specs.ItemForms.{ItemForm, HasForm}
 use Rattle.meaning.specs.States.{Met, Least, NoneMet}
 use Rattle.meaning.specs.Values.{Gives}
 use Rattle.survey_reading.specs.code.Survey.{survey_of, elements_after_survey, items_after}
-use Rattle.survey_reading.specs.Permitted.{PermittedBy}
-use Rattle.survey_reading.specs.declared.Ended.{Ended}
-use Rattle.survey_reading.specs.declared.Ended.TheVariants as outcome
-use Rattle.survey_reading.specs.declared.Survey.{Survey}
+use Rattle.survey_reading.specs.Permitted.{Permitted as SurveyPermitted}
+use Rattle.survey_reading.specs.declared.Summary.{Summary}
 use Rattle.survey_reading.proofs.Permits as surveys
 use Rattle.survey_reading.proofs.Records.{of_items, state_held, number_held, none_held, by_broken, by_doubled, by_least, by_later, by_known, class_word, tallied, whole_held}
 use Rattle.damage.proofs.ThirdDemand.{third_demand}
@@ -55,8 +55,8 @@ elements_decided = reads.no_choice
 
 pub elements_refused : ElementsRefused
 elements_refused text words r table p x = (
-  (λ e. (subst (λ (y : Reading). ElementsPermitted text words y table) e p).0),
-  λ g. (elements_decided text words r (reading.Refused x) table (replicate words 0) p (g, refl)).0,
+  (λ e. (subst (λ (y : Result ElementNumber Refusal). ElementsPermitted text words y table) e p).0),
+  λ g. (elements_decided text words r (Err x) table (replicate words 0) p (g, refl)).0,
 )
 
 pub elements_zeros : ElementsZeros
@@ -82,20 +82,18 @@ survey_decided = surveys.no_choice
 
 pub survey_refused : SurveyRefused
 survey_refused text ew iw x e i p r = (
-  (λ q. (subst (λ (o : Ended). PermittedBy text ew iw o x.tally e i) q p).0),
-  λ g.
-      ap (λ (y : Survey). y.outcome)
-      (survey_decided text ew iw x (record { outcome = outcome.Refused r; tally = record { counts = replicate states.states 0 } }) e (replicate ew 0) i (replicate iw 0) p (g, refl, refl, refl)).0,
+  (λ q. (subst (λ (y : Result Summary SurveyRefusal). SurveyPermitted text ew iw y e i) q p).0),
+  λ g. (survey_decided text ew iw x (Err r) e (replicate ew 0) i (replicate iw 0) p (g, refl, refl)).0,
 )
 
 pub survey_zeros : SurveyZeros
-survey_zeros text ew iw x r e i p q = let z = subst (λ (o : Ended). PermittedBy text ew iw o x.tally e i) q p in (z.2, z.3, z.1)
+survey_zeros text ew iw x r e i p q = let z = subst (λ (y : Result Summary SurveyRefusal). SurveyPermitted text ew iw y e i) q p in (z.1, z.2)
 
 -- ==== demand 2
 
 pub elements_in_table : ElementsInTable
 elements_in_table text words r table p t =
-    (elements_decided text words r (reading.Read (record { 0 = element_count text })) table _ p (t, refl, refl)).1
+    (elements_decided text words r (Ok (record { 0 = element_count text })) table _ p (t, refl, refl)).1
 
 pub elements_in_order : ElementsInOrder
 elements_in_order text = (reads.stand_in_order text, reads.nothing_lost text)
@@ -168,13 +166,13 @@ pub no_number_else : NoNumberElse
 no_number_else = of_items _ none_held
 
 pub class_of_piece : ClassOfPiece
-class_of_piece text e i y tally elements items f = (f.pieces, class_word text e i y tally elements items f)
+class_of_piece text e i y elements items f = (f.pieces, class_word text e i y elements items f)
 
 pub frame_of_pieces : FrameOfPieces
-frame_of_pieces text e i y tally elements items f = f.frame
+frame_of_pieces text e i y elements items f = f.frame
 
 pub pair_of_pieces : PairOfPieces
-pair_of_pieces text e i y tally elements items f = f.pair
+pair_of_pieces text e i y elements items f = f.pair
 
 pub tally_of_records : TallyOfRecords
 tally_of_records = tallied

@@ -1,7 +1,7 @@
 -- The window: the owner's three demands in their order, and under each the statements that meet it, over what the public functions answer and
 -- leave in the tables lent to them. Each function's contract is one predicate, `Permitted`; proofs/Promises.antt proves each statement by citing
 -- its home. Assumes nothing: these are definitions.
-use Rattle.std.specs.Prelude.{ℕ, ◌-◌, ◌*◌, ◌≤◌, ◌<◌, ◌≡◌, ◌↔◌, ◌⊎◌, true, List, ◌++◌, length, get_or, replicate}
+use Rattle.std.specs.Prelude.{ℕ, ◌-◌, ◌*◌, ◌≤◌, ◌<◌, ◌≡◌, ◌↔◌, ◌⊎◌, true, List, ◌++◌, Result, Ok, Err, length, get_or, replicate}
 use Rattle.places.specs.Places.{row_words}
 use Rattle.refusals.specs.Refusals.{refusal_number, refusal_place, strict_number, strict_place, survey_number, survey_place}
 use Rattle.refusals.specs.declared.Refusal.{Refusal}
@@ -12,8 +12,7 @@ use Rattle.element_reading.specs.Table.{cells}
 use Rattle.element_reading.specs.Given.{element_count, Taken, Given as ElementsGiven}
 use Rattle.element_reading.specs.Permitted.{Permitted as ElementsPermitted}
 use Rattle.element_reading.specs.Promises.{Laid, InOrder}
-use Rattle.element_reading.specs.declared.Reading.{Reading}
-use Rattle.element_reading.specs.declared.Reading.TheVariants as reading
+use Rattle.places.specs.declared.ElementNumber.{ElementNumber}
 use Rattle.forms.specs.Tree.{Row}
 use Rattle.forms.specs.RowWords.{tree_rows_in}
 use Rattle.forms.specs.Files.{Tiled, TreeFits}
@@ -22,9 +21,7 @@ use Rattle.forms.specs.OperatorElements.{OperatorsRight}
 use Rattle.forms.specs.Owners.{AllOwned, OwnedOnce, LeavesAre}
 use Rattle.verdict.specs.Verdict.{Judged}
 use Rattle.verdict.specs.declared.Verdict.{Verdict}
-use Rattle.strict_reading.specs.declared.Strict.{Strict}
-use Rattle.strict_reading.specs.declared.Strict.TheVariants as strict
-use Rattle.strict_reading.specs.declared.Strict.TheVariants.{Read}
+use Rattle.strict_reading.specs.declared.Judgement.{Judgement}
 use Rattle.strict_reading.specs.Given.{Elements, IsRead, Given as StrictGiven}
 use Rattle.strict_reading.specs.Permitted.{Permitted as StrictPermitted}
 use Rattle.records.specs.Records.{word_at, is_item}
@@ -43,8 +40,7 @@ use Rattle.meaning.specs.FittingPieces.{FitsAForm}
 use Rattle.survey_reading.specs.Given.{Given as SurveyGiven}
 use Rattle.survey_reading.specs.Permitted.{Permitted as SurveyPermitted, LeavesTables}
 use Rattle.survey_reading.specs.Records.{OfSurveys, OfItems, Numbered}
-use Rattle.survey_reading.specs.declared.Survey.{Survey}
-use Rattle.survey_reading.specs.declared.Ended.TheVariants as outcome
+use Rattle.survey_reading.specs.declared.Summary.{Summary}
 use Rattle.damage.specs.PlacedElements.{In, PlacedPiece, SameEach, PieceOf, record_after}
 use Rattle.damage.specs.Damage.{OneLine, olds, news, NoneChanged, Undisturbed, Common, ClosedAbove, OpenedBelow}
 
@@ -54,67 +50,67 @@ use Rattle.damage.specs.Damage.{OneLine, olds, news, NoneChanged, Undisturbed, C
 -- Of the element reader, `element_reading::read_elements`: there is an answer, for every text and every table; it is the only one; a refusal is
 -- given exactly when 01's table says, with its number and its place; and it leaves zeros.
 abbrev pub ElementsAnswered : Type 0
-ElementsAnswered = (text : List ℕ) (words : ℕ) → (r : Reading) × ((table : List ℕ) × ElementsPermitted text words r table)
+ElementsAnswered = (text : List ℕ) (words : ℕ) → (r : Result ElementNumber Refusal) × ((table : List ℕ) × ElementsPermitted text words r table)
 
 abbrev pub ElementsDecided : Type 0
 ElementsDecided =
-    (text : List ℕ) (words : ℕ) (r r' : Reading) (table table' : List ℕ) → ElementsPermitted text words r table → ElementsPermitted text words r' table'
+    (text : List ℕ) (words : ℕ) (r r' : Result ElementNumber Refusal) (table table' : List ℕ) → ElementsPermitted text words r table → ElementsPermitted text words r' table'
     → (r ≡ r') × (table ≡ table')
 
 abbrev pub ElementsRefused : Type 0
 ElementsRefused =
-    (text : List ℕ) (words : ℕ) (r : Reading) (table : List ℕ) → ElementsPermitted text words r table
-    → (x : Refusal) → (r ≡ reading.Refused x) ↔ ElementsGiven text words (refusal_number x) (refusal_place x)
+    (text : List ℕ) (words : ℕ) (r : Result ElementNumber Refusal) (table : List ℕ) → ElementsPermitted text words r table
+    → (x : Refusal) → (r ≡ Err x) ↔ ElementsGiven text words (refusal_number x) (refusal_place x)
 
 abbrev pub ElementsZeros : Type 0
-ElementsZeros = (text : List ℕ) (words : ℕ) (x : Refusal) (table : List ℕ) → ElementsPermitted text words (reading.Refused x) table → table ≡ replicate words 0
+ElementsZeros = (text : List ℕ) (words : ℕ) (x : Refusal) (table : List ℕ) → ElementsPermitted text words (Err x) table → table ≡ replicate words 0
 
 -- of the strict reading, `strict_reading::read_strict`
 abbrev pub StrictAnswered : Type 0
 StrictAnswered =
     (text : List ℕ) (element_words tree_words : ℕ)
-    → (r : Strict) × ((elements : List ℕ) × ((tree : List ℕ) × StrictPermitted text element_words tree_words r elements tree))
+    → (r : Result Judgement StrictRefusal) × ((elements : List ℕ) × ((tree : List ℕ) × StrictPermitted text element_words tree_words r elements tree))
 
 abbrev pub StrictDecided : Type 0
 StrictDecided =
-    (text : List ℕ) (element_words tree_words : ℕ) (r r' : Strict) (elements elements' tree tree' : List ℕ)
+    (text : List ℕ) (element_words tree_words : ℕ) (r r' : Result Judgement StrictRefusal) (elements elements' tree tree' : List ℕ)
     → StrictPermitted text element_words tree_words r elements tree → StrictPermitted text element_words tree_words r' elements' tree'
     → (r ≡ r') × (elements ≡ elements') × (tree ≡ tree')
 
 abbrev pub StrictRefused : Type 0
 StrictRefused =
-    (text : List ℕ) (element_words tree_words : ℕ) (r : Strict) (elements tree : List ℕ) → StrictPermitted text element_words tree_words r elements tree
-    → (x : StrictRefusal) → (r ≡ strict.Refused x) ↔ StrictGiven text element_words tree_words (strict_number x) (strict_place x)
+    (text : List ℕ) (element_words tree_words : ℕ) (r : Result Judgement StrictRefusal) (elements tree : List ℕ) → StrictPermitted text element_words tree_words r elements tree
+    → (x : StrictRefusal) → (r ≡ Err x) ↔ StrictGiven text element_words tree_words (strict_number x) (strict_place x)
 
 abbrev pub StrictZeros : Type 0
 StrictZeros =
     (text : List ℕ) (element_words tree_words : ℕ) (x : StrictRefusal) (elements tree : List ℕ)
-    → StrictPermitted text element_words tree_words (strict.Refused x) elements tree
+    → StrictPermitted text element_words tree_words (Err x) elements tree
     → (elements ≡ replicate element_words 0) × (tree ≡ replicate tree_words 0)
 
 -- of the survey, `survey_reading::read_survey`
 abbrev pub SurveyAnswered : Type 0
 SurveyAnswered =
     (text : List ℕ) (element_words item_words : ℕ)
-    → (x : Survey) × ((elements : List ℕ) × ((items : List ℕ) × SurveyPermitted text element_words item_words x elements items))
+    → (x : Result Summary SurveyRefusal) × ((elements : List ℕ) × ((items : List ℕ) × SurveyPermitted text element_words item_words x elements items))
 
 abbrev pub SurveyDecided : Type 0
 SurveyDecided =
-    (text : List ℕ) (element_words item_words : ℕ) (x x' : Survey) (elements elements' items items' : List ℕ)
+    (text : List ℕ) (element_words item_words : ℕ) (x x' : Result Summary SurveyRefusal) (elements elements' items items' : List ℕ)
     → SurveyPermitted text element_words item_words x elements items → SurveyPermitted text element_words item_words x' elements' items'
     → (x ≡ x') × (elements ≡ elements') × (items ≡ items')
 
 abbrev pub SurveyRefused : Type 0
 SurveyRefused =
-    (text : List ℕ) (element_words item_words : ℕ) (x : Survey) (elements items : List ℕ) → SurveyPermitted text element_words item_words x elements items
-    → (r : SurveyRefusal) → (x.outcome ≡ outcome.Refused r) ↔ SurveyGiven text element_words item_words (survey_number r) (survey_place r)
+    (text : List ℕ) (element_words item_words : ℕ) (x : Result Summary SurveyRefusal) (elements items : List ℕ) → SurveyPermitted text element_words item_words x elements items
+    → (r : SurveyRefusal) → (x ≡ Err r) ↔ SurveyGiven text element_words item_words (survey_number r) (survey_place r)
 
 abbrev pub SurveyZeros : Type 0
 SurveyZeros =
-    (text : List ℕ) (element_words item_words : ℕ) (x : Survey) (r : SurveyRefusal) (elements items : List ℕ)
+    (text : List ℕ) (element_words item_words : ℕ) (x : Result Summary SurveyRefusal) (r : SurveyRefusal) (elements items : List ℕ)
     → SurveyPermitted text element_words item_words x elements items
-    → x.outcome ≡ outcome.Refused r
-    → (elements ≡ replicate element_words 0) × (items ≡ replicate item_words 0) × (x.tally.counts ≡ replicate states.states 0)
+    → x ≡ Err r
+    → (elements ≡ replicate element_words 0) × (items ≡ replicate item_words 0)
 
 -- ==== Demand 2. "Elements, tree, acceptance, verdict, item states and folded numbers are those of the VHDL standard, the 1076.6 draft and 01. The
 -- tree's leaves are the text's elements in order. An item without a number in that meaning is given none."
@@ -124,7 +120,7 @@ SurveyZeros =
 -- a text that is read leaves its elements, a row to each, and zeros after them
 abbrev pub ElementsInTable : Type 0
 ElementsInTable =
-    (text : List ℕ) (words : ℕ) (r : Reading) (table : List ℕ) → ElementsPermitted text words r table → Taken text words
+    (text : List ℕ) (words : ℕ) (r : Result ElementNumber Refusal) (table : List ℕ) → ElementsPermitted text words r table → Taken text words
     → table ≡ cells (rows_of text) ++ replicate (words - row_words * element_count text) 0
 
 -- they stand in order, and every byte of the text lies in exactly one of them, or is a separator, a line end or part of a comment
@@ -138,13 +134,13 @@ ElementsInOrder = (text : List ℕ) → InOrder 0 (rows_of text) (length text) �
 abbrev pub OfRows : (List ℕ → Verdict → List Row → Type 0) → Type 0
 OfRows P =
     (text : List ℕ) (element_words tree_words n : ℕ) (v : Verdict) (elements tree : List ℕ)
-    → StrictPermitted text element_words tree_words (Read n v) elements tree → P text v (tree_rows_in n tree)
+    → StrictPermitted text element_words tree_words (Ok (record { rows = n; verdict = v })) elements tree → P text v (tree_rows_in n tree)
 
 -- "acceptance": a text is read exactly where it is a file by the forms and no refusal of 01's table is due
 abbrev pub Acceptance : Type 0
 Acceptance =
-    (text : List ℕ) (element_words tree_words : ℕ) (answer : Strict) (elements tree : List ℕ) → StrictPermitted text element_words tree_words answer elements tree
-    → (n : ℕ) (v : Verdict) → (answer ≡ Read n v) ↔ IsRead text element_words tree_words n v
+    (text : List ℕ) (element_words tree_words : ℕ) (answer : Result Judgement StrictRefusal) (elements tree : List ℕ) → StrictPermitted text element_words tree_words answer elements tree
+    → (n : ℕ) (v : Verdict) → (answer ≡ Ok (record { rows = n; verdict = v })) ↔ IsRead text element_words tree_words n v
 
 -- "tree": every row fits its line of 01's table
 abbrev pub RowsFitLines : Type 0
@@ -217,24 +213,24 @@ NoNumberElse = OfItems (λ all above p word. (word column.state ≡ 0 → ⊥) �
 -- "one record to a piece": each has its piece's class in its first word
 abbrev pub ClassOfPiece : Type 0
 ClassOfPiece =
-    OfSurveys (λ text y tally items. (y.pieces ≡ length (pieces_of text)) × ((j : ℕ) → j < record_count (pieces_of text) → word_at items j 0 ≡ class_of (piece_of (pieces_of text) j)))
+    OfSurveys (λ text y items. (y.pieces ≡ length (pieces_of text)) × ((j : ℕ) → j < record_count (pieces_of text) → word_at items j 0 ≡ class_of (piece_of (pieces_of text) j)))
 
 -- the frame, and "the first pair of own items that share a name", are those of the pieces
 abbrev pub FrameOfPieces : Type 0
-FrameOfPieces = OfSurveys (λ text y tally items. (y.frame ≡ true) ↔ GoodFrame (pieces_of text))
+FrameOfPieces = OfSurveys (λ text y items. (y.frame ≡ true) ↔ GoodFrame (pieces_of text))
 
 abbrev pub PairOfPieces : Type 0
-PairOfPieces = OfSurveys (λ text y tally items. FirstPair (pieces_of text) y.pair)
+PairOfPieces = OfSurveys (λ text y items. FirstPair (pieces_of text) y.pair)
 
 -- "a tally of items by state": each elementCount is how many records are an item's and have that state
 abbrev pub TallyOfRecords : Type 0
-TallyOfRecords = OfSurveys (λ text y tally items. (k : ℕ) → k ≤ states.range → get_or tally.counts k 0 ≡ in_state k items 0 y.pieces)
+TallyOfRecords = OfSurveys (λ text y items. (k : ℕ) → k ≤ states.range → get_or y.tally.counts k 0 ≡ in_state k items 0 y.pieces)
 
 -- "The survey is whole when the frame is good and every item is in state 0."
 abbrev pub WholeExactly : Type 0
 WholeExactly =
     OfSurveys
-    (λ text y tally items.
+    (λ text y items.
     (y.whole ≡ true)
     ↔ (GoodFrame (pieces_of text) × ((j : ℕ) → j < record_count (pieces_of text) → is_item (class_of (piece_of (pieces_of text) j)) ≡ true → word_at items j column.state ≡ 0)))
 

@@ -1,5 +1,4 @@
 pub mod Laws
 pub mod Numbers
 pub mod Fields
-pub mod Clearing
 pub mod Lines

@@ -2,8 +2,9 @@
 // answer is the place after the last byte, or the buffer's length where it is full. So an answer below the length says that all was put.
 #![tactic(auto)]
 
-ghost use Rattle.std.specs.Prelude.{◌≡◌, [], ◌∷◌, ◌++◌, ◌-◌, ◌≤◌, ◌<◌, length, take, drop, replicate};
+ghost use Rattle.std.specs.Prelude.{◌≡◌, ℕ, List, [], ◌∷◌, ◌++◌, ◌-◌, ◌≤◌, ◌<◌, length, take, drop, replicate};
 ghost use Rattle.puts.specs.Puts.{Wrote};
+ghost use Rattle.puts.specs.Lines.{Part, PutsLines, numbers_in_row};
 ghost use Rattle.puts.specs.Decimals.{decimal_of, signed_text, field_of, fields_of};
 
 // The line feed, which ends every line.
@@ -20,7 +21,7 @@ const LAST_WORD: u64 = 18446744073709551615;
 pub fn put_none(out: &mut [u8], at: usize) -> usize
     ensures { Wrote out.old at [] out.new result }
 {
-    if at <= out.len() { at } else { out.len() }
+    at.min(out.len())
 }
 
 pub fn put_byte(b: u8, out: &mut [u8], at: usize) -> usize
@@ -37,10 +38,8 @@ pub fn put_bytes(s: &[u8], out: &mut [u8], at: usize) -> usize
     ensures { Wrote out.old at s.now out.new result }
 {
     let mut w = put_none(out, at);
-    let mut i = 0;
-    while i < s.len() {
-        w = put_byte(s[i], out, w);
-        i += 1;
+    for b in s {
+        w = put_byte(*b, out, w);
     }
     w
 }
@@ -80,10 +79,8 @@ pub fn put_fields(words: &[u64], out: &mut [u8], at: usize) -> usize
     ensures { Wrote out.old at (fields_of words.now) out.new result }
 {
     let mut w = put_none(out, at);
-    let mut i = 0;
-    while i < words.len() {
-        w = put_field(words[i], out, w);
-        i += 1;
+    for word in words {
+        w = put_field(*word, out, w);
     }
     w
 }
@@ -92,24 +89,16 @@ pub fn put_fields(words: &[u64], out: &mut [u8], at: usize) -> usize
 pub fn clear_from(out: &mut [u8], at: usize)
     ensures { out.new ≡ take at out.old ++ replicate (length out.old - at) 0 }
 {
-    let mut i = at;
-    while i < out.len() {
-        out[i] = 0;
-        i += 1;
-    }
+    let from = at.min(out.len());
+    out[from..].fill(0);
 }
 
 // So many words from a place on, fewer where there are no more.
 pub fn words_from(words: &[u64], from: usize, n: usize) -> &[u64]
     ensures { result.now ≡ take n (drop from words.now) }
 {
-    if words.len() <= from {
-        return &words[words.len()..];
-    }
-    if words.len() - from <= n {
-        return &words[from..];
-    }
-    &words[from..from + n]
+    let rest = &words[from.min(words.len())..];
+    &rest[..n.min(rest.len())]
 }
 
 // A part of a listing in a buffer: the line to go on with, how many bytes of the buffer are used, and how many lines are left.
@@ -127,10 +116,40 @@ pub fn ended(next: usize, to: usize, out: &mut [u8], used: usize) -> Filled
     ensures out_after { out.new ≡ take used out.old ++ replicate (length out.old - used) 0 }
 {
     clear_from(out, used);
-    let left = if next < to { to - next } else { 0 };
     Filled {
         next: next,
         used: used,
-        left: left,
+        left: to.saturating_sub(next),
     }
+}
+
+// The part of a listing from a line up to another, whose lines a function puts by their numbers: as many whole lines as the buffer has room for.
+pub fn fill<F: Fn(usize, &mut [u8], usize) -> usize>(
+    put_line: F,
+    from: usize,
+    to: usize,
+    out: &mut [u8],
+) -> Filled
+    requires { F.IsAlwaysCallable put_line }
+    ensures { (line : ℕ → List ℕ) → PutsLines (F.post put_line) line → Part line from to (length out.old) result out.new }
+{
+    let mut w = 0;
+    for i in from..to {
+        let r = put_line(i, out, w);
+        if out.len() <= r {
+            return ended(i, to, out, w);
+        }
+        w = r;
+    }
+    ended(to.max(from), to, out, w)
+}
+
+// The numbers of a row of a table whose rows have so many, none where the table has no such row.
+pub fn numbers_at(table: &[u64], width: usize, i: usize) -> &[u64]
+    ensures { result.now ≡ numbers_in_row table.now width i }
+{
+    if width != 0 && i < table.len() / width {
+        return words_from(table, width * i, width);
+    }
+    &[]
 }

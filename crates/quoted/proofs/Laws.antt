@@ -1,4 +1,5 @@
 -- The turns of the search for the closing quote, in the code's terms, and that it closes within the text. Assumes nothing.
+use Rattle.std.proofs.Common.{Option, Some, None}
 use mathlib.Core.Path.{◌≡◌, refl, sym, ap, ◌∙◌}
 use mathlib.Core.Bool.{Bool, true, false, cond}
 use mathlib.Core.List.{List, [], ◌∷◌}
@@ -15,8 +16,6 @@ use Rattle.quoted.specs.Quoted.{closed_from}
 use Rattle.quoted.specs.code.Next.{next_at}
 use Rattle.quoted.specs.declared.Next.{Next}
 use Rattle.quoted.specs.declared.Next.TheVariants.{Doubled, Closes, Inside, Breaks}
-use Rattle.quoted.specs.declared.Closed.{Closed}
-use Rattle.quoted.specs.declared.Closed.TheVariants.{After, Never}
 
 -- the ways of `next_at`
 module _ (q : ℕ) (s : List ℕ) (b : ℕ) (p : b ≡ get_or s 0 0) where
@@ -41,11 +40,11 @@ module _ (q : ℕ) (s : List ℕ) (b : ℕ) (p : b ≡ get_or s 0 0) where
   is_breaking x e g t = simp (← p, ne_eqb b q e, ← g, t)
 
 -- what each step makes of a list that is not empty
-abbrev steps : Next → ℕ → ℕ → List ℕ → Closed
+abbrev steps : Next → ℕ → ℕ → List ℕ → Option ℕ
 steps Doubled q n s = closed_from q (suc (suc n)) (drop 1 s)
-steps Closes q n s = After (suc n)
+steps Closes q n s = Some (suc n)
 steps Inside q n s = closed_from q (suc n) s
-steps Breaks q n s = Never
+steps Breaks q n s = None
 
 step : (q n b : ℕ) (s : List ℕ) → closed_from q n (b ∷ s) ≡ steps (next_at q (b ∷ s)) q n s
 unfolding closed_from next_at
@@ -67,7 +66,7 @@ step q n b (d ∷ s) = go (eqb b q) (eqb d q) (is_graphic b) refl refl refl
     go false y false e f g = rw (e, g)
 
 -- the same at a place; st is what `next_at` answers
-module _ (q : ℕ) (s : List ℕ) (n : ℕ) (st : Next) (whole : Closed) (v : closed_from q n (drop n s) ≡ whole) (h : n < length s) (e : st ≡ next_at q (take (length s - n) (drop n s))) where
+module _ (q : ℕ) (s : List ℕ) (n : ℕ) (st : Next) (whole : Option ℕ) (v : closed_from q n (drop n s) ≡ whole) (h : n < length s) (e : st ≡ next_at q (take (length s - n) (drop n s))) where
   began : (m : Next) → st ≡ m → steps m q n (drop (suc n) s) ≡ whole
   began m t =
       let k : next_at q (get_or s n 0 ∷ drop (suc n) s) ≡ m = ap (next_at q) (sym (drop-cons s n 0 h)) ∙ sym (rw (part_rest s n) at e) ∙ t in
@@ -79,31 +78,31 @@ module _ (q : ℕ) (s : List ℕ) (n : ℕ) (st : Next) (whole : Closed) (v : cl
   pub turn_inside : st ≡ Inside → closed_from q (n + 1) (drop (n + 1) s) ≡ whole
   turn_inside t = rw add-one (began Inside t)
 
-  pub turn_closes : st ≡ Closes → After (n + 1) ≡ whole
+  pub turn_closes : st ≡ Closes → Some (n + 1) ≡ whole
   turn_closes t = rw add-one (began Closes t)
 
-  pub turn_breaks : st ≡ Breaks → Never ≡ whole
+  pub turn_breaks : st ≡ Breaks → None ≡ whole
   turn_breaks t = began Breaks t
 
-pub turns_end : (q : ℕ) (s : List ℕ) (n : ℕ) (whole : Closed) → closed_from q n (drop n s) ≡ whole → length s ≤ n → Never ≡ whole
+pub turns_end : (q : ℕ) (s : List ℕ) (n : ℕ) (whole : Option ℕ) → closed_from q n (drop n s) ≡ whole → length s ≤ n → None ≡ whole
 unfolding closed_from
 turns_end q s n whole v h = rw (drop_of_length-le s h) at v
 
 -- what closes does so within the text, by a byte at least
-abbrev Within : ℕ → ℕ → Closed → Type 0
-Within low high (After n) = (low < n) × (n ≤ high)
-Within low high Never = Unit {0}
+abbrev Within : ℕ → ℕ → Option ℕ → Type 0
+Within low high (Some n) = (low < n) × (n ≤ high)
+Within low high None = Unit {0}
 
-wider : (low low' high high' : ℕ) (c : Closed) → Within low high c → low' ≤ low → high ≤ high' → Within low' high' c
-wider low low' high high' (After n) h l g = (omega arith, omega arith)
-wider low low' high high' Never h l g = tt
+wider : (low low' high high' : ℕ) (c : Option ℕ) → Within low high c → low' ≤ low → high ≤ high' → Within low' high' c
+wider low low' high high' (Some n) h l g = (omega arith, omega arith)
+wider low low' high high' None h l g = tt
 
 closes_in : (q : ℕ) (s : List ℕ) (m : ℕ) → Within m (m + length s) (closed_from q m s)
 unfolding closed_from
 closes_in q [] m = tt
 closes_in q (b ∷ []) m = go (eqb b q)
   where
-    go : (x : Bool) → Within m (m + 1) (cond x (After (suc m)) Never)
+    go : (x : Bool) → Within m (m + 1) (cond x (Some (suc m)) None)
     go true = (omega arith, omega arith)
     go false = tt
 closes_in q (b ∷ d ∷ s) m = go (eqb b q) (eqb d q) (is_graphic b) refl refl refl (closes_in q s (suc (suc m))) (closes_in q (d ∷ s) (suc m))
@@ -114,5 +113,5 @@ closes_in q (b ∷ d ∷ s) m = go (eqb b q) (eqb d q) (is_graphic b) refl refl 
     go false y true e f g h k = rw (e, g) (wider (suc m) m (suc m + length (d ∷ s)) (m + length (b ∷ d ∷ s)) (closed_from q (suc m) (d ∷ s)) k (omega arith) (omega arith))
     go false y false e f g h k = rw (e, g) tt
 
-pub closed_in : (q : ℕ) (s : List ℕ) (m n : ℕ) → closed_from q m s ≡ After n → (m < n) × (n ≤ m + length s)
+pub closed_in : (q : ℕ) (s : List ℕ) (m n : ℕ) → closed_from q m s ≡ Some n → (m < n) × (n ≤ m + length s)
 closed_in q s m n e = rw e at (closes_in q s m)

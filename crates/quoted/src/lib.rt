@@ -17,13 +17,6 @@ pub enum Next {
     Breaks,
 }
 
-// After how many bytes the quote closes, itself among them.
-#[derive(Clone, Copy)]
-pub enum Closed {
-    After(usize),
-    Never,
-}
-
 fn next_at(quote: u8, s: &[u8]) -> Next
     ensures { result ≡ next_at quote s.now }
 {
@@ -43,10 +36,11 @@ fn next_at(quote: u8, s: &[u8]) -> Next
     Next::Breaks
 }
 
-// The text is what stands after the quote that opens.
-pub fn closing(quote: u8, s: &[u8]) -> Closed
+// After how many bytes the quote closes, itself among them, if it does. The text is what stands after the quote that opens.
+pub fn closing(quote: u8, s: &[u8]) -> Option<usize>
     ensures { result ≡ closed quote s.now }
 {
+    // a while: each turn goes on after the one or two bytes that it passed
     let mut n = 0;
     while n < s.len() {
         match next_at(quote, &s[n..]) {
@@ -54,15 +48,15 @@ pub fn closing(quote: u8, s: &[u8]) -> Closed
                 n += TWO_QUOTES;
             },
             Next::Closes => {
-                return Closed::After(n + 1);
+                return Some(n + 1);
             },
             Next::Inside => {
                 n += 1;
             },
             Next::Breaks => {
-                return Closed::Never;
+                return None;
             },
         }
     }
-    Closed::Never
+    None
 }

@@ -1,19 +1,20 @@
 -- Each line's definition, of what is put. Assumes nothing.
-use Prim.Native.Nat.{ℕ, ◌+◌, ◌-◌, ◌*◌, ◌/◌, ◌≤◌, ◌<◌, min}
+use Prim.Native.Nat.{ℕ, ◌+◌, ◌-◌, ◌/◌, ◌≤◌, ◌<◌, min}
 use native.Mathlib.Omega.{arith}
-use mathlib.Core.Path.{◌≡◌, refl, ap, ◌∙◌}
+use mathlib.Core.Path.{◌≡◌, ap, ◌∙◌}
 use mathlib.Core.List.{List, [], ◌∷◌}
 use lib.ListN.{length, get_or, take, drop}
-use borrow.Author.Tests.{eq-eqb, ne_eqb, lt-ltb, le-ltb, le-leb, lt-leb}
+use borrow.Author.Tests.{eq-eqb, ne_eqb, le-leb, lt-leb}
 use Rattle.words.specs.Words.{bytes_of}
 use Rattle.puts.specs.Puts.{Wrote}
+use Rattle.puts.specs.Lines.{numbers_in_row}
 use Rattle.puts.specs.Decimals.{decimal_of, field_of, fields_of, line_feed}
 use Rattle.puts.proofs.Laws.{then3, then4, named}
 use Rattle.states.specs.States.{states}
-use Rattle.refused_line.specs.Refused.{refusal, place, counted, whole, refused_of, lines_by}
-use Rattle.refused_line.proofs.Laws.{given_line, refused_line}
+use Rattle.refused_line.specs.Refused.{counted, whole, whole_text, lines_by, Unrefused}
+use Rattle.refused_line.proofs.Laws.{given_line}
 use Rattle.pieces.specs.Records.{record_words}
-use Rattle.record_lines.specs.Lines.{frame, pair, earlier, later, tally, frame_text, whole_text, head_of, first_of, numbers_at, record_fields, tally_text, both_of, pair_text, records_listed, last_of, listed_line, record_line, beside_records, record_lines}
+use Rattle.record_lines.specs.Lines.{frame, pair, earlier, later, tally, frame_text, head_of, first_of, numbers_at, record_fields, tally_text, both_of, pair_text, records_listed, last_of, listed_line, record_line, beside_records, record_lines}
 
 module _ {t t' : List ℕ} {at r : ℕ} where
   pub good_put : (w : ℕ) → w ≡ 1 → Wrote t at (bytes_of " frame good") t' r → Wrote t at (frame_text w) t' r
@@ -23,14 +24,6 @@ module _ {t t' : List ℕ} {at r : ℕ} where
   pub bad_put : (w : ℕ) → (w ≡ 1 → ⊥) → Wrote t at (bytes_of " frame bad") t' r → Wrote t at (frame_text w) t' r
   unfolding frame_text
   bad_put w h p = named (rw (ne_eqb w 1 h)) p
-
-  pub whole_put : (w : ℕ) → w ≡ 1 → Wrote t at (bytes_of " whole yes\n") t' r → Wrote t at (whole_text w) t' r
-  unfolding whole_text
-  whole_put w h p = named (rw (eq-eqb w 1 h)) p
-
-  pub part_put : (w : ℕ) → (w ≡ 1 → ⊥) → Wrote t at (bytes_of " whole no\n") t' r → Wrote t at (whole_text w) t' r
-  unfolding whole_text
-  part_put w h p = named (rw (ne_eqb w 1 h)) p
 
   pub pair_put : (w e l : ℕ) → w ≡ 1 → Wrote t at (both_of e l) t' r → Wrote t at (pair_text w e l) t' r
   unfolding pair_text
@@ -60,18 +53,9 @@ pub first_put : {t t' : List ℕ} {at r : ℕ} (answer : List ℕ) (n f w : ℕ)
 unfolding first_of
 first_put answer n f w x y z p = named (rw (← x, ← y, ← z)) p
 
--- the numbers of a record
-pub numbers_in : (items ws : List ℕ) (i : ℕ) → i < length items / record_words → ws ≡ take record_words (drop (record_words * i) items) → ws ≡ numbers_at items i
-unfolding numbers_at
-numbers_in items ws i h e = rw (lt-ltb i (length items / record_words) h) e
-
-pub numbers_out : (items : List ℕ) (i : ℕ) → length items / record_words ≤ i → take (length items - length items) (drop (length items) items) ≡ numbers_at items i
-unfolding numbers_at
-numbers_out items i h = let e : length items - length items ≡ 0 = omega arith in rw (le-ltb i (length items / record_words) h, e) refl
-
-pub record_put : {t t₁ t₂ t₃ : List ℕ} {a b c d : ℕ} (items ws : List ℕ) (i : ℕ) → ws ≡ numbers_at items i → Wrote t a (decimal_of i) t₁ b
+pub record_put : {t t₁ t₂ t₃ : List ℕ} {a b c d : ℕ} (items ws : List ℕ) (i : ℕ) → ws ≡ numbers_in_row items record_words i → Wrote t a (decimal_of i) t₁ b
     → Wrote t₁ b (fields_of ws) t₂ c → Wrote t₂ c (line_feed ∷ []) t₃ d → Wrote t a (record_fields items i) t₃ d
-unfolding record_fields
+unfolding record_fields numbers_at numbers_in_row
 record_put items ws i e p q u = named (rw (← e)) (then3 p q u)
 
 pub tally_put : {t t₁ t₂ t₃ : List ℕ} {a b c d : ℕ} (answer ws : List ℕ) → ws ≡ take states (drop tally answer) → Wrote t a (bytes_of "tally") t₁ b
@@ -85,25 +69,20 @@ unfolding both_of
 both_put e l p q u v = then4 p q u v
 
 -- a line by its number
-module _ {t t' : List ℕ} {at r : ℕ} (items answer : List ℕ) where
-  pub refused_record : (i w x : ℕ) → w ≡ get_or answer refusal 0 → (w ≡ 0 → ⊥) → x ≡ get_or answer place 0 → Wrote t at (refused_of w x) t' r
-      → Wrote t at (record_line items answer i) t' r
-  unfolding record_line
-  refused_record i w x e h d p = refused_line answer (listed_line items answer) i w x e h d p
-
-  pub head_record : (i w : ℕ) → w ≡ get_or answer refusal 0 → w ≡ 0 → i ≡ 0 → Wrote t at (first_of answer) t' r → Wrote t at (record_line items answer i) t' r
+module _ {t₀ t t' : List ℕ} {at r : ℕ} (items answer : List ℕ) where
+  pub head_record : (i : ℕ) → Unrefused answer t₀ t → i ≡ 0 → Wrote t at (first_of answer) t' r → Wrote t₀ at (record_line items answer i) t' r
   unfolding record_line listed_line
-  head_record i w e h z q = given_line answer (listed_line items answer) i w e h (named (rw (eq-eqb i 0 z)) q)
+  head_record i u z q = given_line answer (listed_line items answer) i u (named (rw (eq-eqb i 0 z)) q)
 
-  pub one_record : (i w n : ℕ) → w ≡ get_or answer refusal 0 → w ≡ 0 → (i ≡ 0 → ⊥) → n ≡ records_listed items answer → i ≤ n
-      → Wrote t at (record_fields items (i - 1)) t' r → Wrote t at (record_line items answer i) t' r
+  pub one_record : (i n : ℕ) → Unrefused answer t₀ t → (i ≡ 0 → ⊥) → n ≡ records_listed items answer → i ≤ n
+      → Wrote t at (record_fields items (i - 1)) t' r → Wrote t₀ at (record_line items answer i) t' r
   unfolding record_line listed_line
-  one_record i w n e h z d k q = given_line answer (listed_line items answer) i w e h (named (rw (ne_eqb i 0 z, ← d, le-leb i n k)) q)
+  one_record i n u z d k q = given_line answer (listed_line items answer) i u (named (rw (ne_eqb i 0 z, ← d, le-leb i n k)) q)
 
-  pub last_record : (i w n : ℕ) → w ≡ get_or answer refusal 0 → w ≡ 0 → (i ≡ 0 → ⊥) → n ≡ records_listed items answer → n < i
-      → Wrote t at (last_of answer n i) t' r → Wrote t at (record_line items answer i) t' r
+  pub last_record : (i n : ℕ) → Unrefused answer t₀ t → (i ≡ 0 → ⊥) → n ≡ records_listed items answer → n < i
+      → Wrote t at (last_of answer n i) t' r → Wrote t₀ at (record_line items answer i) t' r
   unfolding record_line listed_line
-  last_record i w n e h z d k q = given_line answer (listed_line items answer) i w e h (named (rw (ne_eqb i 0 z, ← d, lt-leb i n k)) q)
+  last_record i n u z d k q = given_line answer (listed_line items answer) i u (named (rw (ne_eqb i 0 z, ← d, lt-leb i n k)) q)
 
 -- how many records are listed, and how many lines there are
 pub listed_of : (items answer : List ℕ) (l n : ℕ) → l ≡ min n (length items / record_words) → n ≡ get_or answer counted 0 → l ≡ records_listed items answer

@@ -6,6 +6,7 @@ use Rattle.pieces.specs.Records.{record_words}
 use Rattle.puts.specs.Decimals.{decimal_of, field_of, fields_of, line_feed}
 use Rattle.puts.specs.Lines.{lines_from}
 use Rattle.refused_line.specs.Refused.{counted, whole, line_by, lines_by}
+pub use Rattle.refused_line.specs.Refused.{whole_text}
 
 -- where a survey's answer has frame, whether there is a pair, the pair's two pieces, and the tally
 abbrev pub frame : ℕ
@@ -26,9 +27,6 @@ tally = 8
 -- "`frame` is `good` or `bad`, `whole` is `yes` or `no`."
 unfoldable pub frame_text : ℕ → List ℕ
 frame_text f = cond (eqb f 1) (bytes_of " frame good") (bytes_of " frame bad")
-
-unfoldable pub whole_text : ℕ → List ℕ
-whole_text w = cond (eqb w 1) (bytes_of " whole yes\n") (bytes_of " whole no\n")
 
 -- "`pieces COUNT frame good whole no`"
 unfoldable pub head_of : ℕ → ℕ → ℕ → List ℕ

@@ -6,11 +6,11 @@ ghost use Rattle.std.specs.Prelude.{◌≡◌, ◌<◌, ◌/◌, length};
 ghost use Rattle.pieces.specs.Records.{record_words};
 ghost use Rattle.puts.specs.Puts.{Wrote};
 ghost use Rattle.puts.specs.Lines.{Part};
-ghost use Rattle.record_lines.specs.Lines.{frame_text, whole_text, head_of, first_of, numbers_at, record_fields, tally_text, both_of, pair_text, records_listed, last_of, record_line, record_lines};
+ghost use Rattle.record_lines.specs.Lines.{frame_text, head_of, first_of, record_fields, tally_text, both_of, pair_text, records_listed, last_of, record_line, record_lines};
 
 use pieces::RECORD_WORDS;
 use puts::Filled;
-use refused_line::{COUNT, PLACE, REFUSAL, WHOLE};
+use refused_line::{COUNT, WHOLE};
 use states::STATES;
 
 // Where a survey's answer has frame, the pair with its two pieces, and the tally.
@@ -36,15 +36,6 @@ fn put_frame(frame: u64, out: &mut [u8], at: usize) -> usize
     puts::put_bytes(b" frame bad", out, at)
 }
 
-fn put_whole(whole: u64, out: &mut [u8], at: usize) -> usize
-    ensures { Wrote out.old at (whole_text whole) out.new result }
-{
-    if whole == 1 {
-        return puts::put_bytes(b" whole yes\n", out, at);
-    }
-    puts::put_bytes(b" whole no\n", out, at)
-}
-
 // The first line.
 pub fn put_head(pieces: u64, frame: u64, whole: u64, out: &mut [u8], at: usize) -> usize
     ensures { Wrote out.old at (head_of pieces frame whole) out.new result }
@@ -52,17 +43,7 @@ pub fn put_head(pieces: u64, frame: u64, whole: u64, out: &mut [u8], at: usize) 
     let a = puts::put_bytes(b"pieces ", out, at);
     let b = puts::put_decimal(pieces, out, a);
     let c = put_frame(frame, out, b);
-    put_whole(whole, out, c)
-}
-
-// The numbers of a record, none where the table has no such record.
-fn numbers_at(items: &[u64], i: usize) -> &[u64]
-    ensures { result.now ≡ numbers_at items.now i }
-{
-    if i < items.len() / RECORD_WORDS {
-        return puts::words_from(items, RECORD_WORDS * i, RECORD_WORDS);
-    }
-    &items[items.len()..]
+    refused_line::put_whole(whole, out, c)
 }
 
 // The line of a record: its piece's number and its eight numbers.
@@ -70,7 +51,7 @@ pub fn put_record(items: &[u64], i: usize, out: &mut [u8], at: usize) -> usize
     ensures { Wrote out.old at (record_fields items.now i) out.new result }
 {
     let a = puts::put_decimal(i as u64, out, at);
-    let b = puts::put_fields(numbers_at(items, i), out, a);
+    let b = puts::put_fields(puts::numbers_at(items, RECORD_WORDS, i), out, a);
     puts::put_byte(puts::LINE_FEED, out, b)
 }
 
@@ -120,7 +101,7 @@ fn records_listed(items: &[u64], answer: &[u64]) -> usize
     ensures { result ≡ records_listed items.now answer.now }
 {
     let pieces = lent_tables::word_at(answer, COUNT) as usize;
-    lent_tables::least(pieces, items.len() / RECORD_WORDS)
+    pieces.min(items.len() / RECORD_WORDS)
 }
 
 // The first line, of an answer lent as its words.
@@ -136,9 +117,8 @@ fn put_first(answer: &[u64], out: &mut [u8], at: usize) -> usize
 fn put_record_line(items: &[u64], answer: &[u64], i: usize, out: &mut [u8], at: usize) -> usize
     ensures { Wrote out.old at (record_line items.now answer.now i) out.new result }
 {
-    let refusal = lent_tables::word_at(answer, REFUSAL);
-    if refusal != 0 {
-        return refused_line::put_refused(refusal, lent_tables::word_at(answer, PLACE), out, at);
+    if let Some(end) = refused_line::put_refusal(answer, out, at) {
+        return end;
     }
     if i == 0 {
         return put_first(answer, out, at);
@@ -155,7 +135,7 @@ fn record_lines(items: &[u64], answer: &[u64]) -> usize
     ensures { result ≡ record_lines items.now answer.now }
 {
     let pieces = lent_tables::word_at(answer, COUNT) as usize;
-    let n = lent_tables::least(pieces, items.len() / RECORD_WORDS);
+    let n = pieces.min(items.len() / RECORD_WORDS);
     refused_line::lines_by(answer, n + BESIDE_RECORDS)
 }
 
@@ -163,16 +143,10 @@ fn record_lines(items: &[u64], answer: &[u64]) -> usize
 pub fn fill_records(items: &[u64], answer: &[u64], from: usize, out: &mut [u8]) -> Filled
     ensures { Part (record_line items.now answer.now) from (record_lines items.now answer.now) (length out.old) result out.new }
 {
-    let to = record_lines(items, answer);
-    let mut i = from;
-    let mut w: usize = 0;
-    while i < to {
-        let r = put_record_line(items, answer, i, out, w);
-        if out.len() <= r {
-            return puts::ended(i, to, out, w);
-        }
-        w = r;
-        i += 1;
-    }
-    puts::ended(i, to, out, w)
+    puts::fill(
+        |i, out, at| put_record_line(items, answer, i, out, at),
+        from,
+        record_lines(items, answer),
+        out,
+    )
 }

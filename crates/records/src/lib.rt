@@ -21,13 +21,7 @@ pub struct Tally {
 pub fn word(items: &[u64], i: usize, j: usize) -> u64
     ensures { result ≡ word_at items.now i j }
 {
-    if RECORD_WORDS <= j {
-        return 0;
-    }
-    if i < items.len() / RECORD_WORDS {
-        return items[RECORD_WORDS * i + j];
-    }
-    0
+    lent_tables::word_in::<RECORD_WORDS>(items, i, j)
 }
 
 pub fn is_item(class: u64) -> bool
@@ -59,14 +53,11 @@ pub fn tallied(items: &[u64], n: usize) -> Tally
     let mut t = Tally {
         counts: [0u64; STATES],
     };
-    let mut i: usize = 0;
-    while i < n {
+    for i in 0..n {
         let s = state(items, i);
         if s < STATES as u64 {
-            let k = s as usize;
-            t.counts[k] = t.counts[k] + 1;
+            t.counts[s as usize] += 1;
         }
-        i += 1;
     }
     t
 }
@@ -75,42 +66,29 @@ fn name_agrees(
     text: &[u8],
     elements: &[u64],
     heading: ElementNumber,
-    closing: ElementNumber,
+    closing: Option<ElementNumber>,
 ) -> bool
-    ensures { result ≡ name_agrees text.now elements.now heading.0 closing.0 }
+    ensures { result ≡ name_agrees text.now elements.now heading.0 closing }
 {
-    if closing.0 == 0 {
-        return true;
+    match closing {
+        Some(closing) => same_names::same_name(text, elements, heading, closing),
+        None => true,
     }
-    same_names::same_name(text, elements, heading, closing)
 }
 
 // Whether the pieces of a text's elements make a good frame.
 pub fn frame_good(text: &[u8], elements: &[u64], count: usize) -> bool
     ensures { result ≡ frame_good text.now elements.now count }
 {
-    let frame = pieces::frame_of(elements, count);
-    if !frame.good {
-        return false;
+    match pieces::frame_of(elements, count) {
+        Some(frame) => name_agrees(text, elements, frame.heading, frame.closing),
+        None => false,
     }
-    let heading = frame.heading;
-    let closing = frame.closing;
-    name_agrees(text, elements, heading, closing)
 }
 
 // Whether the survey is whole: a good frame, and no item in another state than 0.
 pub fn whole(frame: bool, t: Tally) -> bool
     ensures { result ≡ whole_of frame t }
 {
-    if !frame {
-        return false;
-    }
-    let mut k: usize = 1;
-    while k < STATES {
-        if t.counts[k] != 0 {
-            return false;
-        }
-        k += 1;
-    }
-    true
+    frame && t.counts[1..].iter().all(|count| *count == 0)
 }

@@ -3,12 +3,12 @@ use Prim.Native.Nat.{ℕ}
 use mathlib.Core.Path.{◌≡◌}
 use mathlib.Core.List.{List, [], ◌∷◌}
 use lib.ListN.{get_or}
-use borrow.Author.Tests.{ne_eqb}
+use borrow.Author.Tests.{eq-eqb, ne_eqb}
 use Rattle.words.specs.Words.{bytes_of}
 use Rattle.puts.specs.Puts.{Wrote}
 use Rattle.puts.specs.Decimals.{decimal_of, line_feed}
 use Rattle.puts.proofs.Laws.{then3, named}
-use Rattle.refused_line.specs.Refused.{refusal, place, place_text, refused_of, line_by, lines_by}
+use Rattle.refused_line.specs.Refused.{refusal, place, place_text, refused_of, line_by, lines_by, whole_text, Unrefused}
 
 pub place_put : {t t₁ t₂ t₃ : List ℕ} {a b c d : ℕ} (n : ℕ) → Wrote t a (bytes_of " at ") t₁ b → Wrote t₁ b (decimal_of n) t₂ c
     → Wrote t₂ c (line_feed ∷ []) t₃ d → Wrote t a (place_text n) t₃ d
@@ -30,12 +30,22 @@ unfolding lines_by
 refused_lines answer w n e h = rw (← e, ne_eqb w 0 h)
 
 -- a line of an answer that is no refusal, and of one that is
-pub given_line : {t t' : List ℕ} {at r : ℕ} (answer : List ℕ) (line : ℕ → List ℕ) (i w : ℕ) → w ≡ get_or answer refusal 0 → w ≡ 0
-    → Wrote t at (line i) t' r → Wrote t at (line_by answer line i) t' r
+pub given_line : {t₀ t t' : List ℕ} {at r : ℕ} (answer : List ℕ) (line : ℕ → List ℕ) (i : ℕ) → Unrefused answer t₀ t
+    → Wrote t at (line i) t' r → Wrote t₀ at (line_by answer line i) t' r
 unfolding line_by
-given_line answer line i w e h p = named (rw (← e, h)) p
+given_line answer line i u p = rw (← u.same) (named (rw u.given) p)
 
 pub refused_line : {t t' : List ℕ} {at r : ℕ} (answer : List ℕ) (line : ℕ → List ℕ) (i w : ℕ) (x : ℕ) → w ≡ get_or answer refusal 0 → (w ≡ 0 → ⊥)
     → x ≡ get_or answer place 0 → Wrote t at (refused_of w x) t' r → Wrote t at (line_by answer line i) t' r
 unfolding line_by
 refused_line answer line i w x e h d p = named (rw (← e, ← d, ne_eqb w 0 h)) p
+
+-- whether a survey is whole
+module _ {t t' : List ℕ} {at r : ℕ} where
+  pub whole_put : (w : ℕ) → w ≡ 1 → Wrote t at (bytes_of " whole yes\n") t' r → Wrote t at (whole_text w) t' r
+  unfolding whole_text
+  whole_put w h p = named (rw (eq-eqb w 1 h)) p
+
+  pub part_put : (w : ℕ) → (w ≡ 1 → ⊥) → Wrote t at (bytes_of " whole no\n") t' r → Wrote t at (whole_text w) t' r
+  unfolding whole_text
+  part_put w h p = named (rw (ne_eqb w 1 h)) p

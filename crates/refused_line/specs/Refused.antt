@@ -1,6 +1,6 @@
 -- A refusal's line, and the lines of an answer that may be one. An answer is lent as its words (include/kawhiluhe.h): the refusal's number, 0
 -- for none, its place, and then what was counted. Assumes nothing.
-use Rattle.std.specs.Prelude.{ℕ, cond, List, [], ◌∷◌, ◌++◌, eqb, get_or}
+use Rattle.std.specs.Prelude.{ℕ, ◌≡◌, cond, List, [], ◌∷◌, ◌++◌, eqb, get_or}
 use Rattle.words.specs.Words.{bytes_of}
 use Rattle.puts.specs.Decimals.{decimal_of, line_feed}
 
@@ -33,3 +33,12 @@ line_by answer line i = cond (eqb (get_or answer refusal 0) 0) (line i) (refused
 
 unfoldable pub lines_by : List ℕ → ℕ → ℕ
 lines_by answer lines = cond (eqb (get_or answer refusal 0) 0) lines 1
+
+-- an answer that is no refusal, of which nothing is put yet: the buffer is as it was
+pub record Unrefused (answer t t' : List ℕ) : Type 0 where
+  pub given : get_or answer refusal 0 ≡ 0
+  pub same : t' ≡ t
+
+-- "pieces 6 whole no": how a survey's first line ends
+unfoldable pub whole_text : ℕ → List ℕ
+whole_text w = cond (eqb w 1) (bytes_of " whole yes\n") (bytes_of " whole no\n")

@@ -24,14 +24,12 @@ fn agrees(s: &[u8], x: BytePlace, y: BytePlace, n: usize, basic: bool) -> bool
 {
     let a = x.0;
     let b = y.0;
-    let mut i = 0;
-    while i < n {
+    for i in 0..n {
         let p = counted(basic, s[a + i]);
         let q = counted(basic, s[b + i]);
         if p != q {
             return false;
         }
-        i += 1;
     }
     true
 }
@@ -76,14 +74,12 @@ fn spells(basic: bool, a: &[u8], b: &[u8]) -> bool
     if a.len() != b.len() {
         return false;
     }
-    let mut i: usize = 0;
-    while i < a.len() {
-        let x = counted(basic, a[i]);
+    for (i, c) in a.iter().enumerate() {
+        let x = counted(basic, *c);
         let y = counted(basic, b[i]);
         if x != y {
             return false;
         }
-        i += 1;
     }
     true
 }

@@ -1,4 +1,5 @@
 // The states of 01's table ("Pieces, items, states"), each under its word there; 0 is that of an item with its value. There is no code here.
+// Numbers, and no enum: of two states the smaller wins, and C reads the number in a record, so that an enum would be turned into it everywhere.
 #![tactic(auto)]
 
 pub const BROKEN: u8 = 1;

@@ -1,8 +1,8 @@
 -- Fields and their bytes: each is read back as it was, and what is read has no other bytes. Assumes nothing.
+use Rattle.std.specs.Prelude.{Option, Some, None}
 use mathlib.Core.Path.{◌≡◌, refl, sym, ◌∙◌}
 use mathlib.Core.Bool.{Bool, true, false, cond, not, ◌&&◌}
 use mathlib.Core.List.{List, [], ◌∷◌, ◌++◌}
-use mathlib.Core.Option.{Option, none, some}
 use Prim.Native.Nat.{ℕ, zero, suc, ◌+◌, ◌*◌, ◌/◌, ◌%◌, ◌≤◌, ◌<◌, zero-le, suc-le-suc}
 use native.Mathlib.Nat.{not-suc-le-zero, div-add-mod'}
 use native.Mathlib.Omega.{arith}
@@ -50,7 +50,7 @@ unfolding fields_from
 pass [] s = refl
 pass (x ∷ b) s = pass b s
 
-pub pass_some : (k : ℕ) (s : List ℕ) (fs : List Field) → fields_from k s ≡ some fs → (k ≤ length s) × (fields_from 0 (drop k s) ≡ some fs)
+pub pass_some : (k : ℕ) (s : List ℕ) (fs : List Field) → fields_from k s ≡ Some fs → (k ≤ length s) × (fields_from 0 (drop k s) ≡ Some fs)
 unfolding fields_from
 pass_some zero s fs e = (zero-le, e)
 pass_some (suc k) [] fs e = clash (cc)
@@ -61,7 +61,7 @@ unfolding fields_from
 field_front t h l s n = rw (ne_eqb t 0 n, fields_from)
 
 -- stored fields are read back
-pub fields_back : (fs : List Field) → Good fs → fields_from 0 (fields_bytes fs) ≡ some fs
+pub fields_back : (fs : List Field) → Good fs → fields_from 0 (fields_bytes fs) ≡ Some fs
 unfolding fields_from fields_bytes field_bytes ending before
 fields_back [] no_field = refl
 fields_back (f ∷ fs) (a_field n l g) =
@@ -69,13 +69,13 @@ fields_back (f ∷ fs) (a_field n l g) =
     ∙ rw (div-add-mod' (length f.body) 256, take-append_seam f.body (fields_bytes fs), pass f.body (fields_bytes fs), fields_back fs g)
 
 -- what was put before
-pub before_some : {A : Type 0} (a : A) (r : Option (List A)) (xs : List A) → before a r ≡ some xs → (bs : List A) × ((r ≡ some bs) × (xs ≡ a ∷ bs))
+pub before_some : {A : Type 0} (a : A) (r : Option (List A)) (xs : List A) → before a r ≡ Some xs → (bs : List A) × ((r ≡ Some bs) × (xs ≡ a ∷ bs))
 unfolding before
-before_some a none xs e = clash (cc)
-before_some a (some bs) xs e = (bs, (refl, cc))
+before_some a None xs e = clash (cc)
+before_some a (Some bs) xs e = (bs, (refl, cc))
 
 -- what ends the fields
-pub ending_some : (s : List ℕ) (fs : List Field) → ending s ≡ some fs → (s ≡ 0 ∷ 0 ∷ []) × (fs ≡ [])
+pub ending_some : (s : List ℕ) (fs : List Field) → ending s ≡ Some fs → (s ≡ 0 ∷ 0 ∷ []) × (fs ≡ [])
 unfolding ending
 ending_some [] fs e = clash (cc)
 ending_some (a ∷ []) fs e = clash (cc)
@@ -84,7 +84,7 @@ ending_some (a ∷ b ∷ c ∷ s) fs e =
     clash (cc)
 ending_some (a ∷ b ∷ []) fs e = go (eqb a 0) (eqb b 0) refl refl e
   where
-    go : (x y : Bool) → eqb a 0 ≡ x → eqb b 0 ≡ y → ◌≡◌ {A = Option (List Field)} (cond (x && y) (some []) none) (some fs) → (a ∷ b ∷ [] ≡ 0 ∷ 0 ∷ []) × (fs ≡ [])
+    go : (x y : Bool) → eqb a 0 ≡ x → eqb b 0 ≡ y → ◌≡◌ {A = Option (List Field)} (cond (x && y) (Some []) None) (Some fs) → (a ∷ b ∷ [] ≡ 0 ∷ 0 ∷ []) × (fs ≡ [])
     go true true p q r = (rw (eqb-true a 0 p, eqb-true b 0 q), cc)
     go true false p q r = clash (cc)
     go false y p q r = clash (cc)
@@ -92,7 +92,7 @@ ending_some (a ∷ b ∷ []) fs e = go (eqb a 0) (eqb b 0) refl refl e
 pub drop_bytes : (k : ℕ) (s : List ℕ) → Bytes s → Bytes (drop k s)
 drop_bytes k s h i = rw (get_or-drop k s i 0) (h (k + i))
 
-tag_only : (t : ℕ) (s : List ℕ) (fs : List Field) → eqb t 0 ≡ true → fields_from 0 (t ∷ s) ≡ some fs → (t ∷ s ≡ fields_bytes fs) × Good fs
+tag_only : (t : ℕ) (s : List ℕ) (fs : List Field) → eqb t 0 ≡ true → fields_from 0 (t ∷ s) ≡ Some fs → (t ∷ s ≡ fields_bytes fs) × Good fs
 unfolding fields_from fields_bytes
 tag_only t s fs p e =
     let r = ending_some s fs (rw (p, fields_from) at e) in
@@ -104,7 +104,7 @@ unfolding fields_bytes field_bytes
 bytes_are t a b n u fs m p q e = rw (m, ← e, take-append-drop n u, ← p, ← q)
 
 -- and the bytes of what was read are those
-pub fields_only : (k : ℕ) (s : List ℕ) (fs : List Field) → length s ≤ k → Bytes s → fields_from 0 s ≡ some fs → (s ≡ fields_bytes fs) × Good fs
+pub fields_only : (k : ℕ) (s : List ℕ) (fs : List Field) → length s ≤ k → Bytes s → fields_from 0 s ≡ Some fs → (s ≡ fields_bytes fs) × Good fs
 unfolding fields_from before
 fields_only zero [] fs l h e = clash (cc)
 fields_only zero (t ∷ s) fs l h e = absurd (not-suc-le-zero l)
@@ -112,8 +112,8 @@ fields_only (suc k) [] fs l h e = clash (cc)
 fields_only (suc k) (t ∷ s) fs l h e = go (eqb t 0) refl (λ u gs l' h' e'. fields_only k u gs l' h' e') s l h e
   where
     go : (x : Bool) → eqb t 0 ≡ x
-        → ((u : List ℕ) (gs : List Field) → length u ≤ k → Bytes u → fields_from 0 u ≡ some gs → (u ≡ fields_bytes gs) × Good gs)
-        → (s : List ℕ) → length (t ∷ s) ≤ suc k → Bytes (t ∷ s) → fields_from 0 (t ∷ s) ≡ some fs → (t ∷ s ≡ fields_bytes fs) × Good fs
+        → ((u : List ℕ) (gs : List Field) → length u ≤ k → Bytes u → fields_from 0 u ≡ Some gs → (u ≡ fields_bytes gs) × Good gs)
+        → (s : List ℕ) → length (t ∷ s) ≤ suc k → Bytes (t ∷ s) → fields_from 0 (t ∷ s) ≡ Some fs → (t ∷ s ≡ fields_bytes fs) × Good fs
     go true p ih s l h e = tag_only t s fs p e
     go false p ih [] l h e = clash (let z = (rw (p, fields_from) at e) in cc)
     go false p ih (a ∷ []) l h e = clash (let z = (rw (p, fields_from) at e) in cc)

@@ -1,8 +1,8 @@
 -- Reading is the inverse of storing: `decode F s` is the table that Stored speaks of, where there is one, and there is at most one. Assumes nothing.
+use Rattle.std.specs.Prelude.{Option, Some, None}
 use mathlib.Core.Path.{◌≡◌, refl, sym, ap, subst, ◌∙◌}
 use mathlib.Core.Bool.{Bool, true, false, cond, ◌&&◌}
 use mathlib.Core.List.{List, [], ◌∷◌, ◌++◌, map}
-use mathlib.Core.Option.{Option, none, some}
 use Prim.Native.Nat.{ℕ, zero, suc, ◌+◌}
 use native.Mathlib.Nat.{le_refl}
 use native.Mathlib.Omega.{arith}
@@ -17,8 +17,6 @@ use Rattle.stored.specs.code.Decode.{tagged_field, before, fields_from, held_val
 use Rattle.stored.specs.code.Promises.{Bytes}
 use Rattle.laws.proofs.Laws.{clash}
 use Rattle.stored.specs.declared.StoredValue.{StoredValue}
-use Rattle.stored.specs.declared.Held.{Held}
-use Rattle.stored.specs.declared.Held.TheVariants.{Nothing, Holds}
 use Rattle.stored.proofs.FieldLaws.{Good, writable_good, good_writable, fields_back, fields_only, before_some}
 use Rattle.stored.proofs.ItemLaws.{both, value_back, value_only, drop_value}
 use Rattle.stored.proofs.Names.{same_is, same_self}
@@ -27,25 +25,25 @@ use Rattle.stored.proofs.Names.{same_is, same_self}
 named : (v : StoredValue) (n : List ℕ) → ◌≡◌ {A = StoredItem} (record { value = v; name = drop (value_size v) (value_bytes v n) }) (record { value = v; name = n })
 named v n = rw (drop_value v n)
 
-pub item_back : (F : Form) (i : StoredItem) → item_legal F i ≡ true → item_in F (item_field i) ≡ some i
+pub item_back : (F : Form) (i : StoredItem) → item_legal F i ≡ true → item_in F (item_field i) ≡ Some i
 unfolding item_legal item_in held_legal kept_in with_name item_fits item_field
 item_back F i h =
     let a = both (sized i.value) _ h in
     let b = both (F.admits i.value) _ a.1 in
     let c = both (F.legal i.name) _ b.1 in
-    rw (value_back i.value i.name a.0, drop_value i.value i.name, b.0, c.0, c.1) (ap some (named i.value i.name))
+    rw (value_back i.value i.name a.0, drop_value i.value i.name, b.0, c.0, c.1) (ap Some (named i.value i.name))
 
 same_field : {t u : ℕ} {a b : List ℕ} → t ≡ u → a ≡ b → tagged_field t a ≡ tagged_field u b
 same_field p q = cc
 
-item_made : (F : Form) (f : Field) (i : StoredItem) (x : Held) → Bytes f.body → held_value f.tag f.body ≡ x → with_name (held_legal F x f.body) f.body ≡ some i
+item_made : (F : Form) (f : Field) (i : StoredItem) (x : Option StoredValue) → Bytes f.body → held_value f.tag f.body ≡ x → with_name (held_legal F x f.body) f.body ≡ Some i
     → (f ≡ item_field i) × (item_legal F i ≡ true)
 unfolding item_legal held_legal with_name item_fits item_field
-item_made F f i Nothing h p e = clash (cc)
-item_made F f i (Holds v) h p e = go (item_fits F v (drop (value_size v) f.body)) refl e
+item_made F f i None h p e = clash (cc)
+item_made F f i (Some v) h p e = go (item_fits F v (drop (value_size v) f.body)) refl e
   where
     go : (t : Bool) → item_fits F v (drop (value_size v) f.body) ≡ t
-        → with_name (cond t (Holds v) Nothing) f.body ≡ some i → (f ≡ item_field i) × (item_legal F i ≡ true)
+        → with_name (cond t (Some v) None) f.body ≡ Some i → (f ≡ item_field i) × (item_legal F i ≡ true)
     go false q r = clash (cc)
     go true q r =
         let o = value_only f.tag f.body v h p in
@@ -54,12 +52,12 @@ item_made F f i (Holds v) h p e = go (item_fits F v (drop (value_size v) f.body)
         let c = both (F.legal (drop (value_size v) f.body)) _ b.1 in
         rw (← w) (same_field o.0 o.1.0, rw (o.1.1, b.0, c.0, c.1))
 
-pub item_only : (F : Form) (f : Field) (i : StoredItem) → Bytes f.body → item_in F f ≡ some i → (f ≡ item_field i) × (item_legal F i ≡ true)
+pub item_only : (F : Form) (f : Field) (i : StoredItem) → Bytes f.body → item_in F f ≡ Some i → (f ≡ item_field i) × (item_legal F i ≡ true)
 unfolding item_in kept_in
 item_only F f i h e = item_made F f i (held_value f.tag f.body) h refl e
 
 -- ---- the items
-pub items_back : (F : Form) (is : List StoredItem) → all_legal F is ≡ true → items_in_fields F (map item_field is) ≡ some is
+pub items_back : (F : Form) (is : List StoredItem) → all_legal F is ≡ true → items_in_fields F (map item_field is) ≡ Some is
 unfolding all_legal items_in_fields with_item before
 items_back F [] h = refl
 items_back F (i ∷ is) h =
@@ -80,10 +78,10 @@ unfolding fields_bytes field_bytes
 field_bytes_lem f fs h =
     (bytes_left f.body (fields_bytes fs) (λ i. h (suc (suc (suc i)))), bytes_right f.body (fields_bytes fs) (λ i. h (suc (suc (suc i)))))
 
-put_some : (x : Option StoredItem) (r : Option (List StoredItem)) (is : List StoredItem) → with_item x r ≡ some is → (i : StoredItem) × ((js : List StoredItem) × ((x ≡ some i) × ((r ≡ some js) × (is ≡ i ∷ js))))
+put_some : (x : Option StoredItem) (r : Option (List StoredItem)) (is : List StoredItem) → with_item x r ≡ Some is → (i : StoredItem) × ((js : List StoredItem) × ((x ≡ Some i) × ((r ≡ Some js) × (is ≡ i ∷ js))))
 unfolding with_item
-put_some none r is e = clash (cc)
-put_some (some i) r is e = let b = before_some i r is e in (i, (b.0, (refl, (b.1.0, b.1.1))))
+put_some None r is e = clash (cc)
+put_some (Some i) r is e = let b = before_some i r is e in (i, (b.0, (refl, (b.1.0, b.1.1))))
 
 made : (f : Field) (fs : List Field) (i : StoredItem) (js : List StoredItem) → f ≡ item_field i → fs ≡ map item_field js → f ∷ fs ≡ map item_field (i ∷ js)
 made f fs i js p q = cc
@@ -92,7 +90,7 @@ legal_too : (F : Form) (i : StoredItem) (js : List StoredItem) → item_legal F 
 unfolding all_legal
 legal_too F i js p q = rw (p, q)
 
-pub items_only : (F : Form) (fs : List Field) (is : List StoredItem) → Bytes (fields_bytes fs) → items_in_fields F fs ≡ some is → (fs ≡ map item_field is) × (all_legal F is ≡ true)
+pub items_only : (F : Form) (fs : List Field) (is : List StoredItem) → Bytes (fields_bytes fs) → items_in_fields F fs ≡ Some is → (fs ≡ map item_field is) × (all_legal F is ≡ true)
 unfolding items_in_fields all_legal
 items_only F [] is h e = let w : [] ≡ is = cc in rw (← w) (refl, refl)
 items_only F (f ∷ fs) is h e =
@@ -138,13 +136,13 @@ pub unique : (F : Form) (s n m : List ℕ) (is js : List StoredItem) → Stored 
 unique F s n m is js p q = let a = found F s n is p in let b = found F s m js q in (cc, cc)
 
 pub checked_some : (m n : List ℕ) (r : Option (List StoredItem)) (is : List StoredItem) → checked m r ≡ table n is
-    → (r ≡ some is) × ((m ≡ n) × ((leb (length is) 1024 ≡ true) × (distinct (item_names is) ≡ true)))
+    → (r ≡ Some is) × ((m ≡ n) × ((leb (length is) 1024 ≡ true) × (distinct (item_names is) ≡ true)))
 unfolding checked
-checked_some m n none is e = clash (cc)
-checked_some m n (some js) is e = go (leb (length js) 1024) (distinct (item_names js)) refl refl e
+checked_some m n None is e = clash (cc)
+checked_some m n (Some js) is e = go (leb (length js) 1024) (distinct (item_names js)) refl refl e
   where
     go : (x y : Bool) → leb (length js) 1024 ≡ x → distinct (item_names js) ≡ y → cond x (cond y (table m js) broken) broken ≡ table n is
-        → (some js ≡ some is) × ((m ≡ n) × ((leb (length is) 1024 ≡ true) × (distinct (item_names is) ≡ true)))
+        → (Some js ≡ Some is) × ((m ≡ n) × ((leb (length is) 1024 ≡ true) × (distinct (item_names is) ≡ true)))
     go true true p q r = let w : js ≡ is = cc in (cc, (cc, (rw (← w) p, rw (← w) q)))
     go true false p q r = clash (cc)
     go false y p q r = clash (cc)
@@ -191,8 +189,8 @@ unfolding decode whole_table
 only F s n is h e = go (fields_from 0 s) refl e
   where
     go : (r : Option (List Field)) → fields_from 0 s ≡ r → whole_table F r ≡ table n is → Stored F s n is
-    go none p q = clash (cc)
-    go (some fs) p q =
+    go None p q = clash (cc)
+    go (Some fs) p q =
         let o = fields_only (length s) s fs (le_refl (length s)) h p in
         let d = headed_some F F.head fs n is q in
         let t = titled_some F d.0 n is d.1.1 in

@@ -1,4 +1,5 @@
 -- Items and their fields: each is read back as it was, and what is read has no other field. Assumes nothing.
+use Rattle.std.specs.Prelude.{Option, Some, None}
 use mathlib.Core.Path.{◌≡◌, refl, ap, ◌∙◌}
 use mathlib.Core.Bool.{Bool, true, false, cond, ◌&&◌}
 use mathlib.Core.List.{List, [], ◌∷◌, ◌++◌}
@@ -20,8 +21,6 @@ use Rattle.stored.specs.code.Promises.{Bytes}
 use Rattle.stored.specs.code.Decode.{word_in, held_number, held_truth, held_range, held_truths, held_subtype, held_value}
 use Rattle.stored.specs.declared.StoredValue.{StoredValue}
 use Rattle.stored.specs.declared.StoredValue.TheVariants.{Number, Truth, Range, Truths}
-use Rattle.stored.specs.declared.Held.{Held}
-use Rattle.stored.specs.declared.Held.TheVariants.{Nothing, Holds}
 
 pub four_back : (n : ℕ) → n / 16777216 * 16777216 + n / 65536 % 256 * 65536 + n / 256 % 256 * 256 + n % 256 ≡ n
 four_back n = omega arith
@@ -95,7 +94,7 @@ both true true e = (refl, refl)
 both true false e = clash (cc)
 both false y e = clash (cc)
 
-pub value_back : (v : StoredValue) (n : List ℕ) → sized v ≡ true → held_value (tag_of v) (value_bytes v n) ≡ Holds v
+pub value_back : (v : StoredValue) (n : List ℕ) → sized v ≡ true → held_value (tag_of v) (value_bytes v n) ≡ Some v
 unfolding held_value value_bytes held_number held_truth held_subtype held_range held_truths sized
 value_back (Number z) n h =
     rw (le-ltb (length (number_bytes z ++ n)) 4 (long_four z n), word_back z n, small_word z h, to_z-of_z w32 z (small_fits z h))
@@ -127,11 +126,11 @@ abbrev Only : ℕ → List ℕ → StoredValue → Type 0
 Only t s v = (t ≡ tag_of v) × ((s ≡ value_bytes v (drop (value_size v) s)) × (sized v ≡ true))
 
 -- a choice that holds a value
-pub unless : (t : Bool) (x : Held) (v : StoredValue) → cond t Nothing x ≡ Holds v → (t ≡ false) × (x ≡ Holds v)
+pub unless : (t : Bool) (x : Option StoredValue) (v : StoredValue) → cond t None x ≡ Some v → (t ≡ false) × (x ≡ Some v)
 unless true x v e = clash (cc)
 unless false x v e = (refl, e)
 
-pub only_if : (t : Bool) (x : Held) (v : StoredValue) → cond t x Nothing ≡ Holds v → (t ≡ true) × (x ≡ Holds v)
+pub only_if : (t : Bool) (x : Option StoredValue) (v : StoredValue) → cond t x None ≡ Some v → (t ≡ true) × (x ≡ Some v)
 only_if true x v e = (refl, e)
 only_if false x v e = clash (cc)
 
@@ -139,20 +138,20 @@ pub by_test : {A B : Type 0} (P : A → Type 0) (t : Bool) {x y : A} → P (cond
 by_test P true h f g = f refl h
 by_test P false h f g = g refl h
 
-number_only : (s : List ℕ) (v : StoredValue) → Bytes s → 4 ≤ length s → held_number s ≡ Holds v → Only 2 s v
+number_only : (s : List ℕ) (v : StoredValue) → Bytes s → 4 ≤ length s → held_number s ≡ Some v → Only 2 s v
 unfolding held_number value_bytes number_bytes sized
 number_only s v h l e =
-    let r = unless (eqb (word_in s 0) 2147483648) (Holds (Number (to_z w32 (word_in s 0)))) v e in
+    let r = unless (eqb (word_in s 0) 2147483648) (Some (Number (to_z w32 (word_in s 0)))) v e in
     let p : Number (to_z w32 (word_in s 0)) ≡ v = cc in
     let b = word_below s 0 h in
     rw (← p) (refl, (rw (of_z-to_z w32 (word_in s 0) (record { fits = b })) (four_at s 0 h l), word_small (word_in s 0) b r.0))
 
-truth_only : (s : List ℕ) (v : StoredValue) → 1 ≤ length s → held_truth s ≡ Holds v → Only 3 s v
+truth_only : (s : List ℕ) (v : StoredValue) → 1 ≤ length s → held_truth s ≡ Some v → Only 3 s v
 unfolding held_truth value_bytes sized
 truth_only s v l e =
-    by_test (λ x. x ≡ Holds v) (eqb (get_or s 0 0) 0) e
+    by_test (λ x. x ≡ Some v) (eqb (get_or s 0 0) 0) e
     (λ t q. let p : Truth false ≡ v = cc in rw (← p) (refl, (drop-cons s 0 0 l ∙ rw (eqb-true (get_or s 0 0) 0 t), refl)))
-    (λ f q. let r = only_if (eqb (get_or s 0 0) 1) (Holds (Truth true)) v q in
+    (λ f q. let r = only_if (eqb (get_or s 0 0) 1) (Some (Truth true)) v q in
     let p : Truth true ≡ v = cc in rw (← p) (refl, (drop-cons s 0 0 l ∙ rw (eqb-true (get_or s 0 0) 1 r.0), refl)))
 
 -- a byte, and two words
@@ -160,37 +159,37 @@ nine_at : (s : List ℕ) → Bytes s → 9 ≤ length s → s ≡ get_or s 0 0 �
 nine_at s h l =
     drop-cons s 0 0 (omega arith) ∙ ap (λ (x : List ℕ). get_or s 0 0 ∷ x) (four_at s 1 h (omega arith) ∙ ap (λ (x : List ℕ). four_bytes (word_in s 1) ++ x) (four_at s 5 h l))
 
-range_only : (s : List ℕ) (v : StoredValue) → Bytes s → 9 ≤ length s → get_or s 0 0 ≡ 0 → held_range s ≡ Holds v → Only 4 s v
+range_only : (s : List ℕ) (v : StoredValue) → Bytes s → 9 ≤ length s → get_or s 0 0 ≡ 0 → held_range s ≡ Some v → Only 4 s v
 unfolding held_range value_bytes number_bytes sized
 range_only s v h l k e =
     let r = unless (eqb (word_in s 1) 2147483648) _ v e in
-    let q = unless (eqb (word_in s 5) 2147483648) (Holds (Range (to_z w32 (word_in s 1)) (to_z w32 (word_in s 5)))) v r.1 in
+    let q = unless (eqb (word_in s 5) 2147483648) (Some (Range (to_z w32 (word_in s 1)) (to_z w32 (word_in s 5)))) v r.1 in
     let p : Range (to_z w32 (word_in s 1)) (to_z w32 (word_in s 5)) ≡ v = cc in
     let a = word_below s 1 h in
     let b = word_below s 5 h in
     rw (← p) (refl, (rw (of_z-to_z w32 (word_in s 1) (record { fits = a }), of_z-to_z w32 (word_in s 5) (record { fits = b })) (nine_at s h l ∙ rw k), rw (word_small (word_in s 1) a r.0, word_small (word_in s 5) b q.0)))
 
-truths_only : (s : List ℕ) (v : StoredValue) → Bytes s → 9 ≤ length s → get_or s 0 0 ≡ 1 → held_truths s ≡ Holds v → Only 4 s v
+truths_only : (s : List ℕ) (v : StoredValue) → Bytes s → 9 ≤ length s → get_or s 0 0 ≡ 1 → held_truths s ≡ Some v → Only 4 s v
 unfolding held_truths value_bytes number_bytes sized
 truths_only s v h l k e =
     let r = only_if (eqb (word_in s 1) 0) _ v e in
-    let q = only_if (eqb (word_in s 5) 1) (Holds Truths) v r.1 in
+    let q = only_if (eqb (word_in s 5) 1) (Some Truths) v r.1 in
     let p : Truths ≡ v = cc in
     rw (← p) (refl, (nine_at s h l ∙ rw (k, eqb-true (word_in s 1) 0 r.0, eqb-true (word_in s 5) 1 q.0), refl))
 
-subtype_only : (s : List ℕ) (v : StoredValue) → Bytes s → 9 ≤ length s → held_subtype s ≡ Holds v → Only 4 s v
+subtype_only : (s : List ℕ) (v : StoredValue) → Bytes s → 9 ≤ length s → held_subtype s ≡ Some v → Only 4 s v
 unfolding held_subtype
 subtype_only s v h l e =
-    by_test (λ x. x ≡ Holds v) (eqb (get_or s 0 0) 0) e
+    by_test (λ x. x ≡ Some v) (eqb (get_or s 0 0) 0) e
     (λ t q. range_only s v h l (eqb-true (get_or s 0 0) 0 t) q)
     (λ f q. let r = only_if (eqb (get_or s 0 0) 1) (held_truths s) v q in truths_only s v h l (eqb-true (get_or s 0 0) 1 r.0) r.1)
 
-pub value_only : (t : ℕ) (s : List ℕ) (v : StoredValue) → Bytes s → held_value t s ≡ Holds v → Only t s v
+pub value_only : (t : ℕ) (s : List ℕ) (v : StoredValue) → Bytes s → held_value t s ≡ Some v → Only t s v
 unfolding held_value
 value_only t s v h e =
-    by_test (λ x. x ≡ Holds v) (eqb t 2) e
+    by_test (λ x. x ≡ Some v) (eqb t 2) e
     (λ p q. let r = unless (ltb (length s) 4) (held_number s) v q in rw (eqb-true t 2 p) (number_only s v h (ltb-false (length s) 4 r.0) r.1))
-    (λ _ e₂. by_test (λ x. x ≡ Holds v) (eqb t 3) e₂
+    (λ _ e₂. by_test (λ x. x ≡ Some v) (eqb t 3) e₂
     (λ p q. let r = unless (ltb (length s) 1) (held_truth s) v q in rw (eqb-true t 3 p) (truth_only s v (ltb-false (length s) 1 r.0) r.1))
     (λ _ e₃. let z = only_if (eqb t 4) _ v e₃ in
     let r = unless (ltb (length s) 9) (held_subtype s) v z.1 in

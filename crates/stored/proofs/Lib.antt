@@ -1,7 +1,6 @@
 pub mod FieldLaws
 pub mod ItemLaws
 pub mod Inverse
-pub mod Cases
 pub mod Names
 pub mod Promises
 pub mod Examples

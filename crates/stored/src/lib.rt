@@ -1,15 +1,14 @@
 // A table of items kept as bytes: what an item's field holds, and which names are legal. Every public function takes any bytes.
 #![tactic(auto)]
 
-ghost use Rattle.std.specs.Prelude.{◌≡◌, ◌+◌, ◌≤◌, ◌<◌, length, drop};
+ghost use Rattle.std.specs.Prelude.{◌≡◌, ◌+◌, ◌≤◌, cond, Some, None, length, take, drop};
 ghost use Rattle.std.proofs.Common.{to_z};
 ghost use Rattle.std.specs.Int.{w32};
 ghost use Rattle.names.specs.Language.{language_names};
-ghost use Rattle.stored.specs.Fields.{all_bytes};
 ghost use Rattle.stored.specs.StoredItems.{number_size, subtype_size, value_size};
 ghost use Rattle.stored.specs.LegalNames.{in_lower_case, named_by, legal_name};
 ghost use Rattle.stored.specs.Stored.{same_bytes, among, form_one};
-ghost use Rattle.stored.specs.code.Decode.{word_in, held_number, held_truth, held_range, held_truths, held_subtype, held_value, item_fits, kept_in};
+ghost use Rattle.stored.specs.code.Decode.{word_in, too_large, held_number, held_truth, held_range, held_truths, held_subtype, held_value, item_fits, kept_in};
 
 use elements::{Front, Kind};
 
@@ -20,13 +19,6 @@ pub enum StoredValue {
     Truth(bool),
     Range(i32, i32),
     Truths,
-}
-
-// What a field holds: nothing legal, or a value.
-#[derive(Clone, Copy)]
-pub enum Held {
-    Nothing,
-    Holds(StoredValue),
 }
 
 // 02's tags, beside 0.
@@ -72,95 +64,79 @@ const THIRD_BYTE: usize = 2;
 
 const FOURTH_BYTE: usize = 3;
 
-// How many words are positive numbers, which is the word whose number is too large in size; and the last word.
+// How many words are positive numbers, which is the word whose number is too large in size.
 const POSITIVES: u32 = 2147483648;
 
-const LAST_WORD: u32 = 4294967295;
-
-fn wide(b: u8) -> u32
-    ensures { (result ≡ b) × (result < all_bytes) }
-{
-    b as u32
-}
-
 // The four bytes from k, high byte first.
+#[tactic(auto, unfolding(crate::specs::code::Decode::word_in))]
 fn word_in(s: &[u8], k: usize) -> u32
     requires { k + number_size ≤ length s.now }
     ensures { result ≡ word_in s.now k }
 {
-    let a = wide(s[k]);
-    let b = wide(s[k + 1]);
-    let c = wide(s[k + THIRD_BYTE]);
-    let d = wide(s[k + FOURTH_BYTE]);
-    a * THREE_BYTES + b * TWO_BYTES + c * ALL_BYTES + d
+    u32::from_be_bytes([s[k], s[k + 1], s[k + THIRD_BYTE], s[k + FOURTH_BYTE]])
 }
 
-// The number that a word stands for: `as` loses a sign, so each sign has its own way.
-fn signed(n: u32) -> i32
-    ensures { result ≡ to_z w32 n }
+// The number whose word stands at k, but for the one that is too large in size.
+fn number_at(s: &[u8], k: usize) -> Option<i32>
+    requires { k + number_size ≤ length s.now }
+    ensures { result ≡ cond (too_large (word_in s.now k)) None (Some (to_z w32 (word_in s.now k))) }
 {
-    if n < POSITIVES {
-        return n as i32;
+    let n = word_in(s, k);
+    if n == POSITIVES {
+        return None;
     }
-    -1 - ((LAST_WORD - n) as i32)
+    Some(n.cast_signed())
 }
 
-fn number_in(s: &[u8]) -> Held
+#[tactic(auto, unfolding(crate::specs::code::Decode::held_number))]
+fn number_in(s: &[u8]) -> Option<StoredValue>
     requires { number_size ≤ length s.now }
     ensures { result ≡ held_number s.now }
 {
-    let n = word_in(s, 0);
-    if n == POSITIVES {
-        return Held::Nothing;
-    }
-    Held::Holds(StoredValue::Number(signed(n)))
+    let n = number_at(s, 0)?;
+    Some(StoredValue::Number(n))
 }
 
-fn truth_in(s: &[u8]) -> Held
+#[tactic(auto, unfolding(crate::specs::code::Decode::held_truth))]
+fn truth_in(s: &[u8]) -> Option<StoredValue>
     requires { 1 ≤ length s.now }
     ensures { result ≡ held_truth s.now }
 {
-    let b = s[0];
-    if b == 0 {
-        return Held::Holds(StoredValue::Truth(false));
+    match s[0] {
+        0 => Some(StoredValue::Truth(false)),
+        1 => Some(StoredValue::Truth(true)),
+        _ => None,
     }
-    if b == 1 {
-        return Held::Holds(StoredValue::Truth(true));
-    }
-    Held::Nothing
 }
 
-fn range_in(s: &[u8]) -> Held
+#[tactic(auto, unfolding(crate::specs::code::Decode::held_range))]
+fn range_in(s: &[u8]) -> Option<StoredValue>
     requires { subtype_size ≤ length s.now }
     ensures { result ≡ held_range s.now }
 {
-    let low = word_in(s, LOW_PLACE);
-    if low == POSITIVES {
-        return Held::Nothing;
-    }
-    let high = word_in(s, HIGH_PLACE);
-    if high == POSITIVES {
-        return Held::Nothing;
-    }
-    Held::Holds(StoredValue::Range(signed(low), signed(high)))
+    let low = number_at(s, LOW_PLACE)?;
+    let high = number_at(s, HIGH_PLACE)?;
+    Some(StoredValue::Range(low, high))
 }
 
-fn truths_in(s: &[u8]) -> Held
+#[tactic(auto, unfolding(crate::specs::code::Decode::held_truths))]
+fn truths_in(s: &[u8]) -> Option<StoredValue>
     requires { subtype_size ≤ length s.now }
     ensures { result ≡ held_truths s.now }
 {
     let low = word_in(s, LOW_PLACE);
     if low != 0 {
-        return Held::Nothing;
+        return None;
     }
     let high = word_in(s, HIGH_PLACE);
     if high != 1 {
-        return Held::Nothing;
+        return None;
     }
-    Held::Holds(StoredValue::Truths)
+    Some(StoredValue::Truths)
 }
 
-fn subtype_in(s: &[u8]) -> Held
+#[tactic(auto, unfolding(crate::specs::code::Decode::held_subtype))]
+fn subtype_in(s: &[u8]) -> Option<StoredValue>
     requires { subtype_size ≤ length s.now }
     ensures { result ≡ held_subtype s.now }
 {
@@ -171,32 +147,33 @@ fn subtype_in(s: &[u8]) -> Held
     if b == BOOLEAN_BYTE {
         return truths_in(s);
     }
-    Held::Nothing
+    None
 }
 
 // What a field's contents begin with, by its tag.
-pub fn value_in(tag: u8, s: &[u8]) -> Held
+#[tactic(auto, unfolding(crate::specs::code::Decode::held_value))]
+pub fn value_in(tag: u8, s: &[u8]) -> Option<StoredValue>
     ensures { result ≡ held_value tag s.now }
 {
     if tag == NUMBER_TAG {
         if s.len() < NUMBER_SIZE {
-            return Held::Nothing;
+            return None;
         }
         return number_in(s);
     }
     if tag == TRUTH_TAG {
         if s.len() < TRUTH_SIZE {
-            return Held::Nothing;
+            return None;
         }
         return truth_in(s);
     }
     if tag == SUBTYPE_TAG {
         if s.len() < SUBTYPE_SIZE {
-            return Held::Nothing;
+            return None;
         }
         return subtype_in(s);
     }
-    Held::Nothing
+    None
 }
 
 // How many bytes a value has before the name.
@@ -206,8 +183,7 @@ pub fn value_size(v: StoredValue) -> usize
     match v {
         StoredValue::Number(_) => NUMBER_SIZE,
         StoredValue::Truth(_) => TRUTH_SIZE,
-        StoredValue::Range(_, _) => SUBTYPE_SIZE,
-        StoredValue::Truths => SUBTYPE_SIZE,
+        StoredValue::Range(_, _) | StoredValue::Truths => SUBTYPE_SIZE,
     }
 }
 
@@ -215,17 +191,7 @@ pub fn value_size(v: StoredValue) -> usize
 pub fn same(a: &[u8], b: &[u8]) -> bool
     ensures { result ≡ same_bytes a.now b.now }
 {
-    if a.len() != b.len() {
-        return false;
-    }
-    let mut i: usize = 0;
-    while i < a.len() {
-        if a[i] != b[i] {
-            return false;
-        }
-        i += 1;
-    }
-    true
+    a == b
 }
 
 // The bytes from k, none where there are fewer.
@@ -238,19 +204,18 @@ pub fn rest(s: &[u8], k: usize) -> &[u8]
     &s[..0]
 }
 
+// So many bytes from a place, fewer where there are fewer.
+pub fn part(s: &[u8], first: usize, size: usize) -> &[u8]
+    ensures { result.now ≡ take size (drop first s.now) }
+{
+    lent_tables::front(rest(s, first), size)
+}
+
 // Whether no letter could be in lower case and isn't.
 fn in_lower_case(s: &[u8]) -> bool
     ensures { result ≡ in_lower_case s.now }
 {
-    let mut i: usize = 0;
-    while i < s.len() {
-        let b = s[i];
-        if classes::lower_case(b) != b {
-            return false;
-        }
-        i += 1;
-    }
-    true
+    s.iter().all(|b| classes::lower_case(*b) == *b)
 }
 
 fn named_by(kind: Kind, n: &[u8]) -> bool
@@ -259,14 +224,12 @@ fn named_by(kind: Kind, n: &[u8]) -> bool
     match kind {
         Kind::Identifier => in_lower_case(n),
         Kind::Extended => true,
-        Kind::Literal(_) => false,
-        Kind::Unreadable => false,
-        Kind::Delimiter(_) => false,
-        Kind::Reserved(_) => false,
+        Kind::Literal(_) | Kind::Unreadable | Kind::Delimiter(_) | Kind::Reserved(_) => false,
     }
 }
 
 // Whether these bytes are a name as it is stored: one element, whole, in lower case unless extended.
+#[tactic(auto, unfolding(crate::specs::LegalNames::legal_name))]
 pub fn legal_name(n: &[u8]) -> bool
     ensures { result ≡ legal_name n.now }
 {
@@ -294,6 +257,7 @@ fn claimed(n: &[u8]) -> bool
     a | (b | (c | (d | (e | (f | false)))))
 }
 
+#[tactic(auto, unfolding(crate::specs::code::Decode::item_fits, crate::specs::Stored::form_one))]
 fn item_fits(v: StoredValue, n: &[u8]) -> bool
     ensures { result ≡ item_fits form_one v n.now }
 {
@@ -303,17 +267,14 @@ fn item_fits(v: StoredValue, n: &[u8]) -> bool
 }
 
 // What a field holds, where it is a legal item.
-pub fn kept_in(tag: u8, s: &[u8]) -> Held
+#[tactic(auto, unfolding(crate::specs::code::Decode::kept_in, crate::specs::code::Decode::held_legal))]
+pub fn kept_in(tag: u8, s: &[u8]) -> Option<StoredValue>
     ensures { result ≡ kept_in form_one tag s.now }
 {
-    match value_in(tag, s) {
-        Held::Nothing => Held::Nothing,
-        Held::Holds(v) => {
-            let k = value_size(v);
-            if item_fits(v, rest(s, k)) {
-                return Held::Holds(v);
-            }
-            Held::Nothing
-        },
+    let v = value_in(tag, s)?;
+    let k = value_size(v);
+    if item_fits(v, rest(s, k)) {
+        return Some(v);
     }
+    None
 }

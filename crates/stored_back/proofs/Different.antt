@@ -1,5 +1,6 @@
 -- In a whole survey no name is claimed twice, nor one of the language's: so the names that are stored are legal, all different and none the
 -- language's. Assumes nothing.
+use Rattle.std.specs.Prelude.{Option, Some, None}
 use Prim.Native.Nat.{ℕ, suc, ◌+◌, ◌≤◌}
 use mathlib.Core.Path.{◌≡◌, refl, sym, ap, subst, ◌∙◌}
 use mathlib.Core.Bool.{Bool, true, false, cond, not, ◌&&◌, ◌||◌, false≢true}
@@ -30,11 +31,10 @@ use Rattle.meaning.proofs.Uses.{claim_item}
 use Rattle.stored.specs.StoredItems.{StoredItem}
 use Rattle.stored.specs.LegalNames.{legal_name}
 use Rattle.stored.specs.Stored.{same_bytes, among, distinct, item_names, sized, item_legal, all_legal, form_one}
-use Rattle.stored.specs.declared.Held.{Held}
-use Rattle.stored.specs.declared.Held.TheVariants.{Nothing, Holds}
 use Rattle.storing.specs.SurveyItems.{stored_value, stored_name, items_named, stored_items}
 use Rattle.storing.specs.Promises.{all_sized}
 use Rattle.names_alone.specs.Alone.{Alone}
+use Rattle.stored.specs.declared.StoredValue.{StoredValue}
 use Rattle.stored_back.proofs.Names.{stored_legal, stored_same, stored_own}
 
 -- ---- a piece of a whole survey
@@ -112,15 +112,15 @@ module _ (x : Element) (a : Alone x) (n : is_name x.kind ≡ true) where
       go true e = absurd (false≢true (sym c ∙ claims_by_lem x p h (stored_same x (own_name p) a b n (claim_name p h) e)))
       go false e = refl
 
-  none_here : (h : Held) (p : Piece) → (is_claim (class_of p) ≡ true → Alone (own_name p)) → claims x p ≡ false → among (stored_name x) (item_names (items_named h (names_claimed p))) ≡ false
+  none_here : (h : Option StoredValue) (p : Piece) → (is_claim (class_of p) ≡ true → Alone (own_name p)) → claims x p ≡ false → among (stored_name x) (item_names (items_named h (names_claimed p))) ≡ false
   unfolding items_named among
   none_here h p b c =
       subst (λ (xs : List Element). among (stored_name x) (item_names (items_named h xs)) ≡ false) (sym (names_by_class p)) (go h (is_claim (class_of p)) refl)
     where
-      go : (h : Held) (t : Bool) → is_claim (class_of p) ≡ t → among (stored_name x) (item_names (items_named h (cond t (own_name p ∷ []) []))) ≡ false
-      go Nothing t e = refl
-      go (Holds v) true e = rw (differs p e (b e) c)
-      go (Holds v) false e = refl
+      go : (h : Option StoredValue) (t : Bool) → is_claim (class_of p) ≡ t → among (stored_name x) (item_names (items_named h (cond t (own_name p ∷ []) []))) ≡ false
+      go None t e = refl
+      go (Some v) true e = rw (differs p e (b e) c)
+      go (Some v) false e = refl
 
   none_among : (all : List Piece) (ds : List Done) → AllFine all ds → claims_in x (pieces_done ds) ≡ 0 → among (stored_name x) (item_names (stored_items ds)) ≡ false
   unfolding stored_items pieces_done claims_in among
@@ -142,10 +142,10 @@ distinct_first all d ds f s h =
     subst (λ (xs : List Element). distinct (item_names (items_named (stored_value d.value) xs ++ stored_items ds)) ≡ true) (sym (names_by_class d.piece))
     (go (stored_value d.value) (is_claim (class_of d.piece)) refl)
   where
-    go : (k : Held) (t : Bool) → is_claim (class_of d.piece) ≡ t → distinct (item_names (items_named k (cond t (own_name d.piece ∷ []) []) ++ stored_items ds)) ≡ true
-    go Nothing t e = h
-    go (Holds v) true e = rw (none_among (own_name d.piece) (f.0 e).0 (claim_name d.piece e) all ds f.1 (s e)) h
-    go (Holds v) false e = h
+    go : (k : Option StoredValue) (t : Bool) → is_claim (class_of d.piece) ≡ t → distinct (item_names (items_named k (cond t (own_name d.piece ∷ []) []) ++ stored_items ds)) ≡ true
+    go None t e = h
+    go (Some v) true e = rw (none_among (own_name d.piece) (f.0 e).0 (claim_name d.piece e) all ds f.1 (s e)) h
+    go (Some v) false e = h
 
 pub all_distinct : (all before : List Piece) (ds : List Done) → all ≡ before ++ pieces_done ds → AllFine all ds → distinct (item_names (stored_items ds)) ≡ true
 unfolding stored_items distinct pieces_done
@@ -168,13 +168,13 @@ unfolding items_named
 owned_here all d before ps e f =
     subst (λ (xs : List Element). Owned (items_named (stored_value d.value) xs)) (sym (names_by_class d.piece)) (go (stored_value d.value) (is_claim (class_of d.piece)) refl)
   where
-    go : (k : Held) (t : Bool) → is_claim (class_of d.piece) ≡ t → Owned (items_named k (cond t (own_name d.piece ∷ []) []))
-    go Nothing t h = tt
-    go (Holds v) true h =
+    go : (k : Option StoredValue) (t : Bool) → is_claim (class_of d.piece) ≡ t → Owned (items_named k (cond t (own_name d.piece ∷ []) []))
+    go None t h = tt
+    go (Some v) true h =
         let a = (f h).0 in
         let n = claim_name d.piece h in
         (stored_legal (own_name d.piece) a n, stored_own (own_name d.piece) a n (none_language (own_name d.piece) ps (single all before d.piece ps e h (f h).1)), tt)
-    go (Holds v) false h = tt
+    go (Some v) false h = tt
 
 all_owned : (all before : List Piece) (ds : List Done) → all ≡ before ++ pieces_done ds → AllFine all ds → Owned (stored_items ds)
 unfolding stored_items pieces_done

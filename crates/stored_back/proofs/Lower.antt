@@ -1,4 +1,5 @@
 -- A name in lower case is the same name to the rules of elements. Assumes nothing.
+use Rattle.std.proofs.Common.{Option, Some}
 use Prim.Native.Nat.{ℕ, zero, suc, ◌+◌, ◌≤◌}
 use mathlib.Core.Path.{◌≡◌, refl, sym, ap, ap₂, ◌∙◌}
 use mathlib.Core.Logic.{◌⊎◌, inl, inr}
@@ -14,8 +15,6 @@ use Rattle.classes.specs.Runs.{in_run, count_while, goes_on, run}
 use Rattle.classes.specs.declared.Run.TheVariants.{Word}
 use Rattle.classes.proofs.Laws.{count_more, count_none, within_low, within_high}
 use Rattle.words.specs.Words.{bytes_of, begins, spells, place_from, reserved_words}
-use Rattle.words.specs.declared.Place.{Place}
-use Rattle.words.specs.declared.Place.TheVariants.{At}
 use Rattle.same_names.specs.Spelling.{counts}
 use Rattle.stored.specs.LegalNames.{in_lower_case}
 use Rattle.names_alone.proofs.Names.{Basic}
@@ -123,8 +122,8 @@ place_same : (k : ℕ) (w : List ℕ) (xs : List String) → place_from k (map (
 unfolding place_from
 place_same k w [] = refl
 place_same k w (x ∷ xs) =
-    ap (λ (b : Bool). elim b [ true ↦ At k | false ↦ place_from (suc k) (map (counts true) w) xs ]) (spells_same w x)
-    ∙ ap (λ (p : Place). elim (spells w x) [ true ↦ At k | false ↦ p ]) (place_same (suc k) w xs)
+    ap (λ (b : Bool). elim b [ true ↦ Some k | false ↦ place_from (suc k) (map (counts true) w) xs ]) (spells_same w x)
+    ∙ ap (λ (p : Option ℕ). elim (spells w x) [ true ↦ Some k | false ↦ p ]) (place_same (suc k) w xs)
 
 take_map : (n : ℕ) (s : List ℕ) → take n (map (counts true) s) ≡ map (counts true) (take n s)
 take_map zero s = refl

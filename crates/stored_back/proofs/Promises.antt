@@ -1,4 +1,5 @@
 -- The promises of specs/Promises.antt, proved. Assumes nothing.
+use Rattle.std.specs.Prelude.{Ok, Err}
 use Prim.Native.Nat.{ℕ, ◌+◌, ◌-◌, ◌*◌, ◌≤◌, ◌<◌}
 use mathlib.Core.Path.{◌≡◌, refl, sym, ap, subst, ◌∙◌}
 use mathlib.Core.Bool.{true, ◌&&◌}
@@ -30,12 +31,11 @@ use Rattle.stored_reading.specs.StoredRows as rows
 use Rattle.stored_reading.specs.Permitted.{stored_rows_in}
 use Rattle.stored_reading.specs.Permitted as reading
 use Rattle.stored_reading.specs.declared.StoredRefusal.TheVariants.{ItemsShort}
-use Rattle.stored_reading.specs.declared.StoredReading.{StoredReading}
-use Rattle.stored_reading.specs.declared.StoredReading.TheVariants.{Read, Refused}
+use Rattle.stored_reading.specs.Permitted.{StoredReading}
+use Rattle.stored_reading.specs.Permitted.{read_table}
 use Rattle.stored_reading.proofs.Promises.{no_choice, names_stand}
 use Rattle.storing.specs.SurveyItems.{package_name, stored_items, survey_bytes}
 use Rattle.storing.specs.Given.{Surveyed}
-use Rattle.storing.specs.declared.Storing.TheVariants.{Stored}
 use Rattle.storing.proofs.Held.{dones_pieces, good_from, heading_is}
 use Rattle.storing.proofs.Promises.{lengths_suffice, items_few, numbers_sized}
 use Rattle.names_alone.proofs.Promises.{names_alone}
@@ -97,19 +97,19 @@ stores_table s e i ds d w = record {
 -- ---- reading gives it back
 
 module _ (s n : List ℕ) (is : List StoredItem) (h : stored.Stored form_one s n is) (words : ℕ) (answer : StoredReading) (table : List ℕ) (p : reading.Permitted s words answer table) where
-  room : length is ≤ stored_rows_in words → (answer ≡ Read (record { 0 = head_size }) (length n) (length is)) × (table ≡ stored_rows_from (head_size + length n) is ++ replicate (words - rows.stored_row_words * length is) 0)
+  room : length is ≤ stored_rows_in words → (answer ≡ read_table (record { 0 = head_size }) (length n) (length is)) × (table ≡ stored_rows_from (head_size + length n) is ++ replicate (words - rows.stored_row_words * length is) 0)
   room l =
-      no_choice s words answer (Read (record { 0 = head_size }) (length n) (length is)) table (stored_rows_from (head_size + length n) is ++ replicate (words - rows.stored_row_words * length is) 0) p
+      no_choice s words answer (read_table (record { 0 = head_size }) (length n) (length is)) table (stored_rows_from (head_size + length n) is ++ replicate (words - rows.stored_row_words * length is) 0) p
       (record { name = n; items = is; stored = h; room = l; first_is = refl; size_is = refl; count_is = refl; rows_are = refl })
 
-  short : stored_rows_in words < length is → (answer ≡ Refused (ItemsShort (stored_rows_in words))) × (table ≡ replicate words 0)
+  short : stored_rows_in words < length is → (answer ≡ Err (ItemsShort (stored_rows_in words))) × (table ≡ replicate words 0)
   short l =
-      no_choice s words answer (Refused (ItemsShort (stored_rows_in words))) table (replicate words 0) p
+      no_choice s words answer (Err (ItemsShort (stored_rows_in words))) table (replicate words 0) p
       (record { name = n; items = is; stored = h; short = l; rows_are = refl }, refl)
 
 back : (s n : List ℕ) (ds : List Done) → AllKept ds → stored.Stored form_one s n (stored_items ds) → (words : ℕ) (answer : StoredReading) (table : List ℕ) → reading.Permitted s words answer table
     → (length (survey_shows ds) ≤ stored_rows_in words → GivesBack s answer table n (survey_shows ds))
-    × (stored_rows_in words < length (survey_shows ds) → (answer ≡ Refused (ItemsShort (stored_rows_in words))) × (table ≡ replicate words 0))
+    × (stored_rows_in words < length (survey_shows ds) → (answer ≡ Err (ItemsShort (stored_rows_in words))) × (table ≡ replicate words 0))
 back s n ds k h words answer table p = (
   (λ l. let q = room s n (stored_items ds) h words answer table p (omega (arith, shown_count ds k)) in
       record {

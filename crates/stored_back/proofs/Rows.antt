@@ -1,4 +1,5 @@
 -- The rows of the items that are stored show what the survey shows of them. Assumes nothing.
+use Rattle.std.specs.Prelude.{Option, Some, None}
 use Prim.Native.Nat.{ℕ, ◌+◌}
 use mathlib.Core.Path.{◌≡◌, refl, sym, ap, ap₂, subst, ◌∙◌}
 use mathlib.Core.Logic.{inl, inr}
@@ -16,8 +17,6 @@ use Rattle.meaning.specs.Elements.{Element}
 use Rattle.meaning.specs.Pieces.{class_of}
 use Rattle.meaning.specs.Names.{own_name, names_claimed, Done}
 use Rattle.stored.specs.StoredItems.{StoredItem}
-use Rattle.stored.specs.declared.Held.{Held}
-use Rattle.stored.specs.declared.Held.TheVariants.{Nothing, Holds}
 use Rattle.stored.specs.declared.StoredValue.{StoredValue}
 use Rattle.stored.specs.declared.StoredValue.TheVariants as kept
 use Rattle.stored_reading.specs.StoredRows as rows
@@ -53,7 +52,7 @@ rows_show_lem s (i ∷ is) at rest h =
 -- what is kept of a value in state 0 says all that its record does
 record Kept (class : ℕ) (v : Value) : Type 0 where
   value : StoredValue
-  held : stored_value v ≡ Holds value
+  held : stored_value v ≡ Some value
   class_is : rows.stored_class value ≡ class
   value_is : survey_value value ≡ v
 
@@ -83,13 +82,13 @@ show_append (x ∷ xs) ys = ap (λ (l : List Shown). item_shows x ∷ l) (show_a
 show_one : (c : ℕ) (v : Value) (x : Element) → Kept c v → items_show (items_named (stored_value v) (x ∷ [])) ≡ shown_by c v (x ∷ [])
 unfolding items_named
 show_one c v x k =
-    ap (λ (h : Held). items_show (items_named h (x ∷ []))) k.held
+    ap (λ (h : Option StoredValue). items_show (items_named h (x ∷ []))) k.held
     ∙ ap₂ (λ (i : ℕ) (u : Value). record { class = i; name = stored_name x; kind = value_kind u; low = low_of u; high = high_of u } ∷ []) k.class_is k.value_is
 
-show_none : (h : Held) → items_show (items_named h []) ≡ []
+show_none : (h : Option StoredValue) → items_show (items_named h []) ≡ []
 unfolding items_named
-show_none Nothing = refl
-show_none (Holds v) = refl
+show_none None = refl
+show_none (Some v) = refl
 
 show_piece : (d : Done) → (is_claim (class_of d.piece) ≡ true → Fits (class_of d.piece) d.value × (state_of d.value ≡ 0))
     → items_show (items_named (stored_value d.value) (names_claimed d.piece)) ≡ shown_by (class_of d.piece) d.value (names_claimed d.piece)

@@ -1,5 +1,5 @@
 -- What a caller sees of items: by a survey, and by the rows of a stored table that was read back. Assumes nothing: these are definitions.
-use Rattle.std.specs.Prelude.{ℕ, zero, suc, ◌≡◌, List, [], ◌∷◌, ◌++◌, length, get_or, take, drop}
+use Rattle.std.specs.Prelude.{ℕ, zero, suc, ◌≡◌, List, [], ◌∷◌, ◌++◌, length, get_or, take, drop, Ok, Err}
 use Rattle.places.specs.declared.BytePlace.{BytePlace}
 use Rattle.values.specs.ValueWords.{value_kind, low_of, high_of}
 use Rattle.values.specs.declared.Value.{Value}
@@ -7,8 +7,8 @@ use Rattle.meaning.specs.Elements.{Element}
 use Rattle.meaning.specs.Pieces.{class_of}
 use Rattle.meaning.specs.Names.{names_claimed, Done}
 use Rattle.stored_reading.specs.StoredRows.{stored_row_words, stored_class_column, stored_place_column, stored_length_column, stored_kind_column, stored_low_column, stored_high_column}
-use Rattle.stored_reading.specs.declared.StoredReading.{StoredReading}
-use Rattle.stored_reading.specs.declared.StoredReading.TheVariants.{Read}
+use Rattle.stored_reading.specs.Permitted.{StoredReading}
+use Rattle.stored_reading.specs.Permitted.{read_table}
 use Rattle.storing.specs.SurveyItems.{stored_name}
 
 -- an item: constant or subtype, its name, "kind .. and two numbers"
@@ -55,7 +55,7 @@ pub record GivesBack (s : List ℕ) (answer : StoredReading) (rows name : List �
   pub first : BytePlace
   pub size : ℕ
   pub count : ℕ
-  pub read : answer ≡ Read first size count
+  pub read : answer ≡ read_table first size count
   pub named : bytes_standing s first.0 size ≡ name
   pub counted : count ≡ length items
   pub shown : rows_show s rows count ≡ items

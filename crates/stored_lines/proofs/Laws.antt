@@ -1,33 +1,18 @@
 -- Each line's definition, of what is put. Assumes nothing.
-use Prim.Native.Nat.{ℕ, zero, suc, ◌+◌, ◌-◌, ◌*◌, ◌/◌, ◌≤◌, ◌<◌, min}
+use Prim.Native.Nat.{ℕ, zero, suc, ◌+◌, ◌-◌, ◌/◌, ◌≤◌, ◌<◌, min}
 use native.Mathlib.Omega.{arith}
 use mathlib.Core.Path.{◌≡◌, refl, ap, ◌∙◌}
 use mathlib.Core.List.{List, [], ◌∷◌}
 use lib.ListN.{length, get_or}
-use borrow.Author.Tests.{lt-ltb, le-ltb}
 use Rattle.words.specs.Words.{bytes_of}
 use Rattle.stored_reading.specs.StoredRows.{stored_row_words, stored_class_column, stored_place_column, stored_length_column, stored_kind_column, stored_low_column, stored_high_column}
 use Rattle.puts.specs.Puts.{Wrote}
 use Rattle.puts.specs.Decimals.{decimal_of, line_feed}
 use Rattle.puts.proofs.Laws.{then3, then4, named}
 use Rattle.item_words.specs.LineWords.{stretch_of, claim_text, value_text}
-use Rattle.refused_line.specs.Refused.{refusal, place, counted, refused_of, lines_by}
-use Rattle.refused_line.proofs.Laws.{given_line, refused_line}
+use Rattle.refused_line.specs.Refused.{counted, lines_by, Unrefused}
+use Rattle.refused_line.proofs.Laws.{given_line}
 use Rattle.stored_lines.specs.Lines.{row_word, name_first, name_length, count_text, stored_head, stored_item, stored_listed, stored_line, stored_lines}
-
--- a word of a row
-module _ (rows : List ℕ) (i j : ℕ) where
-  pub word_none : stored_row_words ≤ j → ◌≡◌ {A = ℕ} 0 (row_word rows i j)
-  unfolding row_word
-  word_none h = rw (le-ltb j stored_row_words h)
-
-  pub word_in : j < stored_row_words → i < length rows / stored_row_words → get_or rows (stored_row_words * i + j) 0 ≡ row_word rows i j
-  unfolding row_word
-  word_in h k = rw (lt-ltb j stored_row_words h, lt-ltb i (length rows / stored_row_words) k)
-
-  pub word_out : j < stored_row_words → length rows / stored_row_words ≤ i → ◌≡◌ {A = ℕ} 0 (row_word rows i j)
-  unfolding row_word
-  word_out h k = rw (lt-ltb j stored_row_words h, le-ltb i (length rows / stored_row_words) k)
 
 pub count_put : {t t₁ t₂ t₃ : List ℕ} {a b c d : ℕ} (n : ℕ) → Wrote t a (bytes_of " items ") t₁ b → Wrote t₁ b (decimal_of n) t₂ c
     → Wrote t₂ c (line_feed ∷ []) t₃ d → Wrote t a (count_text n) t₃ d
@@ -52,20 +37,15 @@ unfolding stored_listed
 line_of_lem bytes rows answer zero h = absurd (h refl)
 line_of_lem bytes rows answer (suc i) h = let e : i ≡ suc i - 1 = omega arith in ap (λ (k : ℕ). stored_item bytes rows k) e
 
-module _ {t t' : List ℕ} {at r : ℕ} (bytes rows answer : List ℕ) where
-  pub refused_stored : (i w x : ℕ) → w ≡ get_or answer refusal 0 → (w ≡ 0 → ⊥) → x ≡ get_or answer place 0 → Wrote t at (refused_of w x) t' r
-      → Wrote t at (stored_line bytes rows answer i) t' r
-  unfolding stored_line
-  refused_stored i w x e h d p = refused_line answer (stored_listed bytes rows answer) i w x e h d p
-
-  pub head_stored : (i w : ℕ) → w ≡ get_or answer refusal 0 → w ≡ 0 → i ≡ 0 → Wrote t at (stored_head bytes answer) t' r → Wrote t at (stored_line bytes rows answer i) t' r
+module _ {t₀ t t' : List ℕ} {at r : ℕ} (bytes rows answer : List ℕ) where
+  pub head_stored : (i : ℕ) → Unrefused answer t₀ t → i ≡ 0 → Wrote t at (stored_head bytes answer) t' r → Wrote t₀ at (stored_line bytes rows answer i) t' r
   unfolding stored_line stored_listed
-  head_stored i w e h z p = given_line answer (stored_listed bytes rows answer) i w e h (named (rw z) p)
+  head_stored i u z p = given_line answer (stored_listed bytes rows answer) i u (named (rw z) p)
 
-  pub item_stored : (i w : ℕ) → w ≡ get_or answer refusal 0 → w ≡ 0 → (i ≡ 0 → ⊥) → Wrote t at (stored_item bytes rows (i - 1)) t' r
-      → Wrote t at (stored_line bytes rows answer i) t' r
+  pub item_stored : (i : ℕ) → Unrefused answer t₀ t → (i ≡ 0 → ⊥) → Wrote t at (stored_item bytes rows (i - 1)) t' r
+      → Wrote t₀ at (stored_line bytes rows answer i) t' r
   unfolding stored_line
-  item_stored i w e h z p = given_line answer (stored_listed bytes rows answer) i w e h (named (line_of_lem bytes rows answer i z) p)
+  item_stored i u z p = given_line answer (stored_listed bytes rows answer) i u (named (line_of_lem bytes rows answer i z) p)
 
 -- how many lines there are
 pub lines_of : (rows answer : List ℕ) (r l n : ℕ) → r ≡ lines_by answer (l + 1) → l ≡ min n (length rows / stored_row_words) → n ≡ get_or answer counted 0 → r ≡ stored_lines rows answer

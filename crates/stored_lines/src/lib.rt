@@ -9,7 +9,7 @@ ghost use Rattle.stored_lines.specs.Lines.{row_word, count_text, stored_head, st
 
 use places::BytePlace;
 use puts::Filled;
-use refused_line::{COUNT, PLACE, REFUSAL};
+use refused_line::COUNT;
 use stored_reading::ROW_WORDS;
 
 // Where the answer has the place of the package's name, and its length.
@@ -21,13 +21,7 @@ const NAME_LENGTH: usize = 4;
 fn word(rows: &[u64], i: usize, j: usize) -> u64
     ensures { result ≡ row_word rows.now i j }
 {
-    if ROW_WORDS <= j {
-        return 0;
-    }
-    if i < rows.len() / ROW_WORDS {
-        return rows[ROW_WORDS * i + j];
-    }
-    0
+    lent_tables::word_in::<ROW_WORDS>(rows, i, j)
 }
 
 fn put_count(items: u64, out: &mut [u8], at: usize) -> usize
@@ -77,9 +71,8 @@ fn put_stored_line(
 ) -> usize
     ensures { Wrote out.old at (stored_line bytes.now rows.now answer.now i) out.new result }
 {
-    let refusal = lent_tables::word_at(answer, REFUSAL);
-    if refusal != 0 {
-        return refused_line::put_refused(refusal, lent_tables::word_at(answer, PLACE), out, at);
+    if let Some(end) = refused_line::put_refusal(answer, out, at) {
+        return end;
     }
     if i == 0 {
         return put_head(bytes, answer, out, at);
@@ -92,7 +85,7 @@ fn stored_lines(rows: &[u64], answer: &[u64]) -> usize
     ensures { result ≡ stored_lines rows.now answer.now }
 {
     let items = lent_tables::word_at(answer, COUNT) as usize;
-    let listed = lent_tables::least(items, rows.len() / ROW_WORDS);
+    let listed = items.min(rows.len() / ROW_WORDS);
     refused_line::lines_by(answer, listed + 1)
 }
 
@@ -106,16 +99,10 @@ pub fn fill_stored(
 ) -> Filled
     ensures { Part (stored_line bytes.now rows.now answer.now) from (stored_lines rows.now answer.now) (length out.old) result out.new }
 {
-    let to = stored_lines(rows, answer);
-    let mut i = from;
-    let mut w: usize = 0;
-    while i < to {
-        let r = put_stored_line(bytes, rows, answer, i, out, w);
-        if out.len() <= r {
-            return puts::ended(i, to, out, w);
-        }
-        w = r;
-        i += 1;
-    }
-    puts::ended(i, to, out, w)
+    puts::fill(
+        |i, out, at| put_stored_line(bytes, rows, answer, i, out, at),
+        from,
+        stored_lines(rows, answer),
+        out,
+    )
 }

@@ -1,8 +1,9 @@
 -- The code's ways through a step and a turn, and the turns of its loops. Assumes nothing.
+use Rattle.std.specs.Prelude.{Option, Some, None}
 use mathlib.Core.Path.{◌≡◌, refl, sym, ap, subst, ◌∙◌}
 use mathlib.Core.Bool.{Bool, true}
+use mathlib.Core.Logic.{◌⊎◌, inl, inr}
 use mathlib.Core.List.{List, [], ◌∷◌}
-use mathlib.Core.Option.{Option, none, some}
 use Prim.Native.Nat.{ℕ, suc, ◌+◌, ◌-◌, ◌*◌, ◌^◌, ◌≤◌, ◌<◌}
 use native.Mathlib.Omega.{arith}
 use borrow.Author.Tests.{ne_eqb, eq-eqb, lt-ltb, le-ltb}
@@ -12,14 +13,13 @@ use lib.Seq.{get_or-drop, drop-drop, length-take-le, sets, length-sets}
 use Rattle.laws.proofs.Laws.{clash}
 use lib.IntN.{ℤ}
 use mir.Val.{Fits, SFits, to_z, of_z}
-use mir.Syntax.{w32, w64}
+use mir.Syntax.{w16, w32, w64}
+use Rattle.std.specs.Int.{from_be_bytes}
 use mir.ValLaws.{to_z-of_z}
 use Rattle.stored.specs.StoredItems.{StoredItem, value_size}
 use Rattle.stored.specs.Stored.{Form, form_one}
 use Rattle.stored.specs.code.Decode.{length_in, before, fields_from, kept_in}
 use Rattle.stored.specs.declared.StoredValue.{StoredValue}
-use Rattle.stored.specs.declared.Held.{Held}
-use Rattle.stored.specs.declared.Held.TheVariants.{Nothing, Holds}
 use Rattle.stored_reading.specs.code.Turns.{step_of, turn_held, turn_step, turn_of, items_by, items_at, count_with, there, items_counted}
 use Rattle.values.specs.ValueWords.{value_kind, low_of, high_of}
 use Rattle.values.specs.declared.Value.{Value}
@@ -31,12 +31,10 @@ use Rattle.stored_reading.specs.declared.FieldStep.{FieldStep}
 use Rattle.stored_reading.specs.declared.FieldStep.TheVariants.{Bad, End, Tagged}
 use Rattle.stored_reading.specs.declared.ItemTurn.{ItemTurn}
 use Rattle.stored_reading.specs.declared.ItemTurn.TheVariants.{Wrong, Ends, Gives}
-use Rattle.stored_reading.specs.declared.ItemCount.{ItemCount}
-use Rattle.stored_reading.specs.declared.ItemCount.TheVariants.{Broken, Items}
 use Rattle.stored_reading.proofs.StepLaws.{item_of, Turned, turn_is}
 
-length_at : (s : List ℕ) (h l : ℕ) → h ≡ get_or s 1 0 → l ≡ get_or s 2 0 → length_in (drop 1 s) ≡ h * 256 + l
-length_at s h l p q = rw (get_or-drop 1 s 0 0, get_or-drop 1 s 1 0, p, q)
+length_at : (s : List ℕ) (n : ℕ) → n ≡ from_be_bytes w16 (get_or s 1 0 ∷ get_or s 2 0 ∷ []) → length_in (drop 1 s) ≡ n
+length_at s n p = rw (get_or-drop 1 s 0 0, get_or-drop 1 s 1 0) (omega arith)
 
 pub step_short : (s : List ℕ) → length s < 3 → Bad ≡ step_of s
 unfolding step_of
@@ -46,21 +44,22 @@ pub step_more : (s : List ℕ) → 3 ≤ length s → get_or s 0 0 ≡ 0 → (le
 unfolding step_of
 step_more s l z m = rw (le-ltb (length s) 3 l, eq-eqb (get_or s 0 0) 0 z, ne_eqb (length s) 3 m)
 
-pub step_long : (s : List ℕ) (h l : ℕ) → 3 ≤ length s → get_or s 0 0 ≡ 0 → length s ≡ 3 → h ≡ get_or s 1 0 → l ≡ get_or s 2 0 → (h * 256 + l ≡ 0 → ⊥) → Bad ≡ step_of s
-unfolding step_of
-step_long s h l k z m p q n = rw (le-ltb (length s) 3 k, eq-eqb (get_or s 0 0) 0 z, eq-eqb (length s) 3 m, length_at s h l p q, ne_eqb (h * 256 + l) 0 n)
+module _ (s : List ℕ) (n m : ℕ) (k : 3 ≤ length s) (f : n ≡ m) (p : m ≡ from_be_bytes w16 (get_or s 1 0 ∷ get_or s 2 0 ∷ [])) where
+  pub step_long : get_or s 0 0 ≡ 0 → length s ≡ 3 → (n ≡ 0 → ⊥) → Bad ≡ step_of s
+  unfolding step_of
+  step_long z l q = rw (le-ltb (length s) 3 k, eq-eqb (get_or s 0 0) 0 z, eq-eqb (length s) 3 l, length_at s n (f ∙ p), ne_eqb n 0 q)
 
-pub step_end : (s : List ℕ) (h l : ℕ) → 3 ≤ length s → get_or s 0 0 ≡ 0 → length s ≡ 3 → h ≡ get_or s 1 0 → l ≡ get_or s 2 0 → h * 256 + l ≡ 0 → End ≡ step_of s
-unfolding step_of
-step_end s h l k z m p q n = rw (le-ltb (length s) 3 k, eq-eqb (get_or s 0 0) 0 z, eq-eqb (length s) 3 m, length_at s h l p q, eq-eqb (h * 256 + l) 0 n)
+  pub step_end : get_or s 0 0 ≡ 0 → length s ≡ 3 → n ≡ 0 → End ≡ step_of s
+  unfolding step_of
+  step_end z l q = rw (le-ltb (length s) 3 k, eq-eqb (get_or s 0 0) 0 z, eq-eqb (length s) 3 l, length_at s n (f ∙ p), eq-eqb n 0 q)
 
-pub step_over : (s : List ℕ) (h l : ℕ) → 3 ≤ length s → (get_or s 0 0 ≡ 0 → ⊥) → h ≡ get_or s 1 0 → l ≡ get_or s 2 0 → length s < 3 + (h * 256 + l) → Bad ≡ step_of s
-unfolding step_of
-step_over s h l k z p q n = rw (le-ltb (length s) 3 k, ne_eqb (get_or s 0 0) 0 z, length_at s h l p q, lt-ltb (length s) (3 + (h * 256 + l)) n)
+  pub step_over : (get_or s 0 0 ≡ 0 → ⊥) → length s < 3 + n → Bad ≡ step_of s
+  unfolding step_of
+  step_over z q = rw (le-ltb (length s) 3 k, ne_eqb (get_or s 0 0) 0 z, length_at s n (f ∙ p), lt-ltb (length s) (3 + n) q)
 
-pub step_field : (s : List ℕ) (h l : ℕ) → 3 ≤ length s → (get_or s 0 0 ≡ 0 → ⊥) → h ≡ get_or s 1 0 → l ≡ get_or s 2 0 → 3 + (h * 256 + l) ≤ length s → Tagged (get_or s 0 0) (h * 256 + l) ≡ step_of s
-unfolding step_of
-step_field s h l k z p q n = rw (le-ltb (length s) 3 k, ne_eqb (get_or s 0 0) 0 z, length_at s h l p q, le-ltb (length s) (3 + (h * 256 + l)) n)
+  pub step_field : (get_or s 0 0 ≡ 0 → ⊥) → 3 + n ≤ length s → Tagged (get_or s 0 0) n ≡ step_of s
+  unfolding step_of
+  step_field z q = rw (le-ltb (length s) 3 k, ne_eqb (get_or s 0 0) 0 z, length_at s n (f ∙ p), le-ltb (length s) (3 + n) q)
 
 module _ (F : Form) (s : List ℕ) (st : FieldStep) where
   pub turn_bad : st ≡ Bad → st ≡ step_of s → Wrong ≡ turn_of F s
@@ -71,16 +70,16 @@ module _ (F : Form) (s : List ℕ) (st : FieldStep) where
   unfolding turn_of turn_step
   turn_end e p = rw (← p, e)
 
-  pub turn_none : (t n : ℕ) (h : Held) (b r : List ℕ) → st ≡ Tagged t n → h ≡ Nothing → h ≡ kept_in F t b → st ≡ step_of s → b ≡ take n r → r ≡ drop 3 s → Wrong ≡ turn_of F s
+  pub turn_none : (t n : ℕ) (h : Option StoredValue) (b r : List ℕ) → st ≡ Tagged t n → h ≡ None → h ≡ kept_in F t b → st ≡ step_of s → b ≡ take n r → r ≡ drop 3 s → Wrong ≡ turn_of F s
   unfolding turn_of turn_step turn_held
   turn_none t n h b r e g k p q d =
-      let w : kept_in F t (take n (drop 3 s)) ≡ Nothing = ap (λ (x : List ℕ). kept_in F t (take n x)) (sym d) ∙ ap (kept_in F t) (sym q) ∙ sym k ∙ g in
+      let w : kept_in F t (take n (drop 3 s)) ≡ None = ap (λ (x : List ℕ). kept_in F t (take n x)) (sym d) ∙ ap (kept_in F t) (sym q) ∙ sym k ∙ g in
       rw (← p, e, turn_step, w)
 
-  pub turn_gives : (t n : ℕ) (h : Held) (v : StoredValue) (b r : List ℕ) → st ≡ Tagged t n → h ≡ Holds v → h ≡ kept_in F t b → st ≡ step_of s → b ≡ take n r → r ≡ drop 3 s → Gives v n ≡ turn_of F s
+  pub turn_gives : (t n : ℕ) (h : Option StoredValue) (v : StoredValue) (b r : List ℕ) → st ≡ Tagged t n → h ≡ Some v → h ≡ kept_in F t b → st ≡ step_of s → b ≡ take n r → r ≡ drop 3 s → Gives v n ≡ turn_of F s
   unfolding turn_of turn_step turn_held
   turn_gives t n h v b r e g k p q d =
-      let w : kept_in F t (take n (drop 3 s)) ≡ Holds v = ap (λ (x : List ℕ). kept_in F t (take n x)) (sym d) ∙ ap (kept_in F t) (sym q) ∙ sym k ∙ g in
+      let w : kept_in F t (take n (drop 3 s)) ≡ Some v = ap (λ (x : List ℕ). kept_in F t (take n x)) (sym d) ∙ ap (kept_in F t) (sym q) ∙ sym k ∙ g in
       rw (← p, e, turn_step, w)
 
 -- ---- a turn at a place of the bytes
@@ -88,10 +87,10 @@ module _ (s : List ℕ) (at : ℕ) (r : List ℕ) (tn : ItemTurn) where
   pub at_turn : tn ≡ turn_of form_one r → r ≡ drop at s → Turned form_one (drop at s) tn
   at_turn p q = subst (Turned form_one (drop at s)) (sym (p ∙ ap (turn_of form_one) q)) (turn_is form_one (drop at s))
 
-  pub at_wrong : tn ≡ Wrong → tn ≡ turn_of form_one r → r ≡ drop at s → items_at form_one (drop at s) ≡ none
+  pub at_wrong : tn ≡ Wrong → tn ≡ turn_of form_one r → r ≡ drop at s → items_at form_one (drop at s) ≡ None
   at_wrong e p q = subst (Turned form_one (drop at s)) e (at_turn p q)
 
-  pub at_ends : tn ≡ Ends → tn ≡ turn_of form_one r → r ≡ drop at s → items_at form_one (drop at s) ≡ some []
+  pub at_ends : tn ≡ Ends → tn ≡ turn_of form_one r → r ≡ drop at s → items_at form_one (drop at s) ≡ Some []
   at_ends e p q = subst (Turned form_one (drop at s)) e (at_turn p q)
 
   pub at_gives : (v : StoredValue) (k : ℕ) → tn ≡ Gives v k → tn ≡ turn_of form_one r → r ≡ drop at s → Turned form_one (drop at s) (Gives v k)
@@ -120,41 +119,41 @@ module _ (s : List ℕ) (at : ℕ) (r : List ℕ) (tn : ItemTurn) where
 -- ---- counting
 tally_more : (n : ℕ) (i : StoredItem) (x : Option (List StoredItem)) → count_with n (before i x) ≡ count_with (n + 1) x
 unfolding count_with before
-tally_more n i none = refl
-tally_more n i (some is) = ap Items (omega arith)
+tally_more n i None = refl
+tally_more n i (Some is) = ap Some (omega arith)
 
-module _ (s : List ℕ) (at n : ℕ) (whole : ItemCount) (e : count_with n (items_at form_one (drop at s)) ≡ whole) where
-  pub count_wrong : (r : List ℕ) (tn : ItemTurn) → tn ≡ Wrong → tn ≡ turn_of form_one r → r ≡ drop at s → Broken ≡ whole
+module _ (s : List ℕ) (at n : ℕ) (whole : Option ℕ) (e : count_with n (items_at form_one (drop at s)) ≡ whole) where
+  pub count_wrong : (r : List ℕ) (tn : ItemTurn) → tn ≡ Wrong → tn ≡ turn_of form_one r → r ≡ drop at s → None ≡ whole
   unfolding count_with
   count_wrong r tn f p q = sym (ap (count_with n) (at_wrong s at r tn f p q)) ∙ e
 
-  pub count_ends : (r : List ℕ) (tn : ItemTurn) → tn ≡ Ends → tn ≡ turn_of form_one r → r ≡ drop at s → Items n ≡ whole
+  pub count_ends : (r : List ℕ) (tn : ItemTurn) → tn ≡ Ends → tn ≡ turn_of form_one r → r ≡ drop at s → Some n ≡ whole
   unfolding count_with
-  count_ends r tn f p q = ap Items (omega arith) ∙ sym (ap (count_with n) (at_ends s at r tn f p q)) ∙ e
+  count_ends r tn f p q = ap Some (omega arith) ∙ sym (ap (count_with n) (at_ends s at r tn f p q)) ∙ e
 
   pub count_on : (r : List ℕ) (tn : ItemTurn) (v : StoredValue) (k : ℕ) → tn ≡ Gives v k → tn ≡ turn_of form_one r → r ≡ drop at s → count_with (n + 1) (items_at form_one (drop (at + (3 + k)) s)) ≡ whole
   count_on r tn v k f p q = sym (tally_more n (item_of v k (drop at s)) (items_at form_one (drop (at + (3 + k)) s))) ∙ sym (ap (count_with n) (at_next s at r tn v k f p q)) ∙ e
 
-  pub count_out : length s ≤ at → Broken ≡ whole
+  pub count_out : length s ≤ at → None ≡ whole
   unfolding count_with items_at items_by fields_from
   count_out l = rw (drop_of_length-le s l) at e
 
 -- ---- the rows
 there_before : (i : StoredItem) (x : Option (List StoredItem)) → there (before i x) ≡ true → there x ≡ true
 unfolding there before
-there_before i none e = e
-there_before i (some is) e = refl
+there_before i None e = e
+there_before i (Some is) e = refl
 
 cells_before : (at : ℕ) (i : StoredItem) (x : Option (List StoredItem)) → there x ≡ true
     → rows_at at (before i x) ≡ stored_class i.value ∷ (at + (3 + value_size i.value)) ∷ length i.name ∷ value_kind (survey_value i.value) ∷ low_of (survey_value i.value) ∷ high_of (survey_value i.value) ∷ rows_at (at + size_of i) x
 unfolding rows_at stored_rows_from before there
-cells_before at i none e = clash (cc)
-cells_before at i (some is) e = refl
+cells_before at i None e = clash (cc)
+cells_before at i (Some is) e = refl
 
 count_before : (i : StoredItem) (x : Option (List StoredItem)) → there x ≡ true → items_counted (before i x) ≡ suc (items_counted x)
 unfolding items_counted before there
-count_before i none e = clash (cc)
-count_before i (some is) e = refl
+count_before i None e = clash (cc)
+count_before i (Some is) e = refl
 
 name_length_lem : (v : StoredValue) (k : ℕ) (s : List ℕ) → 3 + k ≤ length s → length (drop (value_size v) (take k (drop 3 s))) ≡ k - value_size v
 name_length_lem v k s l =
@@ -209,13 +208,10 @@ pub fill_length : (t u t₀ : List ℕ) (w p l : ℕ) (v : StoredValue) → leng
 fill_length t u t₀ w p l v e q = ap length q ∙ length-sets t w (stored_row v p l) ∙ e
 
 module _ (s : List ℕ) (at : ℕ) (t : List ℕ) (w : ℕ) (whole : List ℕ) (e : sets t w (rows_at at (items_at form_one (drop at s))) ≡ whole) where
-  pub fill_wrong : (r : List ℕ) (tn : ItemTurn) → tn ≡ Wrong → tn ≡ turn_of form_one r → r ≡ drop at s → t ≡ whole
-  unfolding rows_at
-  fill_wrong r tn f p q = rw (at_wrong s at r tn f p q) at e
-
-  pub fill_ends : (r : List ℕ) (tn : ItemTurn) → tn ≡ Ends → tn ≡ turn_of form_one r → r ≡ drop at s → t ≡ whole
+  pub fill_done : (r : List ℕ) (tn : ItemTurn) → (tn ≡ Wrong) ⊎ (tn ≡ Ends) → tn ≡ turn_of form_one r → r ≡ drop at s → t ≡ whole
   unfolding rows_at stored_rows_from
-  fill_ends r tn f p q = rw (at_ends s at r tn f p q) at e
+  fill_done r tn (inl f) p q = rw (at_wrong s at r tn f p q) at e
+  fill_done r tn (inr f) p q = rw (at_ends s at r tn f p q) at e
 
   pub fill_out : length s ≤ at → t ≡ whole
   unfolding rows_at items_at items_by fields_from
@@ -237,13 +233,13 @@ survey_range v y z e f g = rw (to_z-of_z w32 y f, to_z-of_z w32 z g) (sym (ap su
 -- ---- the names' places and lengths
 firsts_before : (at : ℕ) (i : StoredItem) (x : Option (List StoredItem)) → there x ≡ true → firsts_at at (before i x) ≡ (at + (3 + value_size i.value)) ∷ firsts_at (at + size_of i) x
 unfolding firsts_at firsts_from before there
-firsts_before at i none e = clash (cc)
-firsts_before at i (some is) e = refl
+firsts_before at i None e = clash (cc)
+firsts_before at i (Some is) e = refl
 
 sizes_before : (i : StoredItem) (x : Option (List StoredItem)) → there x ≡ true → sizes_at (before i x) ≡ length i.name ∷ sizes_at x
 unfolding sizes_at sizes_from before there
-sizes_before i none e = clash (cc)
-sizes_before i (some is) e = refl
+sizes_before i None e = clash (cc)
+sizes_before i (Some is) e = refl
 
 module _ (s : List ℕ) (at : ℕ) (r : List ℕ) (tn : ItemTurn) (v : StoredValue) (k : ℕ) (e : tn ≡ Gives v k) (p : tn ≡ turn_of form_one r) (q : r ≡ drop at s) where
   firsts_next : there (items_at form_one (drop at s)) ≡ true
@@ -291,25 +287,19 @@ module _ (s : List ℕ) (at : ℕ) (r : List ℕ) (tn : ItemTurn) (v : StoredVal
       ∙ m
 
 module _ (s : List ℕ) (at : ℕ) (t : List ℕ) (w : ℕ) (whole : List ℕ) where
-  pub firsts_wrong : sets t w (firsts_at at (items_at form_one (drop at s))) ≡ whole → (r : List ℕ) (tn : ItemTurn) → tn ≡ Wrong → tn ≡ turn_of form_one r → r ≡ drop at s → t ≡ whole
-  unfolding firsts_at
-  firsts_wrong e r tn f p q = rw (at_wrong s at r tn f p q) at e
-
-  pub firsts_ends : sets t w (firsts_at at (items_at form_one (drop at s))) ≡ whole → (r : List ℕ) (tn : ItemTurn) → tn ≡ Ends → tn ≡ turn_of form_one r → r ≡ drop at s → t ≡ whole
+  pub firsts_done : sets t w (firsts_at at (items_at form_one (drop at s))) ≡ whole → (r : List ℕ) (tn : ItemTurn) → (tn ≡ Wrong) ⊎ (tn ≡ Ends) → tn ≡ turn_of form_one r → r ≡ drop at s → t ≡ whole
   unfolding firsts_at firsts_from
-  firsts_ends e r tn f p q = rw (at_ends s at r tn f p q) at e
+  firsts_done e r tn (inl f) p q = rw (at_wrong s at r tn f p q) at e
+  firsts_done e r tn (inr f) p q = rw (at_ends s at r tn f p q) at e
 
   pub firsts_out : sets t w (firsts_at at (items_at form_one (drop at s))) ≡ whole → length s ≤ at → t ≡ whole
   unfolding firsts_at items_at items_by fields_from
   firsts_out e l = rw (drop_of_length-le s l) at e
 
-  pub sizes_wrong : sets t w (sizes_at (items_at form_one (drop at s))) ≡ whole → (r : List ℕ) (tn : ItemTurn) → tn ≡ Wrong → tn ≡ turn_of form_one r → r ≡ drop at s → t ≡ whole
-  unfolding sizes_at
-  sizes_wrong e r tn f p q = rw (at_wrong s at r tn f p q) at e
-
-  pub sizes_ends : sets t w (sizes_at (items_at form_one (drop at s))) ≡ whole → (r : List ℕ) (tn : ItemTurn) → tn ≡ Ends → tn ≡ turn_of form_one r → r ≡ drop at s → t ≡ whole
+  pub sizes_done : sets t w (sizes_at (items_at form_one (drop at s))) ≡ whole → (r : List ℕ) (tn : ItemTurn) → (tn ≡ Wrong) ⊎ (tn ≡ Ends) → tn ≡ turn_of form_one r → r ≡ drop at s → t ≡ whole
   unfolding sizes_at sizes_from
-  sizes_ends e r tn f p q = rw (at_ends s at r tn f p q) at e
+  sizes_done e r tn (inl f) p q = rw (at_wrong s at r tn f p q) at e
+  sizes_done e r tn (inr f) p q = rw (at_ends s at r tn f p q) at e
 
   pub sizes_out : sets t w (sizes_at (items_at form_one (drop at s))) ≡ whole → length s ≤ at → t ≡ whole
   unfolding sizes_at items_at items_by fields_from

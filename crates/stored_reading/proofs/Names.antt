@@ -1,8 +1,8 @@
 -- The names stand in the bytes where the items' fields say, and the tables of their places and lengths give them back. Assumes nothing.
+use Rattle.std.specs.Prelude.{Option, Some, None}
 use mathlib.Core.Path.{◌≡◌, refl, sym, ap, subst, ◌∙◌}
 use mathlib.Core.Bool.{Bool, true}
 use mathlib.Core.List.{List, [], ◌∷◌, ◌++◌}
-use mathlib.Core.Option.{Option, none, some}
 use Prim.Native.Nat.{ℕ, zero, suc, ◌+◌, ◌-◌, ◌≤◌}
 use native.Mathlib.Nat.{le_refl}
 use native.Mathlib.Omega.{arith}
@@ -46,9 +46,9 @@ name_stands s at h n l m =
     ap (λ (k : ℕ). take k (drop (at + (3 + h)) s)) b ∙ ap (take (n - h)) (sym d) ∙ sym (drop_of_take h n (drop 3 (drop at s)))
 
 abbrev pub Ahead : List ℕ → ℕ → Type 0
-Ahead s fuel = (at : ℕ) (is : List StoredItem) → length (drop at s) ≤ fuel → items_at form_one (drop at s) ≡ some is → NamesAt s at is
+Ahead s fuel = (at : ℕ) (is : List StoredItem) → length (drop at s) ≤ fuel → items_at form_one (drop at s) ≡ Some is → NamesAt s at is
 
-names_turn : (fuel : ℕ) (s : List ℕ) → Ahead s fuel → (at : ℕ) (is : List StoredItem) → length (drop at s) ≤ suc fuel → items_at form_one (drop at s) ≡ some is
+names_turn : (fuel : ℕ) (s : List ℕ) → Ahead s fuel → (at : ℕ) (is : List StoredItem) → length (drop at s) ≤ suc fuel → items_at form_one (drop at s) ≡ Some is
     → (tn : ItemTurn) → Turned form_one (drop at s) tn → NamesAt s at is
 names_turn fuel s r at is l e Wrong t = clash (cc)
 names_turn fuel s r at is l e Ends t = let w : [] ≡ is = cc in subst (NamesAt s at) w tt
@@ -57,14 +57,14 @@ names_turn fuel s r at is l e (Gives v n) (m, (k, t)) =
     let a : length (take n (drop 3 (drop at s))) ≡ n = length-take-le n (drop 3 (drop at s)) (rw (length-drop 3 (drop at s)) (omega arith)) in
     let z : length (drop (value_size v) (take n (drop 3 (drop at s)))) ≡ n - value_size v = length-drop (value_size v) (take n (drop 3 (drop at s))) ∙ rw a in
     let y : at + (3 + (value_size v + length (drop (value_size v) (take n (drop 3 (drop at s)))))) ≡ at + (3 + n) = rw z (omega arith) in
-    let g : items_at form_one (drop (at + (3 + n)) s) ≡ some b.0 = ap (items_at form_one) (sym (drop-drop (3 + n) at s)) ∙ b.1.0 in
+    let g : items_at form_one (drop (at + (3 + n)) s) ≡ Some b.0 = ap (items_at form_one) (sym (drop-drop (3 + n) at s)) ∙ b.1.0 in
     let f : length (drop (at + (3 + n)) s) ≤ fuel = rw (← drop-drop (3 + n) at s, length-drop (3 + n) (drop at s)) (omega arith) in
     subst (NamesAt s at) (sym b.1.1) (name_stands s at (value_size v) n k m, subst (λ (x : ℕ). NamesAt s x b.0) (sym y) (r (at + (3 + n)) b.0 f g))
 
 pub names_there : (fuel : ℕ) (s : List ℕ) → Ahead s fuel
 names_there zero s at is l e = nothing_ahead (turn_of form_one (drop at s)) (turn_is form_one (drop at s)) e
   where
-    nothing_ahead : (tn : ItemTurn) → Turned form_one (drop at s) tn → items_at form_one (drop at s) ≡ some is → NamesAt s at is
+    nothing_ahead : (tn : ItemTurn) → Turned form_one (drop at s) tn → items_at form_one (drop at s) ≡ Some is → NamesAt s at is
     nothing_ahead Wrong t e = clash (cc)
     nothing_ahead Ends t e = let w : [] ≡ is = cc in subst (NamesAt s at) w tt
     nothing_ahead (Gives v n) t e = absurd (let m = t.0 in omega arith)
@@ -102,10 +102,10 @@ put_front_lem l w h =
     let e : 0 + length l ≡ length l = omega arith in
     sets-eq l (replicate w 0) 0 (rw (e, length-replicate) h) ∙ rw (e, drop_replicate)
 
-there_some : (x : Option (List StoredItem)) → there x ≡ true → (is : List StoredItem) × (x ≡ some is)
+there_some : (x : Option (List StoredItem)) → there x ≡ true → (is : List StoredItem) × (x ≡ Some is)
 unfolding there
-there_some none e = clash (cc)
-there_some (some is) e = (is, refl)
+there_some None e = clash (cc)
+there_some (Some is) e = (is, refl)
 
 differ_by : (s : List ℕ) (from n : ℕ) (f z f₀ z₀ : List ℕ) (r : Bool) (is : List StoredItem) → NamesAt s from is → n ≡ length is → n ≤ 1024 → r ≡ distinct (names_from (name_at s f z) 0 n)
     → f ≡ sets f₀ 0 (firsts_from from is) → z ≡ sets z₀ 0 (sizes_from is) → f₀ ≡ replicate 1024 0 → z₀ ≡ replicate 1024 0 → r ≡ distinct (item_names is)

@@ -11,7 +11,7 @@ use Rattle.stored.specs.Stored.{Stored, form_one, stored_bytes}
 use Rattle.stored.proofs.Inverse.{found}
 use Rattle.stored_reading.specs.Permitted.{Permitted}
 use Rattle.stored_reading.specs.Promises.{NoChoice, RefusedExactly, NamesStand}
-use Rattle.stored_reading.specs.declared.StoredReading.{StoredReading}
+use Rattle.stored_reading.specs.Permitted.{StoredReading}
 use Rattle.stored_reading.proofs.Whole.{opened}
 use Rattle.stored_reading.proofs.Names.{names_there}
 use Rattle.stored_reading.proofs.Permits.{one_permitted, not_stored_when, short_when}

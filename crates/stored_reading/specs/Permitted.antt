@@ -1,14 +1,21 @@
 -- What reading bytes as a stored table may answer, and leave in the table that it is lent, which has so many words: one predicate, which is the
 -- contract. Assumes nothing: these are definitions.
-use Rattle.std.specs.Prelude.{ℕ, ◌+◌, ◌-◌, ◌*◌, ◌/◌, ◌≤◌, ◌<◌, ◌≡◌, List, ◌++◌, length, replicate}
+use Rattle.std.specs.Prelude.{ℕ, ◌+◌, ◌-◌, ◌*◌, ◌/◌, ◌≤◌, ◌<◌, ◌≡◌, List, ◌++◌, length, replicate, Err, Result, Ok}
 use Rattle.places.specs.declared.BytePlace.{BytePlace}
 use Rattle.stored.specs.StoredItems.{StoredItem}
 use Rattle.stored.specs.Stored.{Stored, form_one}
 use Rattle.stored_reading.specs.StoredRows.{head_size, stored_row_words, stored_rows_from}
+use Rattle.stored_reading.specs.declared.StoredTable.{StoredTable}
 use Rattle.stored_reading.specs.declared.StoredRefusal.{StoredRefusal}
 use Rattle.stored_reading.specs.declared.StoredRefusal.TheVariants.{NotStored, ItemsShort}
-use Rattle.stored_reading.specs.declared.StoredReading.{StoredReading}
-use Rattle.stored_reading.specs.declared.StoredReading.TheVariants.{Read, Refused}
+
+-- what reading answers: a table, or a refusal
+abbrev pub StoredReading : Type 0
+StoredReading = Result StoredTable StoredRefusal
+
+-- a table whose package's name stands at a byte and is so long, with so many items
+abbrev pub read_table : BytePlace → ℕ → ℕ → StoredReading
+read_table first size count = Ok (record { name = first; length = size; items = count })
 
 -- how many rows a table of so many words has
 abbrev pub stored_rows_in : ℕ → ℕ
@@ -40,5 +47,5 @@ Due s words (ItemsShort rows) = Short s words rows
 
 -- "The output is zeros after any."
 abbrev pub Permitted : List ℕ → ℕ → StoredReading → List ℕ → Type 0
-Permitted s words (Read first size count) rows = Back s words first size count rows
-Permitted s words (Refused r) rows = Due s words r × (rows ≡ replicate words 0)
+Permitted s words (Ok t) rows = Back s words t.name t.length t.items rows
+Permitted s words (Err r) rows = Due s words r × (rows ≡ replicate words 0)

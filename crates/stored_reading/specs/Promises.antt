@@ -1,12 +1,11 @@
 -- What reading a stored table promises beside its contract, as statements: proofs/Promises.antt proves each. Assumes nothing: these are definitions.
-use Rattle.std.specs.Prelude.{ℕ, ◌+◌, ◌<◌, ◌≡◌, ◌↔◌, List, [], ◌∷◌, length, take, drop}
+use Rattle.std.specs.Prelude.{ℕ, ◌+◌, ◌<◌, ◌≡◌, ◌↔◌, List, [], ◌∷◌, length, take, drop, Err}
 use Rattle.stored.specs.StoredItems.{StoredItem, value_size}
 use Rattle.stored.specs.Stored.{Stored, form_one}
 use Rattle.stored_reading.specs.StoredRows.{head_size, size_of}
 use Rattle.stored_reading.specs.Permitted.{stored_rows_in, Permitted}
 use Rattle.stored_reading.specs.declared.StoredRefusal.TheVariants.{NotStored, ItemsShort}
-use Rattle.stored_reading.specs.declared.StoredReading.{StoredReading}
-use Rattle.stored_reading.specs.declared.StoredReading.TheVariants.{Refused}
+use Rattle.stored_reading.specs.Permitted.{StoredReading}
 
 -- Any two answers that the contract of `read_stored` permits coincide, and so do the rows.
 abbrev pub NoChoice : Type 0
@@ -16,8 +15,8 @@ NoChoice = (s : List ℕ) (words : ℕ) (r q : StoredReading) (t u : List ℕ) �
 abbrev pub RefusedExactly : Type 0
 RefusedExactly =
     (s : List ℕ) (words : ℕ) (r : StoredReading) (t : List ℕ) → Permitted s words r t
-    → ((r ≡ Refused NotStored) ↔ ((n : List ℕ) (items : List StoredItem) → Stored form_one s n items → ⊥))
-    × ((r ≡ Refused (ItemsShort (stored_rows_in words))) ↔ ((n : List ℕ) × (items : List StoredItem) × Stored form_one s n items × (stored_rows_in words < length items)))
+    → ((r ≡ Err NotStored) ↔ ((n : List ℕ) (items : List StoredItem) → Stored form_one s n items → ⊥))
+    × ((r ≡ Err (ItemsShort (stored_rows_in words))) ↔ ((n : List ℕ) × (items : List StoredItem) × Stored form_one s n items × (stored_rows_in words < length items)))
 
 -- The names stand in the bytes where the answer and the rows say.
 abbrev pub NamesAt : List ℕ → ℕ → List StoredItem → Type 0

@@ -1,9 +1,8 @@
 // Reads a stored table back into rows of words. Any bytes and any table may be given.
 #![tactic(auto)]
 
-ghost use Rattle.std.specs.Prelude.{◌≡◌, true, [], ◌∷◌, ◌+◌, ◌*◌, ◌≤◌, ◌<◌, length, drop};
+ghost use Rattle.std.specs.Prelude.{◌≡◌, true, [], ◌∷◌, ◌+◌, ◌*◌, ◌≤◌, length, drop};
 ghost use Rattle.std.proofs.lemmas.List.Edits.{sets};
-ghost use Rattle.stored.specs.Fields.{all_bytes};
 ghost use Rattle.stored.specs.Stored.{form_one, most_items};
 ghost use Rattle.stored.specs.code.Decode.{decode};
 ghost use Rattle.stored_reading.specs.StoredRows.{survey_value, stored_class, stored_row_words, stored_row};
@@ -14,7 +13,7 @@ ghost use Rattle.stored_reading.specs.code.Answers.{rows_at, firsts_at, sizes_at
 
 use places::BytePlace;
 use refusals::{ITEMS_SHORT, NOT_STORED};
-use stored::{Held, MOST_ITEMS, StoredValue};
+use stored::{MOST_ITEMS, StoredValue};
 use values::Value;
 
 // 24, and 10 with the rows that the table has.
@@ -24,11 +23,12 @@ pub enum StoredRefusal {
     ItemsShort(usize),
 }
 
-// The package name's place and length, and how many items; or a refusal.
+// What was read: the package name's place and length, and how many items.
 #[derive(Clone, Copy)]
-pub enum StoredReading {
-    Read(BytePlace, usize, usize),
-    Refused(StoredRefusal),
+pub struct StoredTable {
+    pub name: BytePlace,
+    pub length: usize,
+    pub items: usize,
 }
 
 // What stands at the front of bytes: no field and no end, the end, a field with its tag and length.
@@ -45,19 +45,6 @@ pub enum ItemTurn {
     Wrong,
     Ends,
     Gives(StoredValue, usize),
-}
-
-#[derive(Clone, Copy)]
-pub enum ItemCount {
-    Broken,
-    Items(usize),
-}
-
-// Where the items begin, and how many; or no stored table.
-#[derive(Clone, Copy)]
-pub enum Examined {
-    Nowhere,
-    Holding(usize, usize),
 }
 
 // How many words a row has, and the places of its words.
@@ -80,8 +67,6 @@ const HEAD_SIZE: usize = 3;
 
 const LOW_BYTE: usize = 2;
 
-const ALL_BYTES: usize = 256;
-
 pub fn stored_number(r: StoredRefusal) -> u64
     ensures { result ≡ stored_number r }
 {
@@ -100,12 +85,6 @@ pub fn stored_place(r: StoredRefusal) -> usize
     }
 }
 
-fn wide(b: u8) -> usize
-    ensures { (result ≡ b) × (result < all_bytes) }
-{
-    b as usize
-}
-
 fn step_of(s: &[u8]) -> FieldStep
     ensures { result ≡ step_of s.now }
 {
@@ -113,9 +92,7 @@ fn step_of(s: &[u8]) -> FieldStep
         return FieldStep::Bad;
     }
     let t = s[0];
-    let h = wide(s[1]);
-    let l = wide(s[LOW_BYTE]);
-    let n = h * ALL_BYTES + l;
+    let n = usize::from(u16::from_be_bytes([s[1], s[LOW_BYTE]]));
     if t == stored::END_TAG {
         if s.len() != HEAD_SIZE {
             return FieldStep::Bad;
@@ -138,35 +115,37 @@ fn turn_of(s: &[u8]) -> ItemTurn
         FieldStep::Bad => ItemTurn::Wrong,
         FieldStep::End => ItemTurn::Ends,
         FieldStep::Tagged(t, n) => {
-            let body = lent_tables::front(stored::rest(s, HEAD_SIZE), n);
+            let body = stored::part(s, HEAD_SIZE, n);
             match stored::kept_in(t, body) {
-                Held::Nothing => ItemTurn::Wrong,
-                Held::Holds(v) => ItemTurn::Gives(v, n),
+                None => ItemTurn::Wrong,
+                Some(v) => ItemTurn::Gives(v, n),
             }
         },
     }
 }
 
-fn count_from(s: &[u8], from: usize) -> ItemCount
+// How many items there are from a place; none where they aren't legal.
+fn count_from(s: &[u8], from: usize) -> Option<usize>
     ensures { result ≡ count_with 0 (items_at form_one (drop from s.now)) }
 {
+    // a while: each turn goes on by the length of the field
     let mut at = from;
     let mut n: usize = 0;
     while at < s.len() {
         match turn_of(stored::rest(s, at)) {
             ItemTurn::Wrong => {
-                return ItemCount::Broken;
+                return None;
             },
             ItemTurn::Ends => {
-                return ItemCount::Items(n);
+                return Some(n);
             },
-            ItemTurn::Gives(v, k) => {
+            ItemTurn::Gives(_, k) => {
                 n += 1;
                 at += HEAD_SIZE + k;
             },
         }
     }
-    ItemCount::Broken
+    None
 }
 
 // ---- names all different
@@ -177,14 +156,12 @@ fn note_names(s: &[u8], from: usize, firsts: &mut [u64; MOST_ITEMS], sizes: &mut
     ensures firsts_after { firsts.new ≡ sets firsts.old 0 (firsts_at from (items_at form_one (drop from s.now))) }
     ensures sizes_after { sizes.new ≡ sets sizes.old 0 (sizes_at (items_at form_one (drop from s.now))) }
 {
+    // a while: each turn goes on by the length of the field
     let mut at = from;
     let mut w: usize = 0;
     while at < s.len() {
         match turn_of(stored::rest(s, at)) {
-            ItemTurn::Wrong => {
-                return;
-            },
-            ItemTurn::Ends => {
+            ItemTurn::Wrong | ItemTurn::Ends => {
                 return;
             },
             ItemTurn::Gives(v, k) => {
@@ -227,10 +204,8 @@ fn class_of(v: StoredValue) -> u64
     ensures { result ≡ stored_class v }
 {
     match v {
-        StoredValue::Number(_) => pieces::CONSTANT,
-        StoredValue::Truth(_) => pieces::CONSTANT,
-        StoredValue::Range(_, _) => pieces::SUBTYPE,
-        StoredValue::Truths => pieces::SUBTYPE,
+        StoredValue::Number(_) | StoredValue::Truth(_) => pieces::CONSTANT,
+        StoredValue::Range(_, _) | StoredValue::Truths => pieces::SUBTYPE,
     }
 }
 
@@ -263,14 +238,12 @@ fn fill(s: &[u8], from: usize, t: &mut [u64])
     requires s_in_bounds { stored_row_words * items_counted (items_at form_one (drop from s.now)) ≤ length t.old }
     ensures { t.new ≡ sets t.old 0 (rows_at from (items_at form_one (drop from s.now))) }
 {
+    // a while: each turn goes on by the length of the field
     let mut at = from;
     let mut w: usize = 0;
     while at < s.len() {
         match turn_of(stored::rest(s, at)) {
-            ItemTurn::Wrong => {
-                return;
-            },
-            ItemTurn::Ends => {
+            ItemTurn::Wrong | ItemTurn::Ends => {
                 return;
             },
             ItemTurn::Gives(v, k) => {
@@ -285,52 +258,47 @@ fn fill(s: &[u8], from: usize, t: &mut [u64])
 
 // ---- the whole
 
-fn examine(s: &[u8]) -> Examined
+// Where the items begin, and how many; none where the bytes are no stored table.
+fn examine(s: &[u8]) -> Option<(usize, usize)>
     ensures { result ≡ examined_of (decode form_one s.now) }
 {
-    match step_of(s) {
-        FieldStep::Bad => Examined::Nowhere,
-        FieldStep::End => Examined::Nowhere,
-        FieldStep::Tagged(t, n) => {
-            if t != stored::NAME_TAG {
-                return Examined::Nowhere;
-            }
-            let name = lent_tables::front(stored::rest(s, HEAD_SIZE), n);
-            if stored::legal_name(name) {
-                let from = HEAD_SIZE + n;
-                match count_from(s, from) {
-                    ItemCount::Broken => Examined::Nowhere,
-                    ItemCount::Items(c) => {
-                        if MOST_ITEMS < c {
-                            return Examined::Nowhere;
-                        }
-                        if names_differ(s, from, c) {
-                            return Examined::Holding(from, c);
-                        }
-                        Examined::Nowhere
-                    },
-                }
-            } else {
-                Examined::Nowhere
-            }
-        },
+    let FieldStep::Tagged(t, n) = step_of(s) else {
+        return None;
+    };
+    if t != stored::NAME_TAG {
+        return None;
     }
+    let name = stored::part(s, HEAD_SIZE, n);
+    if !stored::legal_name(name) {
+        return None;
+    }
+    let from = HEAD_SIZE + n;
+    let c = count_from(s, from)?;
+    if MOST_ITEMS < c {
+        return None;
+    }
+    if names_differ(s, from, c) {
+        return Some((from, c));
+    }
+    None
 }
 
 // A row to each item, then zeros; all zeros where it is refused.
-pub fn read_stored(s: &[u8], items: &mut [u64]) -> StoredReading
+pub fn read_stored(s: &[u8], items: &mut [u64]) -> Result<StoredTable, StoredRefusal>
     ensures { Permitted s.now (length items.old) result items.new }
 {
     lent_tables::clear(items);
-    match examine(s) {
-        Examined::Nowhere => StoredReading::Refused(StoredRefusal::NotStored),
-        Examined::Holding(from, c) => {
-            let rows = items.len() / ROW_WORDS;
-            if rows < c {
-                return StoredReading::Refused(StoredRefusal::ItemsShort(rows));
-            }
-            fill(s, from, items);
-            StoredReading::Read(BytePlace(HEAD_SIZE), from - HEAD_SIZE, c)
-        },
+    let Some((from, c)) = examine(s) else {
+        return Err(StoredRefusal::NotStored);
+    };
+    let rows = items.len() / ROW_WORDS;
+    if rows < c {
+        return Err(StoredRefusal::ItemsShort(rows));
     }
+    fill(s, from, items);
+    Ok(StoredTable {
+        name: BytePlace(HEAD_SIZE),
+        length: from - HEAD_SIZE,
+        items: c,
+    })
 }

@@ -45,20 +45,13 @@ fn put_ends(kind: u8, low: i32, high: i32, out: &mut [u8], at: usize) -> usize
     put_number(high, out, b)
 }
 
-fn truth_byte(t: bool) -> u8
-    ensures { result ≡ truth_byte t }
-{
-    if t { 1 } else { 0 }
-}
-
 fn tag_of(v: StoredValue) -> u8
     ensures { result ≡ tag_of v }
 {
     match v {
         StoredValue::Number(_) => stored::NUMBER_TAG,
         StoredValue::Truth(_) => stored::TRUTH_TAG,
-        StoredValue::Range(_, _) => stored::SUBTYPE_TAG,
-        StoredValue::Truths => stored::SUBTYPE_TAG,
+        StoredValue::Range(_, _) | StoredValue::Truths => stored::SUBTYPE_TAG,
     }
 }
 
@@ -68,7 +61,7 @@ fn put_value(v: StoredValue, out: &mut [u8], at: usize) -> usize
 {
     match v {
         StoredValue::Number(z) => put_number(z, out, at),
-        StoredValue::Truth(t) => puts::put_byte(truth_byte(t), out, at),
+        StoredValue::Truth(t) => puts::put_byte(u8::from(t), out, at),
         StoredValue::Range(low, high) => put_ends(stored::INTEGER_BYTE, low, high, out, at),
         StoredValue::Truths => put_ends(stored::BOOLEAN_BYTE, 0, 1, out, at),
     }
@@ -79,11 +72,8 @@ fn put_name(basic: bool, name: &[u8], out: &mut [u8], at: usize) -> usize
     ensures { Wrote out.old at (as_stored basic name.now) out.new result }
 {
     let mut w = puts::put_none(out, at);
-    let mut i = 0;
-    while i < name.len() {
-        let b = same_names::counted(basic, name[i]);
-        w = puts::put_byte(b, out, w);
-        i += 1;
+    for b in name {
+        w = puts::put_byte(same_names::counted(basic, *b), out, w);
     }
     w
 }

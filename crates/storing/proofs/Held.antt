@@ -1,17 +1,18 @@
 -- Over a text's own tables, the code's items are those that the survey stores. Assumes nothing.
-use mathlib.Core.Path.{◌≡◌, refl, sym, ap, ap₂, subst, ◌∙◌}
+use Rattle.std.specs.Prelude.{Option, Some, None}
+use mathlib.Core.Path.{◌≡◌, refl, sym, ap, ap₂, ◌∙◌}
 use mathlib.Core.Bool.{Bool, true, false, cond, ◌&&◌, ◌||◌, false≢true}
 use mathlib.Core.List.{List, [], ◌∷◌, ◌++◌, append-nil, append_assoc}
-use Prim.Native.Nat.{ℕ, zero, suc, ◌+◌, ◌*◌, ◌≤◌, ◌<◌}
+use Prim.Native.Nat.{ℕ, zero, suc, ◌≤◌, ◌<◌}
 use native.Mathlib.Omega.{arith}
-use borrow.Author.Tests.{eq-eqb, eqb-true}
+use borrow.Author.Tests.{eqb-true}
 use lib.Dec.{eqb}
-use lib.ListN.{length, get_or, take, drop, replicate}
+use lib.ListN.{length, get_or, take}
 use lib.Seq.{take-suc, take-length}
 use Rattle.laws.proofs.Laws.{both_left, both_right}
 use Rattle.element_reading.specs.Rows.{rows_of}
 use Rattle.places.specs.Kinds.{is_name}
-use Rattle.pieces.specs.Kinds.{class_at, is_heading, behind_word, has_name, is_closing, claim_of, claim_class, piece_class}
+use Rattle.pieces.specs.Kinds.{class_at, is_heading, behind_word, has_name, is_closing, claim_class, piece_class}
 use Rattle.pieces.specs.Columns as column
 use Rattle.pieces.specs.Records.{name_of}
 use Rattle.pieces.specs.declared.PieceClass.{PieceClass}
@@ -22,14 +23,10 @@ use Rattle.values.specs.declared.Value.{Value}
 use Rattle.values.specs.declared.Value.TheVariants as value
 use Rattle.values.specs.code.Used.{used_constant, used_subtype, used_value}
 use Rattle.marks.proofs.Laws.{Fits, used_lean}
-use Rattle.operands.specs.code.Operands.{bytes_at}
 use Rattle.stored.specs.StoredItems.{StoredItem}
-use Rattle.stored.specs.declared.Held.{Held}
-use Rattle.stored.specs.declared.Held.TheVariants.{Nothing, Holds}
 use Rattle.meaning.specs.Elements.{Element, Piece, at}
 use Rattle.meaning.specs.Pieces.{kinds_in_piece, pieces_of, elements_of, class_of}
 use Rattle.meaning.specs.Names.{own_name, names_claimed, Done}
-use Rattle.meaning.specs.Together.{name_place}
 use Rattle.meaning.specs.Records.{item_value_words}
 use Rattle.meaning.specs.code.PieceValues.{done_of, dones_from}
 use Rattle.meaning.proofs.Begun.{names_by_class}
@@ -38,10 +35,11 @@ use Rattle.meaning.proofs.Tables.{element_at, element_at_lem}
 use Rattle.meaning.proofs.Places.{table_of}
 use Rattle.meaning.proofs.Records.{pending, pieces_done}
 use Rattle.meaning.proofs.Words.{piece_at, done_at, item_table, class_at_lem, value_word, name_at_lem}
-use Rattle.meaning.proofs.Claims.{piece_is, dones_length, joins, claim_at, name_element_lem, second_at}
+use Rattle.meaning.proofs.Claims.{piece_is, dones_length, joins, name_element_lem, second_at}
 use Rattle.meaning.proofs.Good.{GoodDone, Good}
 use Rattle.meaning.proofs.Sound.{good_done, good_more}
 use Rattle.storing.specs.SurveyItems.{stored_value, stored_name, items_named, stored_items, package_name}
+use Rattle.stored.specs.declared.StoredValue.{StoredValue}
 use Rattle.storing.specs.code.Tables.{held_at, stored_name_at, item_by, item_at, items_of_records, package_at}
 
 pub dones_pieces : (all : List Piece) (above : List Done) (ps : List Piece) → pieces_done (dones_from all above ps) ≡ ps
@@ -94,30 +92,30 @@ held_claimed ds y f h c fits =
     ap stored_value g ∙ lean_stored (done_at ds f).value
 
 -- a record that claims nothing gives nothing
-unclaimed_nothing : (c s k l m : ℕ) → is_claim c ≡ false → stored_value (used_value c s k l m) ≡ Nothing
+unclaimed_nothing : (c s k l m : ℕ) → is_claim c ≡ false → stored_value (used_value c s k l m) ≡ None
 unfolding used_value
 unclaimed_nothing c s k l m h = go (eqb s 0) (eqb c 3) (eqb c 4) h
   where
-    go : (x a b : Bool) → (a || b) ≡ false → stored_value (cond x (cond a (used_constant k l) (cond b (used_subtype k l m) (value.Without 5))) (value.Without 5)) ≡ Nothing
+    go : (x a b : Bool) → (a || b) ≡ false → stored_value (cond x (cond a (used_constant k l) (cond b (used_subtype k l m) (value.Without 5))) (value.Without 5)) ≡ None
     go true true b e = absurd (false≢true (sym e))
     go true false true e = absurd (false≢true (sym e))
     go true false false e = refl
     go false a b e = refl
 
-held_unclaimed : (ds : List Done) (y f : ℕ) → f < length ds → is_claim (class_of (done_at ds f).piece) ≡ false → held_at (item_table ds y) f ≡ Nothing
+held_unclaimed : (ds : List Done) (y f : ℕ) → f < length ds → is_claim (class_of (done_at ds f).piece) ≡ false → held_at (item_table ds y) f ≡ None
 unfolding held_at
 held_unclaimed ds y f h c =
     unclaimed_nothing (word_at (item_table ds y) f 0) (word_at (item_table ds y) f 4) (word_at (item_table ds y) f 5) (word_at (item_table ds y) f 6) (word_at (item_table ds y) f 7) (ap is_claim (class_at_lem ds y f h) ∙ c)
 
-by_held : (h : Held) (x : Element) → item_by h (stored_name x) ≡ items_named h (x ∷ [])
+by_held : (h : Option StoredValue) (x : Element) → item_by h (stored_name x) ≡ items_named h (x ∷ [])
 unfolding items_named
-by_held Nothing x = refl
-by_held (Holds v) x = refl
+by_held None x = refl
+by_held (Some v) x = refl
 
-by_none : (h : Held) → items_named h [] ≡ []
+by_none : (h : Option StoredValue) → items_named h [] ≡ []
 unfolding items_named
-by_none Nothing = refl
-by_none (Holds v) = refl
+by_none None = refl
+by_none (Some v) = refl
 
 stored_append : (xs ys : List Done) → stored_items (xs ++ ys) ≡ stored_items xs ++ stored_items ys
 unfolding stored_items
@@ -151,7 +149,7 @@ module _ (s : List ℕ) (z y : ℕ) (ds : List Done) (cuts : pieces_done ds ≡ 
       go true e =
           ap₂ item_by (held_claimed ds y j l e (good_at (pieces_of s) ds j l good e).0) (name_is j e) ∙ by_held (stored_value (done_at ds j).value) (own_name (done_at ds j).piece)
       go false e =
-          ap (λ (h : Held). item_by h (stored_name_at s (table_of s z) (word_at (item_table ds y) j 3))) (held_unclaimed ds y j l e) ∙ sym (by_none (stored_value (done_at ds j).value))
+          ap (λ (h : Option StoredValue). item_by h (stored_name_at s (table_of s z) (word_at (item_table ds y) j 3))) (held_unclaimed ds y j l e) ∙ sym (by_none (stored_value (done_at ds j).value))
 
   items_are : (n : ℕ) → n ≤ length ds → items_of_records s (table_of s z) (item_table ds y) n ≡ stored_items (take n ds)
   unfolding items_of_records stored_items

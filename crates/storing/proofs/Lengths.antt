@@ -1,13 +1,14 @@
 -- A name leaves room in a text for the words of its heading: so two bytes always hold the length of a field. Assumes nothing.
+use Rattle.std.proofs.Common.{Option, Some, None}
 use mathlib.Core.Path.{◌≡◌, refl, sym, ap, subst, ◌∙◌}
-use mathlib.Core.Bool.{Bool, true, false, cond, not, ◌&&◌, false≢true}
+use mathlib.Core.Bool.{Bool, true, false, cond, not, ◌&&◌}
 use mathlib.Core.List.{List, [], ◌∷◌, ◌++◌}
-use Prim.Native.Nat.{ℕ, zero, suc, pred, ◌+◌, ◌-◌, ◌≤◌, ◌<◌}
+use Prim.Native.Nat.{ℕ, zero, suc, pred, ◌+◌, ◌≤◌, ◌<◌}
 use Prim.Native.String.{String}
 use native.Mathlib.Omega.{arith}
 use borrow.Author.Tests.{eq-eqb, eqb-true, ne_eqb}
 use lib.Dec.{eqb}
-use lib.ListN.{length, get_or, take, drop, length-drop, length-append}
+use lib.ListN.{length, get_or, take, drop, length-drop}
 use lib.Seq.{length-take-le}
 use Rattle.laws.proofs.Laws.{clash, both_left}
 use Rattle.classes.specs.Signs.{separates, is_graphic}
@@ -17,15 +18,11 @@ use Rattle.classes.specs.Signs as signs
 use Rattle.classes.specs.Runs.{run}
 use Rattle.classes.specs.declared.Run.TheVariants.{Word}
 use Rattle.words.specs.Words.{bytes_of, begins, spells, place_from, place_in, reserved_words, delimiters}
-use Rattle.words.specs.declared.Place.{Place}
-use Rattle.words.specs.declared.Place.TheVariants as W
 use Rattle.words.proofs.Laws.{place_below}
 use Rattle.numbers.specs.Numbers.{number}
 use Rattle.numbers.specs.declared.Number.{Number}
 use Rattle.numbers.specs.declared.Number.TheVariants as N
 use Rattle.quoted.specs.Quoted.{closed}
-use Rattle.quoted.specs.declared.Closed.{Closed}
-use Rattle.quoted.specs.declared.Closed.TheVariants as Q
 use Rattle.elements.specs.Kinds.{kind_number}
 use Rattle.elements.specs.Element.{ticks_after, first_is, first_are, unreadable_front, identifier_by, identifier_front, extended_by, extended_front, numeral_by, string_by, string_front, apostrophe_front, delimiter_by, delimiter_front, ruled, spoils, unless_spoilt, element_at}
 use Rattle.elements.specs.declared.Kind.{Kind}
@@ -51,24 +48,24 @@ unfoldable size_from : ℕ → ℕ → List String → ℕ
 size_from k n [] = 0
 size_from k n (x ∷ xs) = cond (eqb n k) (length (bytes_of x)) (size_from (suc k) n xs)
 
-same_place : (a b : ℕ) → W.At a ≡ W.At b → a ≡ b
+same_place : (a b : ℕ) → Some a ≡ Some b → a ≡ b
 same_place a b e = cc
 
-place_from_lem : (xs : List String) (k n : ℕ) (w : List ℕ) → place_from k w xs ≡ W.At n → k ≤ n
+place_from_lem : (xs : List String) (k n : ℕ) (w : List ℕ) → place_from k w xs ≡ Some n → k ≤ n
 unfolding place_from
 place_from_lem [] k n w e = let z : ◌≡◌ {A = ℕ} 0 1 = cc in clash z
 place_from_lem (x ∷ xs) k n w e = go (spells w x) e (λ q. place_from_lem xs (suc k) n w q)
   where
-    go : (b : Bool) → elim b [ true ↦ W.At k | false ↦ place_from (suc k) w xs ] ≡ W.At n → (place_from (suc k) w xs ≡ W.At n → suc k ≤ n) → k ≤ n
+    go : (b : Bool) → elim b [ true ↦ Some k | false ↦ place_from (suc k) w xs ] ≡ Some n → (place_from (suc k) w xs ≡ Some n → suc k ≤ n) → k ≤ n
     go true q ih = omega (arith, same_place k n q)
     go false q ih = omega (arith, ih q)
 
-place_size : (xs : List String) (k n : ℕ) (w : List ℕ) → place_from k w xs ≡ W.At n → size_from k n xs ≡ length w
+place_size : (xs : List String) (k n : ℕ) (w : List ℕ) → place_from k w xs ≡ Some n → size_from k n xs ≡ length w
 unfolding place_from size_from spells
 place_size [] k n w e = let z : ◌≡◌ {A = ℕ} 0 1 = cc in clash z
 place_size (x ∷ xs) k n w e = go (spells w x) refl e (λ q. place_size xs (suc k) n w q)
   where
-    go : (b : Bool) → spells w x ≡ b → elim b [ true ↦ W.At k | false ↦ place_from (suc k) w xs ] ≡ W.At n → (place_from (suc k) w xs ≡ W.At n → size_from (suc k) n xs ≡ length w)
+    go : (b : Bool) → spells w x ≡ b → elim b [ true ↦ Some k | false ↦ place_from (suc k) w xs ] ≡ Some n → (place_from (suc k) w xs ≡ Some n → size_from (suc k) n xs ≡ length w)
         → cond (eqb n k) (length (bytes_of x)) (size_from (suc k) n xs) ≡ length w
     go true s q ih =
         rw (eq-eqb n k (sym (same_place k n q))) (eqb-true (length (bytes_of x)) (length w) (both_left (eqb (length (bytes_of x)) (length w)) (begins w (bytes_of x)) s))
@@ -117,17 +114,17 @@ long_identifier : (s : List ℕ) → LongFront (identifier_front s)
 unfolding identifier_front
 long_identifier s = go (place_in (take (run Word s) s) reserved_words) refl
   where
-    go : (p : Place) → place_in (take (run Word s) s) reserved_words ≡ p → LongFront (identifier_by p (run Word s))
-    go (W.At n) e = omega (arith, place_size reserved_words 0 n (take (run Word s) s) e, take_least (run Word s) s)
-    go W.Nowhere e = tt
+    go : (p : Option ℕ) → place_in (take (run Word s) s) reserved_words ≡ p → LongFront (identifier_by p (run Word s))
+    go (Some n) e = omega (arith, place_size reserved_words 0 n (take (run Word s) s) e, take_least (run Word s) s)
+    go None e = tt
 
 long_extended : (s : List ℕ) → LongFront (extended_front s)
 unfolding extended_front
 long_extended s = go (closed signs.backslash (drop 1 s))
   where
-    go : (c : Closed) → LongFront (extended_by c s)
-    go (Q.After n) = long_cond (eqb n 1) (unreadable_front s) (Element Kind.Extended (n + 1)) (long_unreadable s) tt
-    go Q.Never = long_unreadable s
+    go : (c : Option ℕ) → LongFront (extended_by c s)
+    go (Some n) = long_cond (eqb n 1) (unreadable_front s) (Element Kind.Extended (n + 1)) (long_unreadable s) tt
+    go None = long_unreadable s
 
 long_numeral : (n : Number) (s : List ℕ) → LongFront (numeral_by n s)
 long_numeral (N.Integer n) s = tt
@@ -138,18 +135,18 @@ long_string : (s : List ℕ) → LongFront (string_front s)
 unfolding string_front
 long_string s = go (closed signs.quote (drop 1 s))
   where
-    go : (c : Closed) → LongFront (string_by c s)
-    go (Q.After n) = tt
-    go Q.Never = long_unreadable s
+    go : (c : Option ℕ) → LongFront (string_by c s)
+    go (Some n) = tt
+    go None = long_unreadable s
 
 long_apostrophe : (ticks : Bool) (s : List ℕ) → LongFront (apostrophe_front ticks s)
 unfolding apostrophe_front
 long_apostrophe ticks s =
     long_cond (not ticks && eqb (get_or s 2 0) signs.apostrophe) _ _ (long_cond (is_graphic (get_or s 1 0)) _ (unreadable_front s) tt (long_unreadable s)) (omega arith)
 
-long_delimiter_lem : (w : List ℕ) (p : Place) (n : ℕ) (x : Front) → place_in w delimiters ≡ p → LongFront x → LongFront (delimiter_by p n x)
-long_delimiter_lem w (W.At k) n x e h = omega (arith, place_below delimiters 0 k w e, delimiter_count_lem)
-long_delimiter_lem w W.Nowhere n x e h = h
+long_delimiter_lem : (w : List ℕ) (p : Option ℕ) (n : ℕ) (x : Front) → place_in w delimiters ≡ p → LongFront x → LongFront (delimiter_by p n x)
+long_delimiter_lem w (Some k) n x e h = omega (arith, place_below delimiters 0 k w e, delimiter_count_lem)
+long_delimiter_lem w None n x e h = h
 
 long_delimiters : (s : List ℕ) → LongFront (delimiter_front s)
 unfolding delimiter_front

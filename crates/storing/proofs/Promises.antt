@@ -1,9 +1,10 @@
 -- The promises of specs/Promises.antt, proved. Assumes nothing.
+use Rattle.std.specs.Prelude.{Ok, Err}
 use mathlib.Core.Path.{◌≡◌, refl, sym, ap, ap₂, subst, ◌∙◌}
 use mathlib.Core.Logic.{◌↔◌}
 use mathlib.Core.Bool.{Bool, true, false, cond}
-use mathlib.Core.List.{List, [], ◌∷◌, ◌++◌}
-use Prim.Native.Nat.{ℕ, ◌+◌, ◌-◌, ◌*◌, ◌≤◌, ◌<◌, min}
+use mathlib.Core.List.{List, [], ◌++◌}
+use Prim.Native.Nat.{ℕ, ◌+◌, ◌-◌, ◌*◌, ◌<◌, min}
 use native.Mathlib.Omega.{arith}
 use borrow.Author.Tests.{ltb-true, ltb-false}
 use lib.Dec.{eqb, ltb}
@@ -24,10 +25,8 @@ use Rattle.meaning.proofs.Comes.{come_exactly}
 use Rattle.survey_reading.specs.Given as survey
 use Rattle.survey_reading.specs.Permitted as permitted
 use Rattle.survey_reading.specs.code.Survey.{survey_of, elements_after_survey, items_after}
-use Rattle.survey_reading.specs.declared.Survey.{Survey}
+use Rattle.std.specs.Prelude.{Result, Ok, Err}
 use Rattle.survey_reading.specs.declared.Summary.{Summary}
-use Rattle.survey_reading.specs.declared.Ended.{Ended}
-use Rattle.survey_reading.specs.declared.Ended.TheVariants as answer
 use Rattle.survey_reading.proofs.Promises.{surveyed_exactly, refused_exactly}
 use Rattle.survey_reading.proofs.Permits.{permits}
 use Rattle.storing.specs.SurveyItems.{survey_bytes}
@@ -35,8 +34,8 @@ use Rattle.storing.specs.Given.{Surveyed, Given, of_survey, not_whole, output_sh
 use Rattle.storing.specs.Permitted.{Kept, Permitted}
 use Rattle.storing.specs.Promises.{Answered, NoChoice, RefusalsExact, LengthsSuffice, ItemsFew, NumbersSized}
 use Rattle.storing.specs.code.Tables.{put_table, size_table}
-use Rattle.storing.specs.declared.Storing.{Storing}
-use Rattle.storing.specs.declared.Storing.TheVariants.{Refused, NotWhole, OutputShort, Stored}
+use Rattle.storing.specs.Refusals.{Storing}
+use Rattle.storing.specs.declared.StoringRefusal.TheVariants as refusal
 use Rattle.storing.proofs.Sizes.{from_pieces}
 use Rattle.storing.proofs.Whole.{few_items, dones_size, lengths_here, way_refused, way_not_whole, way_short, way_stored}
 
@@ -102,7 +101,7 @@ module _ (s : List ℕ) (e i o : ℕ) where
   both_whole : (ds es : List Done) → Surveyed s e i ds → Surveyed s e i es → IsWhole (pieces_of s) es → IsWhole (pieces_of s) ds
   both_whole ds es a b w = subst (IsWhole (pieces_of s)) (sym (same_dones ds es a b)) w
 
-  same_refusal : (r r' : SurveyRefusal) → answer.Refused r ≡ answer.Refused r' → r ≡ r'
+  same_refusal : (r r' : SurveyRefusal) → ◌≡◌ {A = Result Summary SurveyRefusal} (Err r) (Err r') → r ≡ r'
   same_refusal r r' q = cc
 
   abbrev Same : (a a' : Storing) (t t' u u' v v' : List ℕ) → Type 0
@@ -118,35 +117,35 @@ module _ (s : List ℕ) (e i o : ℕ) where
       omega arith
 
   same : (a a' : Storing) (t t' u u' v v' : List ℕ) → Permitted s e i o a t u v → Permitted s e i o a' t' u' v' → Same a a' t t' u u' v v'
-  same (Refused r) (Refused r') t t' u u' v v' p q = (
-    ap Refused (same_refusal r r' (sym ((refused_exactly s e i r).1 (own r p.0)) ∙ (refused_exactly s e i r').1 (own r' q.0))),
+  same (Err (refusal.Survey r)) (Err (refusal.Survey r')) t t' u u' v v' p q = (
+    ap (λ (x : SurveyRefusal). Err (refusal.Survey x)) (same_refusal r r' (sym ((refused_exactly s e i r).1 (own r p.0)) ∙ (refused_exactly s e i r').1 (own r' q.0))),
     p.1 ∙ sym q.1,
     p.2 ∙ sym q.2,
     p.3 ∙ sym q.3,
   )
-  same (Refused r) NotWhole t t' u u' v v' p q = let k = unwhole_at q.0 in absurd (refused_not r k.dones p.0 k.done)
-  same (Refused r) (OutputShort n) t t' u u' v v' p q = let k = short_at q.0 in absurd (refused_not r k.dones p.0 k.done)
-  same (Refused r) (Stored n) t t' u u' v v' p q = absurd (refused_not r q.dones p.0 q.surveyed)
-  same NotWhole (Refused r) t t' u u' v v' p q = let k = unwhole_at p.0 in absurd (refused_not r k.dones q.0 k.done)
-  same NotWhole NotWhole t t' u u' v v' p q = (refl, p.1 ∙ sym q.1, p.2 ∙ sym q.2, p.3 ∙ sym q.3)
-  same NotWhole (OutputShort n) t t' u u' v v' p q =
+  same (Err (refusal.Survey r)) (Err refusal.NotWhole) t t' u u' v v' p q = let k = unwhole_at q.0 in absurd (refused_not r k.dones p.0 k.done)
+  same (Err (refusal.Survey r)) (Err (refusal.OutputShort n)) t t' u u' v v' p q = let k = short_at q.0 in absurd (refused_not r k.dones p.0 k.done)
+  same (Err (refusal.Survey r)) (Ok n) t t' u u' v v' p q = absurd (refused_not r q.dones p.0 q.surveyed)
+  same (Err refusal.NotWhole) (Err (refusal.Survey r)) t t' u u' v v' p q = let k = unwhole_at p.0 in absurd (refused_not r k.dones q.0 k.done)
+  same (Err refusal.NotWhole) (Err refusal.NotWhole) t t' u u' v v' p q = (refl, p.1 ∙ sym q.1, p.2 ∙ sym q.2, p.3 ∙ sym q.3)
+  same (Err refusal.NotWhole) (Err (refusal.OutputShort n)) t t' u u' v v' p q =
       let k = unwhole_at p.0 in let l = short_at q.0 in absurd (k.unwhole (both_whole k.dones l.dones k.done l.done l.whole))
-  same NotWhole (Stored n) t t' u u' v v' p q =
+  same (Err refusal.NotWhole) (Ok n) t t' u u' v v' p q =
       let k = unwhole_at p.0 in absurd (k.unwhole (both_whole k.dones q.dones k.done q.surveyed q.whole))
-  same (OutputShort n) (Refused r) t t' u u' v v' p q = let k = short_at p.0 in absurd (refused_not r k.dones q.0 k.done)
-  same (OutputShort n) NotWhole t t' u u' v v' p q =
+  same (Err (refusal.OutputShort n)) (Err (refusal.Survey r)) t t' u u' v v' p q = let k = short_at p.0 in absurd (refused_not r k.dones q.0 k.done)
+  same (Err (refusal.OutputShort n)) (Err refusal.NotWhole) t t' u u' v v' p q =
       let k = unwhole_at q.0 in let l = short_at p.0 in absurd (k.unwhole (both_whole k.dones l.dones k.done l.done l.whole))
-  same (OutputShort n) (OutputShort m) t t' u u' v v' p q =
-      (ap OutputShort ((short_at p.0).place ∙ sym (short_at q.0).place), p.1 ∙ sym q.1, p.2 ∙ sym q.2, p.3 ∙ sym q.3)
-  same (OutputShort n) (Stored m) t t' u u' v v' p q = absurd (kept_short q (short_at p.0))
-  same (Stored n) (Refused r) t t' u u' v v' p q = absurd (refused_not r p.dones q.0 p.surveyed)
-  same (Stored n) NotWhole t t' u u' v v' p q =
+  same (Err (refusal.OutputShort n)) (Err (refusal.OutputShort m)) t t' u u' v v' p q =
+      (ap (λ (x : ℕ). Err (refusal.OutputShort x)) ((short_at p.0).place ∙ sym (short_at q.0).place), p.1 ∙ sym q.1, p.2 ∙ sym q.2, p.3 ∙ sym q.3)
+  same (Err (refusal.OutputShort n)) (Ok m) t t' u u' v v' p q = absurd (kept_short q (short_at p.0))
+  same (Ok n) (Err (refusal.Survey r)) t t' u u' v v' p q = absurd (refused_not r p.dones q.0 p.surveyed)
+  same (Ok n) (Err refusal.NotWhole) t t' u u' v v' p q =
       let k = unwhole_at q.0 in absurd (k.unwhole (both_whole k.dones p.dones k.done p.surveyed p.whole))
-  same (Stored n) (OutputShort m) t t' u u' v v' p q = absurd (kept_short p (short_at q.0))
-  same (Stored n) (Stored m) t t' u u' v v' p q =
+  same (Ok n) (Err (refusal.OutputShort m)) t t' u u' v v' p q = absurd (kept_short p (short_at q.0))
+  same (Ok n) (Ok m) t t' u u' v v' p q =
       let d = same_dones p.dones q.dones p.surveyed q.surveyed in
       let k : n ≡ m = p.size ∙ ap (λ (ds : List Done). length (survey_bytes s ds)) d ∙ sym q.size in (
-        ap Stored k,
+        ap Ok k,
         p.elements_are ∙ sym q.elements_are,
         p.items_are ∙ ap (λ (ds : List Done). records_from 0 ds ++ replicate (i - record_words * length (pieces_of s)) 0) d ∙ sym q.items_are,
         p.out_is ∙ ap₂ (λ (ds : List Done) (j : ℕ). survey_bytes s ds ++ replicate (o - j) 0) d k ∙ sym q.out_is,
@@ -164,45 +163,45 @@ module _ (s : List ℕ) (e i o : ℕ) (a : Storing) (t u v : List ℕ) (p : Perm
   is : (b : Storing) → Permitted s e i o b (replicate e 0) (replicate i 0) (replicate o 0) → a ≡ b
   is b q = (same s e i o a b t (replicate e 0) u (replicate i 0) v (replicate o 0) p q).0
 
-  own_exactly : (r : SurveyRefusal) → (a ≡ Refused r) ↔ survey.Given s e i (survey_number r) (survey_place r)
-  own_exactly r = ((λ q. own s e i o r (taken_as (Refused r) q).0), λ g. is (Refused r) (of_survey g, refl, refl, refl))
+  own_exactly : (r : SurveyRefusal) → (a ≡ Err (refusal.Survey r)) ↔ survey.Given s e i (survey_number r) (survey_place r)
+  own_exactly r = ((λ q. own s e i o r (taken_as (Err (refusal.Survey r)) q).0), λ g. is (Err (refusal.Survey r)) (of_survey g, refl, refl, refl))
 
-  whole_exactly : (a ≡ NotWhole) ↔ Given s e i o 21 0
-  whole_exactly = ((λ q. (taken_as NotWhole q).0), λ g. is NotWhole (g, refl, refl, refl))
+  whole_exactly : (a ≡ Err refusal.NotWhole) ↔ Given s e i o 21 0
+  whole_exactly = ((λ q. (taken_as (Err refusal.NotWhole) q).0), λ g. is (Err refusal.NotWhole) (g, refl, refl, refl))
 
-  short_exactly : (a ≡ OutputShort o) ↔ Given s e i o 22 o
-  short_exactly = ((λ q. (taken_as (OutputShort o) q).0), λ g. is (OutputShort o) (g, refl, refl, refl))
+  short_exactly : (a ≡ Err (refusal.OutputShort o)) ↔ Given s e i o 22 o
+  short_exactly = ((λ q. (taken_as (Err (refusal.OutputShort o)) q).0), λ g. is (Err (refusal.OutputShort o)) (g, refl, refl, refl))
 
 pub refusals_exact : RefusalsExact
 refusals_exact s e i o a t u v p = (own_exactly s e i o a t u v p, whole_exactly s e i o a t u v p, short_exactly s e i o a t u v p)
 
 -- ---- an answer to every text
 
-module _ (s : List ℕ) (e i o : ℕ) (x : Survey) (t u : List ℕ) (p : permitted.Permitted s e i x t u) where
+module _ (s : List ℕ) (e i o : ℕ) (x : Result Summary SurveyRefusal) (t u : List ℕ) (p : permitted.Permitted s e i x t u) where
   abbrev Some : Type 0
   Some = (a : Storing) × (t : List ℕ) × (u : List ℕ) × (v : List ℕ) × Permitted s e i o a t u v
 
-  wholly : (y : Summary) → x.outcome ≡ answer.Done y → y.whole ≡ true → Some
+  wholly : (y : Summary) → x ≡ Ok y → y.whole ≡ true → Some
   wholly y h w = go (ltb o (size_table s t u y.pieces)) refl
     where
       go : (b : Bool) → ltb o (size_table s t u y.pieces) ≡ b → Some
       go true q =
           let l = ltb-true o (size_table s t u y.pieces) q in
           let n : length {A = ℕ} (replicate o 0) ≡ o = length-replicate o 0 in
-          (OutputShort (length {A = ℕ} (replicate o 0)), replicate (length t) 0, replicate (length u) 0, replicate o 0, way_short s e i o x t u p y h (size_table s t u y.pieces) (replicate (length t) 0) (replicate (length u) 0) (replicate o 0) w refl (omega arith) refl refl refl)
+          (Err (refusal.OutputShort (length {A = ℕ} (replicate o 0))), replicate (length t) 0, replicate (length u) 0, replicate o 0, way_short s e i o x t u p y h (size_table s t u y.pieces) (replicate (length t) 0) (replicate (length u) 0) (replicate o 0) w refl (omega arith) refl refl refl)
       go false q =
           let l = ltb-false o (size_table s t u y.pieces) q in
           let n : length {A = ℕ} (replicate o 0) ≡ o = length-replicate o 0 in
-          (Stored (size_table s t u y.pieces), t, u, sets (replicate o 0) 0 (put_table s t u y.pieces), way_stored s e i o x t u p y h (size_table s t u y.pieces) (min (0 + length (put_table s t u y.pieces)) (length {A = ℕ} (replicate o 0))) (replicate o 0) (sets (replicate o 0) 0 (put_table s t u y.pieces)) w refl (omega arith) refl (record { bytes = refl; reach = refl }))
+          (Ok (size_table s t u y.pieces), t, u, sets (replicate o 0) 0 (put_table s t u y.pieces), way_stored s e i o x t u p y h (size_table s t u y.pieces) (min (0 + length (put_table s t u y.pieces)) (length {A = ℕ} (replicate o 0))) (replicate o 0) (sets (replicate o 0) 0 (put_table s t u y.pieces)) w refl (omega arith) refl (record { bytes = refl; reach = refl }))
 
-  by_survey : (a : Ended) → x.outcome ≡ a → Some
-  by_survey (answer.Refused r) h = (Refused r, t, u, replicate o 0, way_refused s e i o x t u p r (replicate o 0) h refl)
-  by_survey (answer.Done y) h = go y.whole refl
+  by_survey : (a : Result Summary SurveyRefusal) → x ≡ a → Some
+  by_survey (Err r) h = (Err (refusal.Survey r), t, u, replicate o 0, way_refused s e i o x t u p r (Err (refusal.Survey r)) (replicate o 0) h refl refl)
+  by_survey (Ok y) h = go y.whole refl
     where
       go : (b : Bool) → y.whole ≡ b → Some
       go true w = wholly y h w
       go false w =
-          (NotWhole, replicate (length t) 0, replicate (length u) 0, replicate o 0, way_not_whole s e i o x t u p y h (replicate (length t) 0) (replicate (length u) 0) (replicate o 0) w refl refl refl)
+          ((Err refusal.NotWhole), replicate (length t) 0, replicate (length u) 0, replicate o 0, way_not_whole s e i o x t u p y h (replicate (length t) 0) (replicate (length u) 0) (replicate o 0) w refl refl refl)
 
 pub answered : Answered
-answered s e i o = by_survey s e i o (survey_of s e i) (elements_after_survey s e i) (items_after s e i) (permits s e i) (survey_of s e i).outcome refl
+answered s e i o = by_survey s e i o (survey_of s e i) (elements_after_survey s e i) (items_after s e i) (permits s e i) (survey_of s e i) refl

@@ -1,12 +1,13 @@
 -- The fields of records put one after the other, in the code's terms. Assumes nothing.
+use Rattle.std.specs.Prelude.{Option, Some, None}
 use mathlib.Core.Path.{◌≡◌, refl, sym, ap, ◌∙◌}
 use mathlib.Core.Bool.{Bool}
-use mathlib.Core.List.{List, [], ◌∷◌, ◌++◌, append-nil, append_assoc}
+use mathlib.Core.List.{List, [], ◌∷◌, ◌++◌, append-nil}
 use Prim.Native.Nat.{ℕ, zero, suc, ◌+◌, ◌*◌, ◌≤◌, ◌<◌}
 use native.Mathlib.Numerals.{add-one}
 use native.Mathlib.Omega.{arith}
 use lib.IntN.{ℤ}
-use lib.ListN.{length, take, drop, length-drop, length-append}
+use lib.ListN.{length, take, drop, length-drop}
 use mir.Val.{of_z, to_z, Fits, SFits}
 use mir.Syntax.{w32, w64}
 use mir.ValLaws.{to_z-of_z}
@@ -20,8 +21,6 @@ use Rattle.puts.specs.Puts.{Wrote}
 use Rattle.puts.proofs.Laws.{then, then3, named}
 use Rattle.stored.specs.Fields.{fields_bytes}
 use Rattle.stored.specs.StoredItems.{StoredItem, item_field, name_field, value_size}
-use Rattle.stored.specs.declared.Held.{Held}
-use Rattle.stored.specs.declared.Held.TheVariants.{Nothing, Holds}
 use Rattle.stored.specs.declared.StoredValue.{StoredValue}
 use Rattle.stored.specs.declared.StoredValue.TheVariants as kept
 use Rattle.stored_writing.specs.Written.{as_stored, field_put, fields_put, field_size}
@@ -32,19 +31,19 @@ use Rattle.storing.specs.code.Tables.{is_basic, held_at, stored_name_at, item_by
 -- ---- what is held
 
 module _ (v : Value) where
-  pub value_number : (z : ℤ) → v ≡ value.Number z → SFits w32 z → Holds (kept.Number (to_z w32 (of_z w32 z))) ≡ stored_value v
+  pub value_number : (z : ℤ) → v ≡ value.Number z → SFits w32 z → Some (kept.Number (to_z w32 (of_z w32 z))) ≡ stored_value v
   value_number z e f = rw (to_z-of_z w32 z f, e)
 
-  pub value_truth : (t : Bool) → v ≡ value.Truth t → Holds (kept.Truth t) ≡ stored_value v
+  pub value_truth : (t : Bool) → v ≡ value.Truth t → Some (kept.Truth t) ≡ stored_value v
   value_truth t e = rw e
 
-  pub value_range : (y z : ℤ) → v ≡ value.Range y z → SFits w32 y → SFits w32 z → Holds (kept.Range (to_z w32 (of_z w32 y)) (to_z w32 (of_z w32 z))) ≡ stored_value v
+  pub value_range : (y z : ℤ) → v ≡ value.Range y z → SFits w32 y → SFits w32 z → Some (kept.Range (to_z w32 (of_z w32 y)) (to_z w32 (of_z w32 z))) ≡ stored_value v
   value_range y z e f g = rw (to_z-of_z w32 y f, to_z-of_z w32 z g, e)
 
-  pub value_truths : v ≡ value.Truths → Holds kept.Truths ≡ stored_value v
+  pub value_truths : v ≡ value.Truths → Some kept.Truths ≡ stored_value v
   value_truths e = rw e
 
-pub held_is : (items : List ℕ) (i a b c d e : ℕ) (v : Value) (h : Held) → h ≡ stored_value v → v ≡ used_value a b c d e → a ≡ word_at items i 0 → b ≡ word_at items i 4
+pub held_is : (items : List ℕ) (i a b c d e : ℕ) (v : Value) (h : Option StoredValue) → h ≡ stored_value v → v ≡ used_value a b c d e → a ≡ word_at items i 0 → b ≡ word_at items i 4
     → c ≡ word_at items i 5 → d ≡ word_at items i 6 → e ≡ word_at items i 7 → h ≡ held_at items i
 unfolding held_at
 held_is items i a b c d e v h p q w x y z u =
@@ -57,27 +56,27 @@ part_is text table r m e first n p q f g = g ∙ rw (f, p, q)
 
 -- ---- a record
 
-module _ (text elements items : List ℕ) (i : ℕ) (h : Held) where
-  one : (v : StoredValue) (e : ℕ) (b : Bool) (name : List ℕ) → h ≡ Holds v → h ≡ held_at items i → e ≡ word_at items i 3 → b ≡ is_basic elements e → name ≡ bytes_at text elements e
+module _ (text elements items : List ℕ) (i : ℕ) (h : Option StoredValue) where
+  one : (v : StoredValue) (e : ℕ) (b : Bool) (name : List ℕ) → h ≡ Some v → h ≡ held_at items i → e ≡ word_at items i 3 → b ≡ is_basic elements e → name ≡ bytes_at text elements e
       → item_at text elements items i ≡ record { value = v; name = as_stored b name } ∷ []
   unfolding item_at stored_name_at
   one v e b name p q w x n = rw (← q, p, ← w, ← x, ← n)
 
-  none : h ≡ Nothing → h ≡ held_at items i → item_at text elements items i ≡ []
+  none : h ≡ None → h ≡ held_at items i → item_at text elements items i ≡ []
   unfolding item_at
   none p q = rw (← q, p)
 
-  pub record_none : {t t' : List ℕ} {at r : ℕ} → h ≡ Nothing → h ≡ held_at items i → Wrote t at [] t' r → Wrote t at (put_items (item_at text elements items i)) t' r
+  pub record_none : {t t' : List ℕ} {at r : ℕ} → h ≡ None → h ≡ held_at items i → Wrote t at [] t' r → Wrote t at (put_items (item_at text elements items i)) t' r
   unfolding fields_put
   record_none p q w = named (ap put_items (none p q)) w
 
-  pub record_put : {t t' : List ℕ} {at r : ℕ} (v : StoredValue) (e : ℕ) (b : Bool) (name : List ℕ) → h ≡ Holds v → h ≡ held_at items i → e ≡ word_at items i 3 → b ≡ is_basic elements e
+  pub record_put : {t t' : List ℕ} {at r : ℕ} (v : StoredValue) (e : ℕ) (b : Bool) (name : List ℕ) → h ≡ Some v → h ≡ held_at items i → e ≡ word_at items i 3 → b ≡ is_basic elements e
       → name ≡ bytes_at text elements e → Wrote t at (field_put (item_field (record { value = v; name = as_stored b name }))) t' r → Wrote t at (put_items (item_at text elements items i)) t' r
   unfolding fields_put
   record_put v e b name p q w x n u =
       named (ap put_items (one v e b name p q w x n) ∙ append-nil (field_put (item_field (record { value = v; name = as_stored b name })))) u
 
-  pub size_none : h ≡ Nothing → h ≡ held_at items i → 0 ≡ size_items (item_at text elements items i)
+  pub size_none : h ≡ None → h ≡ held_at items i → 0 ≡ size_items (item_at text elements items i)
   unfolding size_items
   size_none p q = sym (ap size_items (none p q))
 
@@ -86,8 +85,8 @@ same_size : (v : StoredValue) (b : Bool) (name : List ℕ) → field_size (item_
 same_size v b name =
     sym (item_size v name (value_size v) refl) ∙ ap (λ (k : ℕ). 3 + (value_size v + k)) (sym (stored_length b name)) ∙ item_size v (as_stored b name) (value_size v) refl
 
-module _ (text elements items : List ℕ) (i : ℕ) (h : Held) where
-  pub record_size : (v : StoredValue) (e k : ℕ) (name : List ℕ) → h ≡ Holds v → h ≡ held_at items i → e ≡ word_at items i 3 → name ≡ bytes_at text elements e
+module _ (text elements items : List ℕ) (i : ℕ) (h : Option StoredValue) where
+  pub record_size : (v : StoredValue) (e k : ℕ) (name : List ℕ) → h ≡ Some v → h ≡ held_at items i → e ≡ word_at items i 3 → name ≡ bytes_at text elements e
       → k ≡ field_size (item_field (record { value = v; name = name })) → k ≡ size_items (item_at text elements items i)
   unfolding size_items
   record_size v e k name p q w n u =
@@ -134,10 +133,10 @@ unfolding bytes_at
 part_small text elements e =
     omega (arith, take_most (cell_at elements e 2) (drop (cell_at elements e 1) text), length-drop (cell_at elements e 1) text)
 
-by_small : (h : Held) (n : List ℕ) (k : ℕ) → length n ≤ k → size_items (item_by h n) ≤ 12 + k
+by_small : (h : Option StoredValue) (n : List ℕ) (k : ℕ) → length n ≤ k → size_items (item_by h n) ≤ 12 + k
 unfolding size_items
-by_small Nothing n k l = omega arith
-by_small (Holds v) n k l = omega (arith, item_size v n (value_size v) refl, small_size v (value_size v) refl)
+by_small None n k l = omega arith
+by_small (Some v) n k l = omega (arith, item_size v n (value_size v) refl, small_size v (value_size v) refl)
 
 pub record_small : (text elements items : List ℕ) (i : ℕ) → length text ≤ 65536 → size_items (item_at text elements items i) ≤ 65548
 unfolding item_at stored_name_at

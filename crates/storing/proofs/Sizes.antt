@@ -1,4 +1,5 @@
 -- The numbers of items that are stored are at most 2147483647 in size. Assumes nothing.
+use Rattle.std.specs.Prelude.{Some}
 use mathlib.Core.Path.{◌≡◌, refl, sym, subst}
 use mathlib.Core.Bool.{Bool, true, false, cond, ◌&&◌}
 use mathlib.Core.List.{List, [], ◌∷◌, ◌++◌}
@@ -7,7 +8,7 @@ use native.Mathlib.Omega.{arith}
 use lib.Dec.{eqb}
 use Rattle.states.specs.States as state
 use Rattle.pieces.specs.Classes as class
-use Rattle.forms.specs.Tree.{Row, behind}
+use Rattle.forms.specs.Tree.{Row}
 use Rattle.tree.specs.code.PieceRows.{rows_of_piece}
 use Rattle.values.specs.Values.{language_value, lean_of}
 use Rattle.values.specs.declared.Value.{Value}
@@ -17,7 +18,6 @@ use Rattle.marks.proofs.Sound.{Keeps, Sound, choose_sound}
 use Rattle.marks.proofs.Laws.{Constant, Subtype, constant_fits}
 use Rattle.stored.specs.StoredItems.{StoredItem}
 use Rattle.stored.specs.Stored.{small, sized}
-use Rattle.stored.specs.declared.Held.TheVariants.{Nothing, Holds}
 use Rattle.stored.specs.declared.StoredValue.{StoredValue}
 use Rattle.stored.specs.declared.StoredValue.TheVariants as kept
 use Rattle.meaning.specs.Elements.{Element, Piece, at}
@@ -152,7 +152,7 @@ dones_tight all above (p ∷ ps) g =
 
 -- ---- the items
 
-holds_sized : (w : StoredValue) → sized w ≡ true → (xs : List Element) → all_sized (items_named (Holds w) xs) ≡ true
+holds_sized : (w : StoredValue) → sized w ≡ true → (xs : List Element) → all_sized (items_named (Some w) xs) ≡ true
 unfolding items_named
 holds_sized w h [] = refl
 holds_sized w h (x ∷ xs) = rw h (holds_sized w h xs)

@@ -1,35 +1,30 @@
 -- What the code puts of a whole survey is the stored table of its items, and each way through storing is permitted. Assumes nothing.
+use Rattle.std.specs.Prelude.{Option, Some, None, Ok, Err, IsErrAnd}
 use mathlib.Core.Path.{◌≡◌, refl, sym, ap, ap₂, subst, ◌∙◌}
-use mathlib.Core.Logic.{◌↔◌}
-use mathlib.Core.Bool.{Bool, true, false, cond, not, ◌&&◌, ◌||◌, true≢false, false≢true}
-use mathlib.Core.List.{List, [], ◌∷◌, ◌++◌, map, append_assoc}
-use Prim.Native.Nat.{ℕ, zero, suc, ◌+◌, ◌-◌, ◌*◌, ◌≤◌, ◌<◌}
+use mathlib.Core.Bool.{Bool, true, false, cond, not, true≢false, false≢true}
+use mathlib.Core.List.{List, [], ◌∷◌, ◌++◌, map}
+use Prim.Native.Nat.{ℕ, zero, suc, ◌-◌, ◌*◌, ◌≤◌, ◌<◌}
 use native.Mathlib.Omega.{arith}
-use borrow.Author.Tests.{lt-ltb, ne_eqb}
-use lib.Dec.{eqb, ltb}
+use borrow.Author.Tests.{lt-ltb}
+use lib.Dec.{eqb}
 use lib.ListN.{length, get_or, replicate, length-append, length-replicate}
 use Rattle.puts.specs.Puts.{Wrote}
-use Rattle.refusals.specs.Refusals.{survey_number, survey_place}
 use Rattle.refusals.specs.declared.SurveyRefusal.{SurveyRefusal}
 use Rattle.records.specs.Records.{is_claim}
-use Rattle.records.specs.declared.Tally.{Tally}
 use Rattle.element_reading.specs.Rows.{rows_of}
-use Rattle.element_reading.specs.Given.{Taken}
-use Rattle.stored.specs.Fields.{Field, field_bytes, fields_bytes, writable, all_writable}
+use Rattle.stored.specs.Fields.{fields_bytes, writable, all_writable}
 use Rattle.stored.specs.StoredItems.{StoredItem, item_field, name_field, value_bytes, value_size, tag_of}
 use Rattle.stored.specs.Stored.{stored_fields, stored_bytes, form_one}
-use Rattle.stored.specs.declared.Held.{Held}
-use Rattle.stored.specs.declared.Held.TheVariants.{Nothing, Holds}
 use Rattle.stored.specs.declared.StoredValue.{StoredValue}
 use Rattle.stored.specs.declared.StoredValue.TheVariants as kept
-use Rattle.stored_writing.specs.Written.{as_stored, field_put, fields_put, field_size}
+use Rattle.stored_writing.specs.Written.{field_put, fields_put}
 use Rattle.stored_writing.proofs.Puts.{value_length, small_size, stored_length, put_length, written_field, fields_put_lem, filled}
 use Rattle.meaning.specs.Elements.{Element, Piece, at}
 use Rattle.meaning.specs.Pieces.{kinds_in_piece, pieces_of, class_of}
 use Rattle.meaning.specs.Names.{own_name, names_claimed, Done}
 use Rattle.meaning.specs.Meaning.{Come}
 use Rattle.pieces.specs.Kinds.{is_heading}
-use Rattle.meaning.specs.Together.{GoodFrame, IsWhole, name_place}
+use Rattle.meaning.specs.Together.{GoodFrame, name_place}
 use Rattle.meaning.specs.code.PieceValues.{dones_from}
 use Rattle.meaning.proofs.Begun.{names_by_class}
 use Rattle.meaning.proofs.Cutting.{kinds_length}
@@ -39,16 +34,16 @@ use Rattle.meaning.proofs.Claims.{piece_is}
 use Rattle.meaning.proofs.Places.{table_of, table_length}
 use Rattle.meaning.proofs.Comes.{come_exactly}
 use Rattle.meaning.proofs.Good.{Good}
-use Rattle.survey_reading.specs.Permitted.{Finished, PermittedBy}
+use Rattle.survey_reading.specs.Permitted.{Finished}
 use Rattle.survey_reading.specs.Permitted as survey
-use Rattle.survey_reading.specs.declared.Survey.{Survey}
+use Rattle.std.specs.Prelude.{Result, Ok, Err}
 use Rattle.survey_reading.specs.declared.Summary.{Summary}
-use Rattle.survey_reading.specs.declared.Ended.{Ended}
-use Rattle.survey_reading.specs.declared.Ended.TheVariants as answer
 use Rattle.storing.specs.SurveyItems.{stored_name, items_named, stored_value, stored_items, package_name, survey_bytes}
 use Rattle.storing.specs.Given.{Surveyed, Given, of_survey, not_whole, output_short}
-use Rattle.storing.specs.Permitted.{Kept, RefusedAt, Permitted}
-use Rattle.storing.specs.declared.Storing.TheVariants.{Refused, NotWhole, OutputShort, Stored}
+use Rattle.storing.specs.Permitted.{Permitted}
+use Rattle.storing.specs.Refusals.{Storing}
+use Rattle.storing.specs.declared.StoringRefusal.{StoringRefusal}
+use Rattle.storing.specs.declared.StoringRefusal.TheVariants as refusal
 use Rattle.storing.specs.code.Tables.{items_of_records, put_items, size_items, package_at, put_table, size_table}
 use Rattle.storing.proofs.Held.{dones_pieces, good_from, all_items, heading_is, heading_parts, package_is}
 use Rattle.storing.proofs.Lengths.{package_short, name_short}
@@ -91,11 +86,11 @@ size_put (i ∷ is) = omega (arith, length-append (field_put (item_field i)) (pu
 
 -- ---- the names of pieces that are done
 
-names_short : (h : Held) (xs : List Element) → ((x : Element) → length x.bytes ≤ 65526 → length (stored_name x) ≤ 65526) → ((i : ℕ) → length (get_or xs i (record { kind = 0; bytes = [] })).bytes ≤ 65526) → AllShort (items_named h xs)
+names_short : (h : Option StoredValue) (xs : List Element) → ((x : Element) → length x.bytes ≤ 65526 → length (stored_name x) ≤ 65526) → ((i : ℕ) → length (get_or xs i (record { kind = 0; bytes = [] })).bytes ≤ 65526) → AllShort (items_named h xs)
 unfolding items_named
-names_short Nothing xs f g = tt
-names_short (Holds v) [] f g = tt
-names_short (Holds v) (x ∷ xs) f g = (f x (g 0), names_short (Holds v) xs f (λ i. g (suc i)))
+names_short None xs f g = tt
+names_short (Some v) [] f g = tt
+names_short (Some v) (x ∷ xs) f g = (f x (g 0), names_short (Some v) xs f (λ i. g (suc i)))
 
 stored_short : (x : Element) → length x.bytes ≤ 65526 → length (stored_name x) ≤ 65526
 unfolding stored_name
@@ -120,13 +115,13 @@ items_short (d ∷ ds) h =
 
 -- ---- no more items than pieces
 
-one_or_none : (h : Held) (b : Bool) (x : Element) → length (items_named h (cond b (x ∷ []) [])) ≤ 1
+one_or_none : (h : Option StoredValue) (b : Bool) (x : Element) → length (items_named h (cond b (x ∷ []) [])) ≤ 1
 unfolding items_named
-one_or_none Nothing b x = omega arith
-one_or_none (Holds v) true x = omega arith
-one_or_none (Holds v) false x = omega arith
+one_or_none None b x = omega arith
+one_or_none (Some v) true x = omega arith
+one_or_none (Some v) false x = omega arith
 
-one_claimed : (h : Held) (p : Piece) → length (items_named h (names_claimed p)) ≤ 1
+one_claimed : (h : Option StoredValue) (p : Piece) → length (items_named h (names_claimed p)) ≤ 1
 one_claimed h p = subst (λ (xs : List Element). length (items_named h xs) ≤ 1) (sym (names_by_class p)) (one_or_none h (is_claim (class_of p)) (own_name p))
 
 pub few_items : (ds : List Done) → length (stored_items ds) ≤ length ds
@@ -209,13 +204,18 @@ sizes text elements items n =
 
 -- ---- the ways through storing a survey
 
-module _ (text : List ℕ) (e i o : ℕ) (x : Survey) (t u : List ℕ) (p : survey.Permitted text e i x t u) where
-  pub way_refused : (r : SurveyRefusal) (out : List ℕ) → x.outcome ≡ answer.Refused r → out ≡ replicate o 0 → Permitted text e i o (Refused r) t u out
-  way_refused r out h z = let q = subst (λ (a : Ended). PermittedBy text e i a x.tally t u) h p in (of_survey q.0, q.2, q.3, z)
+module _ (text : List ℕ) (e i o : ℕ) (x : Result Summary SurveyRefusal) (t u : List ℕ) (p : survey.Permitted text e i x t u) where
+  -- what `?` makes of the survey's refusal
+  pub way_refused : (r : SurveyRefusal) (a : Storing) (out : List ℕ) → x ≡ Err r → IsErrAnd a (λ e. e ≡ refusal.Survey r) → out ≡ replicate o 0 → Permitted text e i o a t u out
+  way_refused r (Ok n) out h q z = absurd q
+  way_refused r (Err y) out h q z = subst (λ (b : StoringRefusal). Permitted text e i o (Err b) t u out) (sym q) (refused h)
+    where
+      refused : x ≡ Err r → Permitted text e i o (Err (refusal.Survey r)) t u out
+      refused h = let w = subst (λ (a : Result Summary SurveyRefusal). survey.Permitted text e i a t u) h p in (of_survey w.0, w.1, w.2, z)
 
-  module _ (y : Summary) (h : x.outcome ≡ answer.Done y) where
-    fin : Finished text e i y x.tally t u
-    fin = subst (λ (a : Ended). PermittedBy text e i a x.tally t u) h p
+  module _ (y : Summary) (h : x ≡ Ok y) where
+    fin : Finished text e i y t u
+    fin = subst (λ (a : Result Summary SurveyRefusal). survey.Permitted text e i a t u) h p
 
     pub asked : (length text ≤ 65536) × (y.pieces ≤ 1024)
     asked = (fin.taken.0, omega (arith, fin.pieces, fin.few))
@@ -238,7 +238,7 @@ module _ (text : List ℕ) (e i o : ℕ) (x : Survey) (t u : List ℕ) (p : surv
     clear_items : (u' : List ℕ) → u' ≡ replicate (length u) 0 → u' ≡ replicate i 0
     clear_items u' q = q ∙ ap (λ (k : ℕ). replicate k 0) long_items
 
-    pub way_not_whole : (t' u' out : List ℕ) → y.whole ≡ false → t' ≡ replicate (length t) 0 → u' ≡ replicate (length u) 0 → out ≡ replicate o 0 → Permitted text e i o NotWhole t' u' out
+    pub way_not_whole : (t' u' out : List ℕ) → y.whole ≡ false → t' ≡ replicate (length t) 0 → u' ≡ replicate (length u) 0 → out ≡ replicate o 0 → Permitted text e i o (Err refusal.NotWhole) t' u' out
     way_not_whole t' u' out f a b c = (not_whole done (λ w. true≢false (sym (fin.whole.1 w) ∙ f)), clear_elements t' a, clear_items u' b, c)
 
     table_here : y.whole ≡ true → put_table text t u y.pieces ≡ survey_bytes text fin.dones
@@ -253,14 +253,14 @@ module _ (text : List ℕ) (e i o : ℕ) (x : Survey) (t u : List ℕ) (p : surv
     size_here w = sizes text t u y.pieces ∙ ap length (table_here w)
 
     pub way_short : (n : ℕ) (t' u' out : List ℕ) → y.whole ≡ true → n ≡ size_table text t u y.pieces → length out < n → t' ≡ replicate (length t) 0 → u' ≡ replicate (length u) 0 → out ≡ replicate o 0
-        → Permitted text e i o (OutputShort (length out)) t' u' out
+        → Permitted text e i o (Err (refusal.OutputShort (length out))) t' u' out
     way_short n t' u' out w s l a b c =
         let q : length out ≡ o = ap length c ∙ length-replicate o 0 in
         let g : o < length (survey_bytes text fin.dones) = omega (arith, size_here w, s, l, q) in
         (subst (λ (k : ℕ). Given text e i o 22 k) (sym q) (output_short done (fin.whole.0 w) g), clear_elements t' a, clear_items u' b, c)
 
     pub way_stored : (n r : ℕ) (out out' : List ℕ) → y.whole ≡ true → n ≡ size_table text t u y.pieces → n ≤ length out → out ≡ replicate o 0 → Wrote out 0 (put_table text t u y.pieces) out' r
-        → Permitted text e i o (Stored n) t u out'
+        → Permitted text e i o (Ok n) t u out'
     way_stored n r out out' w s l z v =
         let q : length out ≡ o = ap length z ∙ length-replicate o 0 in
         let m : n ≡ length (survey_bytes text fin.dones) = s ∙ size_here w in

@@ -1,6 +1,6 @@
 -- What storing a survey may answer, and leave in the two tables and the output that it is lent: one predicate, which is the contract. Assumes
 -- nothing: these are definitions.
-use Rattle.std.specs.Prelude.{ℕ, ◌-◌, ◌*◌, ◌≤◌, ◌≡◌, List, ◌++◌, length, replicate}
+use Rattle.std.specs.Prelude.{ℕ, ◌-◌, ◌*◌, ◌≤◌, ◌≡◌, List, ◌++◌, length, replicate, Ok, Err}
 use Rattle.places.specs.Places.{row_words}
 use Rattle.pieces.specs.Records.{record_words}
 use Rattle.element_reading.specs.Rows.{rows_of}
@@ -13,8 +13,8 @@ use Rattle.meaning.specs.Together.{IsWhole}
 use Rattle.storing.specs.SurveyItems.{survey_bytes}
 use Rattle.storing.specs.Refusals.{storing_number, storing_place}
 use Rattle.storing.specs.Given.{Surveyed, Given}
-use Rattle.storing.specs.declared.Storing.{Storing}
-use Rattle.storing.specs.declared.Storing.TheVariants.{Refused, NotWhole, OutputShort, Stored}
+use Rattle.storing.specs.Refusals.{Storing}
+use Rattle.storing.specs.declared.StoringRefusal.TheVariants as refusal
 
 -- a survey that is stored, in n bytes: the tables are as the survey leaves them, and what the output has besides is zeros
 pub record Kept (text : List ℕ) (element_words item_words out_bytes n : ℕ) (elements items out : List ℕ) : Type 0 where
@@ -33,7 +33,7 @@ RefusedAt text element_words item_words out_bytes number place elements items ou
     Given text element_words item_words out_bytes number place × (elements ≡ replicate element_words 0) × (items ≡ replicate item_words 0) × (out ≡ replicate out_bytes 0)
 
 abbrev pub Permitted : List ℕ → ℕ → ℕ → ℕ → Storing → List ℕ → List ℕ → List ℕ → Type 0
-Permitted text element_words item_words out_bytes (Refused r) elements items out = RefusedAt text element_words item_words out_bytes (storing_number (Refused r)) (storing_place (Refused r)) elements items out
-Permitted text element_words item_words out_bytes NotWhole elements items out = RefusedAt text element_words item_words out_bytes (storing_number NotWhole) (storing_place NotWhole) elements items out
-Permitted text element_words item_words out_bytes (OutputShort room) elements items out = RefusedAt text element_words item_words out_bytes (storing_number (OutputShort room)) (storing_place (OutputShort room)) elements items out
-Permitted text element_words item_words out_bytes (Stored n) elements items out = Kept text element_words item_words out_bytes n elements items out
+Permitted text element_words item_words out_bytes (Err (refusal.Survey r)) elements items out = RefusedAt text element_words item_words out_bytes (storing_number (Err (refusal.Survey r))) (storing_place (Err (refusal.Survey r))) elements items out
+Permitted text element_words item_words out_bytes (Err refusal.NotWhole) elements items out = RefusedAt text element_words item_words out_bytes (storing_number (Err refusal.NotWhole)) (storing_place (Err refusal.NotWhole)) elements items out
+Permitted text element_words item_words out_bytes (Err (refusal.OutputShort room)) elements items out = RefusedAt text element_words item_words out_bytes (storing_number (Err (refusal.OutputShort room))) (storing_place (Err (refusal.OutputShort room))) elements items out
+Permitted text element_words item_words out_bytes (Ok n) elements items out = Kept text element_words item_words out_bytes n elements items out

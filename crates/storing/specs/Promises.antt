@@ -1,5 +1,5 @@
 -- What storing a survey promises beside its contract, as statements: proofs/Promises.antt proves each. Assumes nothing: these are definitions.
-use Rattle.std.specs.Prelude.{ℕ, ◌≤◌, ◌≡◌, ◌↔◌, Bool, true, ◌&&◌, List, [], ◌∷◌, length}
+use Rattle.std.specs.Prelude.{ℕ, ◌≤◌, ◌≡◌, ◌↔◌, Bool, true, ◌&&◌, List, [], ◌∷◌, length, Err}
 use Rattle.refusals.specs.Refusals.{survey_number, survey_place}
 use Rattle.refusals.specs.declared.SurveyRefusal.{SurveyRefusal}
 use Rattle.survey_reading.specs.Given as survey
@@ -12,8 +12,8 @@ use Rattle.meaning.specs.Together.{IsWhole}
 use Rattle.storing.specs.SurveyItems.{package_name, stored_items}
 use Rattle.storing.specs.Given.{Surveyed, Given, not_whole_number, output_short_number}
 use Rattle.storing.specs.Permitted.{Permitted}
-use Rattle.storing.specs.declared.Storing.{Storing}
-use Rattle.storing.specs.declared.Storing.TheVariants.{Refused, NotWhole, OutputShort}
+use Rattle.storing.specs.Refusals.{Storing}
+use Rattle.storing.specs.declared.StoringRefusal.TheVariants as refusal
 
 -- There is a right answer to every text, with tables and an output of any size.
 abbrev pub Answered : Type 0
@@ -30,8 +30,8 @@ NoChoice =
 abbrev pub RefusalsExact : Type 0
 RefusalsExact =
     (s : List ℕ) (e i o : ℕ) (a : Storing) (t u v : List ℕ) → Permitted s e i o a t u v
-    → ((r : SurveyRefusal) → (a ≡ Refused r) ↔ survey.Given s e i (survey_number r) (survey_place r))
-    × ((a ≡ NotWhole) ↔ Given s e i o not_whole_number 0) × ((a ≡ OutputShort o) ↔ Given s e i o output_short_number o)
+    → ((r : SurveyRefusal) → (a ≡ Err (refusal.Survey r)) ↔ survey.Given s e i (survey_number r) (survey_place r))
+    × ((a ≡ Err refusal.NotWhole) ↔ Given s e i o not_whole_number 0) × ((a ≡ Err (refusal.OutputShort o)) ↔ Given s e i o output_short_number o)
 
 -- Two bytes of length always suffice: every field of a whole survey can be written, whatever text within 01's sizes it has.
 abbrev pub LengthsSuffice : Type 0

@@ -1,4 +1,5 @@
 -- The promises of specs/Promises.antt, proved. Assumes nothing.
+use Rattle.std.specs.Prelude.{Ok, Err}
 use mathlib.Core.Path.{◌≡◌, refl, sym, ap, ap₂, subst, ◌∙◌}
 use mathlib.Core.Logic.{◌↔◌}
 use mathlib.Core.Bool.{Bool, true, false}
@@ -18,13 +19,12 @@ use Rattle.stored_reading.specs.Permitted as reading
 use Rattle.stored_reading.specs.code.Answers.{stored_answer, stored_rows}
 use Rattle.stored_reading.specs.declared.StoredRefusal.{StoredRefusal}
 use Rattle.stored_reading.specs.declared.StoredRefusal.TheVariants.{NotStored, ItemsShort}
-use Rattle.stored_reading.specs.declared.StoredReading.{StoredReading}
-use Rattle.stored_reading.specs.declared.StoredReading.TheVariants as answer
+use Rattle.stored_reading.specs.Permitted.{StoredReading}
 use Rattle.stored_reading.proofs.Permits.{permits, one_permitted}
 use Rattle.storing_again.specs.Permitted.{WasRead, again_bytes, KeptAgain, ShortOutput, Permitted}
 use Rattle.storing_again.specs.Promises.{Answered, NoChoice, RefusedExactly, SameBytes}
-use Rattle.storing_again.specs.declared.Again.{Again}
-use Rattle.storing_again.specs.declared.Again.TheVariants.{Refused, OutputShort, Stored}
+use Rattle.storing_again.specs.Refusals.{Again}
+use Rattle.storing_again.specs.declared.AgainRefusal.TheVariants as again
 
 module _ (s : List ℕ) (w o : ℕ) where
   -- what was read has the bytes that it was read from
@@ -34,14 +34,14 @@ module _ (s : List ℕ) (w o : ℕ) where
   size : {t : List ℕ} (x : WasRead s w t) → length s ≡ length (again_bytes x)
   size x = ap length (bytes x)
 
-  refused_read : (r : StoredRefusal) {t u : List ℕ} → reading.Permitted s w (answer.Refused r) t → WasRead s w u → ⊥
+  refused_read : (r : StoredRefusal) {t u : List ℕ} → reading.Permitted s w (Err r) t → WasRead s w u → ⊥
   refused_read r {t} {u} p x =
-      let e : answer.Refused r ≡ answer.Read x.first x.size x.count = (one_permitted s w (answer.Refused r) (answer.Read x.first x.size x.count) t u p x.back).0 in
+      let e : Err r ≡ reading.read_table x.first x.size x.count = (one_permitted s w (Err r) (reading.read_table x.first x.size x.count) t u p x.back).0 in
       clash (cc)
 
   same_rows : {t u : List ℕ} → WasRead s w t → WasRead s w u → t ≡ u
   same_rows {t} {u} x y =
-      (one_permitted s w (answer.Read x.first x.size x.count) (answer.Read y.first y.size y.count) t u x.back y.back).1
+      (one_permitted s w (reading.read_table x.first x.size x.count) (reading.read_table y.first y.size y.count) t u x.back y.back).1
 
   short_kept : {k n : ℕ} {t v : List ℕ} → ShortOutput s w o k → KeptAgain s w o n t v → ⊥
   short_kept a b = let x = a.short in let y = b.size in let z = b.fits in omega (arith, size a.was_read, size b.was_read)
@@ -54,22 +54,22 @@ module _ (s : List ℕ) (w o : ℕ) where
   shorts {t} x l = record { rows = t; was_read = x; short = omega (arith, size x); place_is = refl }
 
   same : (a b : Again) (t u v x : List ℕ) → Permitted s w o a t v → Permitted s w o b u x → (a ≡ b) × (t ≡ u) × (v ≡ x)
-  same (Refused r) (Refused q) t u v x h k =
-      let e = one_permitted s w (answer.Refused r) (answer.Refused q) t u h.0 k.0 in
-      let d : answer.Refused r ≡ answer.Refused q = e.0 in
+  same (Err (again.Reading r)) (Err (again.Reading q)) t u v x h k =
+      let e = one_permitted s w (Err r) (Err q) t u h.0 k.0 in
+      let d : Err r ≡ Err q = e.0 in
       let f : r ≡ q = cc in
-      (ap Refused f, e.1, h.1 ∙ sym k.1)
-  same (Refused r) (OutputShort n) t u v x h k = absurd (refused_read r h.0 k.0.was_read)
-  same (Refused r) (Stored n) t u v x h k = absurd (refused_read r h.0 k.was_read)
-  same (OutputShort n) (Refused r) t u v x h k = absurd (refused_read r k.0 h.0.was_read)
-  same (OutputShort n) (OutputShort m) t u v x h k = (ap OutputShort (h.0.place_is ∙ sym k.0.place_is), h.1 ∙ sym k.1, h.2 ∙ sym k.2)
-  same (OutputShort n) (Stored m) t u v x h k = absurd (short_kept h.0 k)
-  same (Stored n) (Refused r) t u v x h k = absurd (refused_read r k.0 h.was_read)
-  same (Stored n) (OutputShort m) t u v x h k = absurd (short_kept k.0 h)
-  same (Stored n) (Stored m) t u v x h k =
+      (ap (λ (x : StoredRefusal). Err (again.Reading x)) f, e.1, h.1 ∙ sym k.1)
+  same (Err (again.Reading r)) (Err (again.OutputShort n)) t u v x h k = absurd (refused_read r h.0 k.0.was_read)
+  same (Err (again.Reading r)) (Ok n) t u v x h k = absurd (refused_read r h.0 k.was_read)
+  same (Err (again.OutputShort n)) (Err (again.Reading r)) t u v x h k = absurd (refused_read r k.0 h.0.was_read)
+  same (Err (again.OutputShort n)) (Err (again.OutputShort m)) t u v x h k = (ap (λ (x : ℕ). Err (again.OutputShort x)) (h.0.place_is ∙ sym k.0.place_is), h.1 ∙ sym k.1, h.2 ∙ sym k.2)
+  same (Err (again.OutputShort n)) (Ok m) t u v x h k = absurd (short_kept h.0 k)
+  same (Ok n) (Err (again.Reading r)) t u v x h k = absurd (refused_read r k.0 h.was_read)
+  same (Ok n) (Err (again.OutputShort m)) t u v x h k = absurd (short_kept k.0 h)
+  same (Ok n) (Ok m) t u v x h k =
       let e : again_bytes h.was_read ≡ again_bytes k.was_read = sym (bytes h.was_read) ∙ bytes k.was_read in
       let f : n ≡ m = h.size ∙ ap length e ∙ sym k.size in (
-        ap Stored f,
+        ap Ok f,
         same_rows h.was_read k.was_read,
         h.out_is ∙ ap₂ (λ (bs : List ℕ) (i : ℕ). bs ++ replicate (o - i) 0) e f ∙ sym k.out_is,
       )
@@ -86,13 +86,13 @@ module _ (s : List ℕ) (w o : ℕ) (a : Again) (t v : List ℕ) (p : Permitted 
   is : (b : Again) → Permitted s w o b (replicate w 0) (replicate o 0) → a ≡ b
   is b q = (same s w o a b t (replicate w 0) v (replicate o 0) p q).0
 
-  not_stored : (a ≡ Refused NotStored) ↔ ((n : List ℕ) (items : List StoredItem) → stored.Stored form_one s n items → ⊥)
-  not_stored = ((λ e. (taken_as (Refused NotStored) e).0.0), λ h. is (Refused NotStored) ((h, refl), refl))
+  not_stored : (a ≡ Err (again.Reading NotStored)) ↔ ((n : List ℕ) (items : List StoredItem) → stored.Stored form_one s n items → ⊥)
+  not_stored = ((λ e. (taken_as (Err (again.Reading NotStored)) e).0.0), λ h. is (Err (again.Reading NotStored)) ((h, refl), refl))
 
-  items_short : (a ≡ Refused (ItemsShort (reading.stored_rows_in w))) ↔ ((n : List ℕ) × (items : List StoredItem) × stored.Stored form_one s n items × (reading.stored_rows_in w < length items))
+  items_short : (a ≡ Err (again.Reading (ItemsShort (reading.stored_rows_in w)))) ↔ ((n : List ℕ) × (items : List StoredItem) × stored.Stored form_one s n items × (reading.stored_rows_in w < length items))
   items_short = (
-    (λ e. let d = (taken_as (Refused (ItemsShort (reading.stored_rows_in w))) e).0.0 in (d.name, d.items, d.stored, d.short)),
-    λ h. is (Refused (ItemsShort (reading.stored_rows_in w))) ((record { name = h.0; items = h.1; stored = h.2; short = h.3; rows_are = refl }, refl), refl),
+    (λ e. let d = (taken_as (Err (again.Reading (ItemsShort (reading.stored_rows_in w)))) e).0.0 in (d.name, d.items, d.stored, d.short)),
+    λ h. is (Err (again.Reading (ItemsShort (reading.stored_rows_in w)))) ((record { name = h.0; items = h.1; stored = h.2; short = h.3; rows_are = refl }, refl), refl),
   )
 
   abbrev read_back : (n : List ℕ) (items : List StoredItem) → stored.Stored form_one s n items → length items ≤ reading.stored_rows_in w
@@ -104,11 +104,11 @@ module _ (s : List ℕ) (w o : ℕ) (a : Again) (t v : List ℕ) (p : Permitted 
     back = record { name = n; items = items; stored = h; room = l; first_is = refl; size_is = refl; count_is = refl; rows_are = refl };
   }
 
-  output_short : (a ≡ OutputShort o)
+  output_short : (a ≡ Err (again.OutputShort o))
       ↔ ((n : List ℕ) × (items : List StoredItem) × stored.Stored form_one s n items × (length items ≤ reading.stored_rows_in w) × (o < length (stored_bytes form_one n items)))
   output_short = (
-    (λ e. let d = (taken_as (OutputShort o) e).0 in let b = d.was_read.back in (b.name, b.items, b.stored, b.room, d.short)),
-    λ h. is (OutputShort o) (record { rows = _; was_read = read_back h.0 h.1 h.2 h.3; short = h.4; place_is = refl }, refl, refl),
+    (λ e. let d = (taken_as (Err (again.OutputShort o)) e).0 in let b = d.was_read.back in (b.name, b.items, b.stored, b.room, d.short)),
+    λ h. is (Err (again.OutputShort o)) (record { rows = _; was_read = read_back h.0 h.1 h.2 h.3; short = h.4; place_is = refl }, refl, refl),
   )
 
 pub refused_exactly : RefusedExactly
@@ -117,7 +117,7 @@ refused_exactly s w o a t v p = (not_stored s w o a t v p, items_short s w o a t
 -- ---- the same bytes
 
 pub same_bytes_lem : SameBytes
-same_bytes_lem s w o f z c t b l a u v p = same s w o a (Stored (length s)) u t v (s ++ replicate (o - length s) 0) p (keeps s w o (record { first = f; size = z; count = c; back = b }) l)
+same_bytes_lem s w o f z c t b l a u v p = same s w o a (Ok (length s)) u t v (s ++ replicate (o - length s) 0) p (keeps s w o (record { first = f; size = z; count = c; back = b }) l)
 
 -- ---- an answer to all bytes
 
@@ -126,12 +126,12 @@ module _ (s : List ℕ) (w o : ℕ) where
   Some = (a : Again) × (t : List ℕ) × (v : List ℕ) × Permitted s w o a t v
 
   by_room : (t : List ℕ) → WasRead s w t → (b : Bool) → ltb o (length s) ≡ b → Some
-  by_room t x true e = (OutputShort o, replicate w 0, replicate o 0, (shorts s w o x (ltb-true o (length s) e), refl, refl))
-  by_room t x false e = (Stored (length s), t, s ++ replicate (o - length s) 0, keeps s w o x (ltb-false o (length s) e))
+  by_room t x true e = (Err (again.OutputShort o), replicate w 0, replicate o 0, (shorts s w o x (ltb-true o (length s) e), refl, refl))
+  by_room t x false e = (Ok (length s), t, s ++ replicate (o - length s) 0, keeps s w o x (ltb-false o (length s) e))
 
   by_reading : (a : StoredReading) (t : List ℕ) → reading.Permitted s w a t → Some
-  by_reading (answer.Refused r) t p = (Refused r, t, replicate o 0, (p, refl))
-  by_reading (answer.Read f z c) t p = by_room t (record { first = f; size = z; count = c; back = p }) (ltb o (length s)) refl
+  by_reading (Err r) t p = (Err (again.Reading r), t, replicate o 0, (p, refl))
+  by_reading (Ok x) t p = by_room t (record { first = x.name; size = x.length; count = x.items; back = p }) (ltb o (length s)) refl
 
 pub answered : Answered
 answered s b w o = by_reading s w o (stored_answer (decode form_one s) w) (stored_rows (decode form_one s) w) (permits s w b)

@@ -29,11 +29,11 @@ module _ (row : List ℕ) (class kind low : ℕ) (r : StoredValue) where
 
 -- ---- a row's field
 
-pub row_put : {t t' : List ℕ} {at r : ℕ} (s row : List ℕ) (v : StoredValue) (first n : ℕ) (m name : List ℕ) → v ≡ row_value row → first ≡ get_or row 1 0 → n ≡ get_or row 2 0 → m ≡ drop first s
-    → name ≡ take n m → Wrote t at (field_put (item_field (record { value = v; name = as_stored false name }))) t' r → Wrote t at (field_put (item_field (row_item s row))) t' r
+pub row_put : {t t' : List ℕ} {at r : ℕ} (s row : List ℕ) (v : StoredValue) (first n : ℕ) (name : List ℕ) → v ≡ row_value row → first ≡ get_or row 1 0 → n ≡ get_or row 2 0 → name ≡ take n (drop first s)
+    → Wrote t at (field_put (item_field (record { value = v; name = as_stored false name }))) t' r → Wrote t at (field_put (item_field (row_item s row))) t' r
 unfolding row_item
-row_put s row v first n m name a b c d e w =
-    let p : take (get_or row 2 0) (drop (get_or row 1 0) s) ≡ as_stored false name = sym (as_it_stands name ∙ e ∙ rw (d, b, c)) in
+row_put s row v first n name a b c e w =
+    let p : take (get_or row 2 0) (drop (get_or row 1 0) s) ≡ as_stored false name = sym (as_it_stands name ∙ e ∙ rw (b, c)) in
     named (ap₂ (λ (x : StoredValue) (y : List ℕ). field_put (item_field (record { value = x; name = y }))) (sym a) p) w
 
 -- ---- rows one after the other
@@ -58,9 +58,9 @@ module _ (s rows : List ℕ) where
 
 -- ---- the table
 
-pub table_put_lem : {t t₁ t₂ t₃ : List ℕ} {a b c d : ℕ} (s rows : List ℕ) (first size n : ℕ) (m name : List ℕ) → m ≡ drop first s → name ≡ take size m → Wrote t a (field_put (name_field (as_stored false name))) t₁ b
+pub table_put_lem : {t t₁ t₂ t₃ : List ℕ} {a b c d : ℕ} (s rows : List ℕ) (first size n : ℕ) (name : List ℕ) → name ≡ take size (drop first s) → Wrote t a (field_put (name_field (as_stored false name))) t₁ b
     → Wrote t₁ b (fields_put (map item_field (row_items s rows n))) t₂ c → Wrote t₂ c (fields_bytes []) t₃ d → Wrote t a (table_put s first size rows n) t₃ d
 unfolding table_put
-table_put_lem s rows first size n m name p q u v w =
-    let e : take size (drop first s) ≡ as_stored false name = sym (as_it_stands name ∙ q ∙ rw p) in
+table_put_lem s rows first size n name q u v w =
+    let e : take size (drop first s) ≡ as_stored false name = sym (as_it_stands name ∙ q) in
     then3 (named (ap (λ (l : List ℕ). field_put (name_field l)) e) u) v w

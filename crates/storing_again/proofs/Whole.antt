@@ -1,4 +1,5 @@
 -- What the code puts of a table that is read is its bytes, and each way through storing again is permitted. Assumes nothing.
+use Rattle.std.specs.Prelude.{Ok, Err, IsErrAnd}
 use mathlib.Core.Path.{◌≡◌, sym, ap, ap₂, subst, ◌∙◌}
 use mathlib.Core.List.{List, [], ◌∷◌, ◌++◌, map, append_assoc}
 use Prim.Native.Nat.{ℕ, ◌+◌, ◌-◌, ◌*◌, ◌≤◌, ◌<◌}
@@ -12,15 +13,16 @@ use Rattle.stored.specs.Stored.{form_one, stored_bytes}
 use Rattle.stored_reading.specs.StoredRows.{stored_rows_from}
 use Rattle.stored_reading.specs.Permitted as reading
 use Rattle.stored_reading.specs.declared.StoredRefusal.{StoredRefusal}
-use Rattle.stored_reading.specs.declared.StoredReading.{StoredReading}
-use Rattle.stored_reading.specs.declared.StoredReading.TheVariants as answer
+use Rattle.stored_reading.specs.Permitted.{StoredReading}
 use Rattle.stored_reading.proofs.Whole.{length_cells}
 use Rattle.stored_reading.proofs.Promises.{names_stand}
 use Rattle.stored_writing.specs.Written.{field_put, fields_put}
 use Rattle.stored_writing.proofs.Puts.{fields_put_lem, filled}
 use Rattle.storing_again.specs.Permitted.{WasRead, again_bytes, Permitted}
 use Rattle.storing_again.specs.code.RowItems.{row_items, table_put}
-use Rattle.storing_again.specs.declared.Again.TheVariants.{Refused, OutputShort, Stored}
+use Rattle.storing_again.specs.Refusals.{Again}
+use Rattle.storing_again.specs.declared.AgainRefusal.{AgainRefusal}
+use Rattle.storing_again.specs.declared.AgainRefusal.TheVariants as again
 use Rattle.storing_again.proofs.RowItems.{items_back}
 
 -- ---- the bytes of what was read
@@ -65,10 +67,13 @@ module _ (s : List ℕ) (w : ℕ) (f : BytePlace) (z c : ℕ) (rows : List ℕ) 
 -- ---- the ways through storing again
 
 module _ (s : List ℕ) (w o : ℕ) (x : StoredReading) (rows : List ℕ) (p : reading.Permitted s w x rows) where
-  pub way_refused : (r : StoredRefusal) (out : List ℕ) → x ≡ answer.Refused r → out ≡ replicate o 0 → Permitted s w o (Refused r) rows out
-  way_refused r out e z = (subst (λ (a : StoredReading). reading.Permitted s w a rows) e p, z)
+  -- what `?` makes of reading's refusal
+  pub way_refused : (r : StoredRefusal) (a : Again) (out : List ℕ) → x ≡ Err r → IsErrAnd a (λ e. e ≡ again.Reading r) → out ≡ replicate o 0 → Permitted s w o a rows out
+  way_refused r (Ok n) out e q z = absurd q
+  way_refused r (Err y) out e q z =
+      subst (λ (b : AgainRefusal). Permitted s w o (Err b) rows out) (sym q) (subst (λ (a : StoredReading). reading.Permitted s w a rows) e p, z)
 
-  module _ (f : BytePlace) (z c : ℕ) (e : x ≡ answer.Read f z c) where
+  module _ (f : BytePlace) (z c : ℕ) (e : x ≡ reading.read_table f z c) where
     back : reading.Back s w f z c rows
     back = subst (λ (a : StoredReading). reading.Permitted s w a rows) e p
 
@@ -81,7 +86,7 @@ module _ (s : List ℕ) (w o : ℕ) (x : StoredReading) (rows : List ℕ) (p : r
     pub asked : 6 * c ≤ length rows
     asked = rows_there s w f z c rows back
 
-    pub way_short : (rows' out : List ℕ) → length out < length s → rows' ≡ replicate (length rows) 0 → out ≡ replicate o 0 → Permitted s w o (OutputShort (length out)) rows' out
+    pub way_short : (rows' out : List ℕ) → length out < length s → rows' ≡ replicate (length rows) 0 → out ≡ replicate o 0 → Permitted s w o (Err (again.OutputShort (length out))) rows' out
     way_short rows' out l a b =
         let q : length out ≡ o = ap length b ∙ length-replicate o 0 in (
           record { rows = rows; was_read = read; short = omega (arith, ap length bytes); place_is = q },
@@ -89,7 +94,7 @@ module _ (s : List ℕ) (w o : ℕ) (x : StoredReading) (rows : List ℕ) (p : r
           b,
         )
 
-    pub way_stored : (r : ℕ) (out out' : List ℕ) → length s ≤ length out → out ≡ replicate o 0 → Wrote out 0 (table_put s f.0 z rows c) out' r → Permitted s w o (Stored r) rows out'
+    pub way_stored : (r : ℕ) (out out' : List ℕ) → length s ≤ length out → out ≡ replicate o 0 → Wrote out 0 (table_put s f.0 z rows c) out' r → Permitted s w o (Ok r) rows out'
     way_stored r out out' l b v =
         let q : length out ≡ o = ap length b ∙ length-replicate o 0 in
         let u : Wrote out 0 (again_bytes read) out' r = subst (λ (bs : List ℕ). Wrote out 0 bs out' r) (table_is s w f z c rows back) v in

@@ -1,12 +1,11 @@
 -- What storing again what was read may answer, and leave in the item table of so many words and the output of so many bytes that it is lent: one
 -- predicate, which is the contract. Assumes nothing: these are definitions.
-use Rattle.std.specs.Prelude.{ℕ, ◌-◌, ◌≤◌, ◌<◌, ◌≡◌, List, ◌++◌, length, replicate}
+use Rattle.std.specs.Prelude.{ℕ, ◌-◌, ◌≤◌, ◌<◌, ◌≡◌, List, ◌++◌, length, replicate, Ok, Err}
 use Rattle.places.specs.declared.BytePlace.{BytePlace}
 use Rattle.stored.specs.Stored.{form_one, stored_bytes}
 use Rattle.stored_reading.specs.Permitted as reading
-use Rattle.stored_reading.specs.declared.StoredReading.TheVariants as answer
-use Rattle.storing_again.specs.declared.Again.{Again}
-use Rattle.storing_again.specs.declared.Again.TheVariants.{Refused, OutputShort, Stored}
+use Rattle.storing_again.specs.Refusals.{Again}
+use Rattle.storing_again.specs.declared.AgainRefusal.TheVariants as again
 
 -- a table that is read, with what reading answers and the rows that it leaves
 pub record WasRead (s : List ℕ) (words : ℕ) (rows : List ℕ) : Type 0 where
@@ -35,6 +34,6 @@ pub record ShortOutput (s : List ℕ) (words room place : ℕ) : Type 0 where
 
 -- reading's refusals are given as reading gives them; "The output is zeros after any."
 abbrev pub Permitted : List ℕ → ℕ → ℕ → Again → List ℕ → List ℕ → Type 0
-Permitted s words room (Refused r) rows out = reading.Permitted s words (answer.Refused r) rows × (out ≡ replicate room 0)
-Permitted s words room (OutputShort place) rows out = ShortOutput s words room place × (rows ≡ replicate words 0) × (out ≡ replicate room 0)
-Permitted s words room (Stored n) rows out = KeptAgain s words room n rows out
+Permitted s words room (Err (again.Reading r)) rows out = reading.Permitted s words (Err r) rows × (out ≡ replicate room 0)
+Permitted s words room (Err (again.OutputShort place)) rows out = ShortOutput s words room place × (rows ≡ replicate words 0) × (out ≡ replicate room 0)
+Permitted s words room (Ok n) rows out = KeptAgain s words room n rows out

@@ -1,6 +1,6 @@
 -- What storing again what was read promises beside its contract, as statements: proofs/Promises.antt proves each. Assumes nothing: these are
 -- definitions.
-use Rattle.std.specs.Prelude.{ℕ, ◌-◌, ◌≤◌, ◌<◌, ◌≡◌, ◌↔◌, List, ◌++◌, length, get_or, replicate}
+use Rattle.std.specs.Prelude.{ℕ, ◌-◌, ◌≤◌, ◌<◌, ◌≡◌, ◌↔◌, List, ◌++◌, length, get_or, replicate, Ok, Err}
 use Rattle.places.specs.declared.BytePlace.{BytePlace}
 use Rattle.stored.specs.Fields.{all_bytes}
 use Rattle.stored.specs.StoredItems.{StoredItem}
@@ -8,10 +8,9 @@ use Rattle.stored.specs.Stored.{form_one, stored_bytes}
 use Rattle.stored.specs.Stored as stored
 use Rattle.stored_reading.specs.Permitted as reading
 use Rattle.stored_reading.specs.declared.StoredRefusal.TheVariants.{NotStored, ItemsShort}
-use Rattle.stored_reading.specs.declared.StoredReading.TheVariants as answer
 use Rattle.storing_again.specs.Permitted.{Permitted}
-use Rattle.storing_again.specs.declared.Again.{Again}
-use Rattle.storing_again.specs.declared.Again.TheVariants.{Refused, OutputShort, Stored}
+use Rattle.storing_again.specs.Refusals.{Again}
+use Rattle.storing_again.specs.declared.AgainRefusal.TheVariants as again
 
 -- There is a right answer to all bytes, with a table and an output of any size.
 abbrev pub Answered : Type 0
@@ -29,14 +28,14 @@ NoChoice =
 abbrev pub RefusedExactly : Type 0
 RefusedExactly =
     (s : List ℕ) (words room : ℕ) (a : Again) (rows out : List ℕ) → Permitted s words room a rows out
-    → ((a ≡ Refused NotStored) ↔ ((n : List ℕ) (items : List StoredItem) → stored.Stored form_one s n items → ⊥))
-    × ((a ≡ Refused (ItemsShort (reading.stored_rows_in words))) ↔ ((n : List ℕ) × (items : List StoredItem) × stored.Stored form_one s n items × (reading.stored_rows_in words < length items)))
-    × ((a ≡ OutputShort room)
+    → ((a ≡ Err (again.Reading NotStored)) ↔ ((n : List ℕ) (items : List StoredItem) → stored.Stored form_one s n items → ⊥))
+    × ((a ≡ Err (again.Reading (ItemsShort (reading.stored_rows_in words)))) ↔ ((n : List ℕ) × (items : List StoredItem) × stored.Stored form_one s n items × (reading.stored_rows_in words < length items)))
+    × ((a ≡ Err (again.OutputShort room))
     ↔ ((n : List ℕ) × (items : List StoredItem) × stored.Stored form_one s n items × (length items ≤ reading.stored_rows_in words) × (room < length (stored_bytes form_one n items))))
 
 -- "storing what was read gives the same bytes": all bytes that are read, where the output has room for as many.
 abbrev pub SameBytes : Type 0
 SameBytes =
-    (s : List ℕ) (words room : ℕ) (first : BytePlace) (size count : ℕ) (read : List ℕ) → reading.Permitted s words (answer.Read first size count) read
+    (s : List ℕ) (words room : ℕ) (first : BytePlace) (size count : ℕ) (read : List ℕ) → reading.Permitted s words (reading.read_table first size count) read
     → length s ≤ room → (a : Again) (rows out : List ℕ) → Permitted s words room a rows out
-    → (a ≡ Stored (length s)) × (rows ≡ read) × (out ≡ s ++ replicate (room - length s) 0)
+    → (a ≡ Ok (length s)) × (rows ≡ read) × (out ≡ s ++ replicate (room - length s) 0)

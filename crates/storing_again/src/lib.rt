@@ -6,39 +6,47 @@ ghost use Rattle.puts.specs.Puts.{Wrote};
 ghost use Rattle.stored.specs.StoredItems.{item_field};
 ghost use Rattle.stored_reading.specs.StoredRows.{stored_row_words};
 ghost use Rattle.stored_writing.specs.Written.{field_put, fields_put};
+ghost use Rattle.storing_again.specs.declared.AgainRefusal.TheVariants.{Reading};
 ghost use Rattle.storing_again.specs.Refusals.{again_number, again_place};
 ghost use Rattle.storing_again.specs.Permitted.{Permitted};
 ghost use Rattle.storing_again.specs.code.RowItems.{row_constant, row_subtype, row_value, row_item, row_items, table_put};
 
 use stored::StoredValue;
-use stored_reading::{ROW_WORDS, StoredReading, StoredRefusal};
+use stored_reading::{ROW_WORDS, StoredRefusal};
 
-// What storing again comes to: reading's refusal; 22, "output short", with the room there is; or how many bytes were written.
+// Why what was read isn't stored again: reading's refusal; 22, "output short", with the room there is.
 #[derive(Clone, Copy)]
-pub enum Again {
-    Refused(StoredRefusal),
+pub enum AgainRefusal {
+    Reading(StoredRefusal),
     OutputShort(usize),
-    Stored(usize),
 }
 
-// The number and the place of a refusal, 0 and 0 where it is stored.
-pub fn again_number(a: Again) -> u64
-    ensures { result ≡ again_number a }
-{
-    match a {
-        Again::Refused(r) => stored_reading::stored_number(r),
-        Again::OutputShort(_) => refusals::OUTPUT_SHORT,
-        Again::Stored(_) => 0,
+impl From<StoredRefusal> for AgainRefusal {
+    ghost from_gives = { λ r e. e ≡ Reading r };
+
+    fn from(r: StoredRefusal) -> AgainRefusal {
+        AgainRefusal::Reading(r)
     }
 }
 
-pub fn again_place(a: Again) -> usize
+// The number and the place of a refusal, 0 and 0 where it is stored.
+pub fn again_number(a: Result<usize, AgainRefusal>) -> u64
+    ensures { result ≡ again_number a }
+{
+    match a {
+        Err(AgainRefusal::Reading(r)) => stored_reading::stored_number(r),
+        Err(AgainRefusal::OutputShort(_)) => refusals::OUTPUT_SHORT,
+        Ok(_) => 0,
+    }
+}
+
+pub fn again_place(a: Result<usize, AgainRefusal>) -> usize
     ensures { result ≡ again_place a }
 {
     match a {
-        Again::Refused(r) => stored_reading::stored_place(r),
-        Again::OutputShort(room) => room,
-        Again::Stored(_) => 0,
+        Err(AgainRefusal::Reading(r)) => stored_reading::stored_place(r),
+        Err(AgainRefusal::OutputShort(room)) => room,
+        Ok(_) => 0,
     }
 }
 
@@ -82,7 +90,7 @@ fn put_row(bytes: &[u8], row: &[u64], out: &mut [u8], at: usize) -> usize
     let v = value_in(row);
     let first = lent_tables::word_at(row, stored_reading::NAME_PLACE) as usize;
     let n = lent_tables::word_at(row, stored_reading::NAME_SIZE) as usize;
-    let name = lent_tables::front(stored::rest(bytes, first), n);
+    let name = stored::part(bytes, first, n);
     stored_writing::put_item(v, false, name, out, at)
 }
 
@@ -92,15 +100,13 @@ fn put_rows(bytes: &[u8], rows: &[u64], n: usize, out: &mut [u8], at: usize) -> 
     ensures { Wrote out.old at (fields_put (map item_field (row_items bytes.now rows.now n))) out.new result }
 {
     let mut w = puts::put_none(out, at);
-    let mut i: usize = 0;
-    while i < n {
+    for i in 0..n {
         w = put_row(
             bytes,
             puts::words_from(rows, ROW_WORDS * i, ROW_WORDS),
             out,
             w,
         );
-        i += 1;
     }
     w
 }
@@ -117,7 +123,7 @@ fn put_table(
     requires { stored_row_words * n ≤ length rows.now }
     ensures { Wrote out.old 0 (table_put bytes.now first size rows.now n) out.new result }
 {
-    let name = lent_tables::front(stored::rest(bytes, first), size);
+    let name = stored::part(bytes, first, size);
     let a = stored_writing::put_package(false, name, out, 0);
     let b = put_rows(bytes, rows, n, out, a);
     stored_writing::put_end(out, b)
@@ -125,20 +131,16 @@ fn put_table(
 
 // Reads a stored table and stores what was read: the rows are left as reading leaves them; on a refusal they are all zeros, and so is the output.
 // What is put has as many bytes as what was read: so the room is asked for before any is put.
-pub fn store_again(bytes: &[u8], items: &mut [u64], out: &mut [u8]) -> Again
+pub fn store_again(bytes: &[u8], items: &mut [u64], out: &mut [u8]) -> Result<usize, AgainRefusal>
     ensures { Permitted bytes.now (length items.old) (length out.old) result items.new out.new }
 {
     puts::clear_from(out, 0);
-    match stored_reading::read_stored(bytes, items) {
-        StoredReading::Refused(r) => Again::Refused(r),
-        StoredReading::Read(place, size, count) => {
-            let room = out.len();
-            if room < bytes.len() {
-                lent_tables::clear(items);
-                return Again::OutputShort(room);
-            }
-            let first = place.0;
-            Again::Stored(put_table(bytes, first, size, items, count, out))
-        },
+    let table = stored_reading::read_stored(bytes, items)?;
+    let room = out.len();
+    if room < bytes.len() {
+        lent_tables::clear(items);
+        return Err(AgainRefusal::OutputShort(room));
     }
+    let first = table.name.0;
+    Ok(put_table(bytes, first, table.length, items, table.items, out))
 }

@@ -19,8 +19,7 @@ use Rattle.element_reading.specs.Reading.{table_of}
 use Rattle.element_reading.specs.Given.{element_count, Taken}
 use Rattle.element_reading.proofs.Answers.{taken_read, table_read, table_length}
 use Rattle.tree.specs.code.Answers.{elements_counted}
-use Rattle.strict_reading.specs.declared.Unread.{Unread}
-use Rattle.strict_reading.specs.declared.Unread.TheVariants as U
+use Rattle.std.specs.Prelude.{Option, Some, None}
 use Rattle.strict_reading.specs.code.Strict.{unreadable_from}
 use Rattle.strict_reading.specs.Given.{UnreadableIn, FirstUnreadable, NoneUnreadable}
 
@@ -45,19 +44,19 @@ unreadable_kind_lem (Kind.Delimiter n) e = absurd (omega arith)
 unreadable_kind_lem (Kind.Reserved n) e = absurd (omega arith)
 
 -- the search for an unreadable element among rows of which the first is number i
-abbrev SearchSays : ℕ → List ElementRow → Unread → Type 0
-SearchSays i rs (U.At k) = (m : ℕ) × ((k ≡ i + m) × FirstUnreadable rs m)
-SearchSays i rs U.Nothing = NoneUnreadable rs
+abbrev SearchSays : ℕ → List ElementRow → Option ℕ → Type 0
+SearchSays i rs (Some k) = (m : ℕ) × ((k ≡ i + m) × FirstUnreadable rs m)
+SearchSays i rs None = NoneUnreadable rs
 
-found_later : (i : ℕ) (r : ElementRow) (rs : List ElementRow) (f : Unread) → (r.kind ≡ Kind.Unreadable → ⊥) → SearchSays (suc i) rs f → SearchSays i (r ∷ rs) f
-found_later i r rs (U.At k) d s =
+found_later : (i : ℕ) (r : ElementRow) (rs : List ElementRow) (f : Option ℕ) → (r.kind ≡ Kind.Unreadable → ⊥) → SearchSays (suc i) rs f → SearchSays i (r ∷ rs) f
+found_later i r rs (Some k) d s =
     let p = s.1.0 in
     (suc s.0, (omega arith, (s.1.1.0, λ j l. before j (omega arith))))
   where
     before : (j : ℕ) → j < suc s.0 → UnreadableIn (r ∷ rs) j → ⊥
     before zero l u = d u
     before (suc j) l u = s.1.1.1 j (omega arith) u
-found_later i r rs U.Nothing d s = none
+found_later i r rs None d s = none
   where
     none : NoneUnreadable (r ∷ rs)
     none zero u = d u
@@ -79,7 +78,7 @@ search_says [] i = λ e u. u
 search_says (r ∷ rs) i = go (eqb (kind_number r.kind) 7) refl (search_says rs (suc i))
   where
     go : (b : Bool) → eqb (kind_number r.kind) 7 ≡ b → SearchSays (suc i) rs (unreadable_from (suc i) (numbers rs))
-        → SearchSays i (r ∷ rs) (elim b [ true ↦ U.At i | false ↦ unreadable_from (suc i) (numbers rs) ])
+        → SearchSays i (r ∷ rs) (elim b [ true ↦ Some i | false ↦ unreadable_from (suc i) (numbers rs) ])
     go true e s = (0, (omega arith, (unreadable_kind_lem r.kind (eqb-true (kind_number r.kind) 7 e), λ j m. absurd (omega arith))))
     go false e s =
         found_later i r rs (unreadable_from (suc i) (numbers rs))
@@ -87,9 +86,9 @@ search_says (r ∷ rs) i = go (eqb (kind_number r.kind) 7) refl (search_says rs 
         s
 
 -- what the search among a text's elements says, and where it ends by what is said
-abbrev pub UnreadSays : List ElementRow → Unread → Type 0
-UnreadSays rs (U.At k) = FirstUnreadable rs k
-UnreadSays rs U.Nothing = NoneUnreadable rs
+abbrev pub UnreadSays : List ElementRow → Option ℕ → Type 0
+UnreadSays rs (Some k) = FirstUnreadable rs k
+UnreadSays rs None = NoneUnreadable rs
 
 module _ (text : List ℕ) (ew : ℕ) (t : Taken text ew) where
   pub unread_says : UnreadSays (rows_of text) (unreadable_from 0 (kinds_of (element_count text) (table_of text ew)))
@@ -97,24 +96,24 @@ module _ (text : List ℕ) (ew : ℕ) (t : Taken text ew) where
       rw (table_read text ew (taken_read text ew t), kinds_rows (rows_of text) (replicate (ew - row_words * element_count text) 0))
       (from (unreadable_from 0 (numbers (rows_of text))) (search_says (rows_of text) 0))
     where
-      from : (f : Unread) → SearchSays 0 (rows_of text) f → UnreadSays (rows_of text) f
-      from (U.At k) s = let z : s.0 ≡ k = (let p = s.1.0 in omega arith) in subst (FirstUnreadable (rows_of text)) z s.1.1
-      from U.Nothing s = s
+      from : (f : Option ℕ) → SearchSays 0 (rows_of text) f → UnreadSays (rows_of text) f
+      from (Some k) s = let z : s.0 ≡ k = (let p = s.1.0 in omega arith) in subst (FirstUnreadable (rows_of text)) z s.1.1
+      from None s = s
 
-  pub none_unread : NoneUnreadable (rows_of text) → unreadable_from 0 (kinds_of (element_count text) (table_of text ew)) ≡ U.Nothing
+  pub none_unread : NoneUnreadable (rows_of text) → unreadable_from 0 (kinds_of (element_count text) (table_of text ew)) ≡ None
   none_unread d = go (unreadable_from 0 (kinds_of (element_count text) (table_of text ew))) unread_says
     where
-      go : (f : Unread) → UnreadSays (rows_of text) f → f ≡ U.Nothing
-      go (U.At k) s = absurd (d k s.0)
-      go U.Nothing s = refl
+      go : (f : Option ℕ) → UnreadSays (rows_of text) f → f ≡ None
+      go (Some k) s = absurd (d k s.0)
+      go None s = refl
 
-  pub first_unread : (e : ℕ) → FirstUnreadable (rows_of text) e → unreadable_from 0 (kinds_of (element_count text) (table_of text ew)) ≡ U.At e
+  pub first_unread : (e : ℕ) → FirstUnreadable (rows_of text) e → unreadable_from 0 (kinds_of (element_count text) (table_of text ew)) ≡ Some e
   first_unread e d = go (unreadable_from 0 (kinds_of (element_count text) (table_of text ew))) unread_says
     where
-      go : (f : Unread) → UnreadSays (rows_of text) f → f ≡ U.At e
-      go (U.At k) s =
+      go : (f : Option ℕ) → UnreadSays (rows_of text) f → f ≡ Some e
+      go (Some k) s =
           let a : e < suc k = lt_of_not-le (λ l. d.1 k (omega arith) s.0) in
           let b : k < suc e = lt_of_not-le (λ l. s.1 e (omega arith) d.0) in
           let z : k ≡ e = omega arith in
-          ap U.At z
-      go U.Nothing s = absurd (s e d.0)
+          ap Some z
+      go None s = absurd (s e d.0)

@@ -6,83 +6,87 @@ ghost use Rattle.places.specs.Places.{row_words, kinds_of};
 ghost use Rattle.strict_reading.specs.Permitted.{Permitted};
 ghost use Rattle.strict_reading.specs.code.Strict.{unreadable_from, elements_as, file_of, tree_table, kept_by_strict, tree_as};
 
-use element_reading::Reading;
 use places::ElementNumber;
 use refusals::StrictRefusal;
-use tree::Answer;
 use verdict::Verdict;
-
-#[derive(Clone, Copy)]
-pub enum Unread {
-    At(usize),
-    Nothing,
-}
 
 // How many rows the tree has, and the verdict on them.
 #[derive(Clone, Copy)]
-pub enum Strict {
-    Read(usize, Verdict),
-    Refused(StrictRefusal),
+pub struct Judgement {
+    pub rows: usize,
+    pub verdict: Verdict,
 }
 
 // The first unreadable of a table's elements.
-fn first_unreadable(elements: &[u64], count: usize) -> Unread
+fn first_unreadable(elements: &[u64], count: usize) -> Option<usize>
     requires { row_words * count ≤ length elements.now }
     ensures { result ≡ unreadable_from 0 (kinds_of count elements.now) }
 {
-    let mut i = 0;
-    while i < count {
+    for i in 0..count {
         if places::kind_of(elements, ElementNumber(i)) == places::UNREADABLE {
-            return Unread::At(i);
+            return Some(i);
         }
-        i += 1;
     }
-    Unread::Nothing
+    None
 }
 
 // Elements that are all readable, as a file.
-fn read_file(text: &[u8], elements: &mut [u64], count: usize, tree: &mut [u64]) -> Strict
+fn read_file(
+    text: &[u8],
+    elements: &mut [u64],
+    count: usize,
+    tree: &mut [u64],
+) -> Result<Judgement, StrictRefusal>
     ensures value { result ≡ file_of text.now elements.old count (length tree.old) }
     ensures elements_after { elements.new ≡ kept_by_strict (file_of text.now elements.old count (length tree.old)) elements.old }
     ensures tree_after { tree.new ≡ tree_table text.now elements.old count (length tree.old) }
 {
     match tree::read_tree(text, elements, count, tree) {
-        Answer::Tree(rows) => Strict::Read(rows, verdict::judge(tree, rows)),
-        Answer::Refused(r) => {
+        Ok(rows) => Ok(Judgement {
+            rows,
+            verdict: verdict::judge(tree, rows),
+        }),
+        Err(r) => {
             lent_tables::clear(elements);
-            Strict::Refused(r)
+            Err(r)
         },
     }
 }
 
 // Elements, readable or not, as a file.
-fn read_all(text: &[u8], elements: &mut [u64], count: usize, tree: &mut [u64]) -> Strict
+fn read_all(
+    text: &[u8],
+    elements: &mut [u64],
+    count: usize,
+    tree: &mut [u64],
+) -> Result<Judgement, StrictRefusal>
     requires { row_words * count ≤ length elements.old }
     ensures value { result ≡ elements_as text.now elements.old count (length tree.old) }
     ensures elements_after { elements.new ≡ kept_by_strict (elements_as text.now elements.old count (length tree.old)) elements.old }
     ensures tree_after { tree.new ≡ tree_as text.now elements.old count (length tree.old) }
 {
     match first_unreadable(elements, count) {
-        Unread::At(k) => {
+        Some(k) => {
             lent_tables::clear(elements);
             lent_tables::clear(tree);
-            Strict::Refused(StrictRefusal::Unreadable(ElementNumber(k)))
+            Err(StrictRefusal::Unreadable(ElementNumber(k)))
         },
-        Unread::Nothing => read_file(text, elements, count, tree),
+        None => read_file(text, elements, count, tree),
     }
 }
 
-pub fn read_strict(text: &[u8], elements: &mut [u64], tree: &mut [u64]) -> Strict
+pub fn read_strict(
+    text: &[u8],
+    elements: &mut [u64],
+    tree: &mut [u64],
+) -> Result<Judgement, StrictRefusal>
     ensures { Permitted text.now (length elements.old) (length tree.old) result elements.new tree.new }
 {
     match element_reading::read_elements(text, elements) {
-        Reading::Read(e) => {
-            let count = e.0;
-            read_all(text, elements, count, tree)
-        },
-        Reading::Refused(r) => {
+        Ok(count) => read_all(text, elements, count.0, tree),
+        Err(r) => {
             lent_tables::clear(tree);
-            Strict::Refused(StrictRefusal::Elements(r))
+            Err(StrictRefusal::Elements(r))
         },
     }
 }

@@ -9,7 +9,6 @@ use lib.ListN.{length, get_or, take, replicate}
 use Rattle.records.specs.Records.{word_at, is_item}
 use Rattle.pieces.specs.Columns as column
 use Rattle.records.specs.Tallies.{in_state}
-use Rattle.records.specs.declared.Tally.{Tally}
 use Rattle.states.specs.States as states
 use Rattle.values.specs.ValueWords.{state_of, value_kind, low_of, high_of, value_words}
 use Rattle.values.specs.declared.Value.{Value}
@@ -138,7 +137,7 @@ module _ (all : List Piece) (above : List Done) (p : Piece) where
 
 -- ---- a survey that is done
 
-module _ (text : List ℕ) (e i : ℕ) (y : Summary) (tally : Tally) (elements items : List ℕ) (f : Finished text e i y tally elements items) where
+module _ (text : List ℕ) (e i : ℕ) (y : Summary) (elements items : List ℕ) (f : Finished text e i y elements items) where
   abbrev ps : List Piece
   ps = pieces_of text
 
@@ -212,13 +211,13 @@ pub record Held (v : Value) (word : ℕ → ℕ) : Type 0 where
 
 pub of_items : (P : List Piece → List Done → Piece → (ℕ → ℕ) → Type 0)
     → ((all : List Piece) (above : List Done) (p : Piece) (word : ℕ → ℕ) → Held (value_of all above p) word → P all above p word) → OfItems P
-of_items P h text e i y tally elements items f j above a =
+of_items P h text e i y elements items f j above a =
     h (pieces_of text) above (piece_at (pieces_of text) j) (word_at items j)
     (record {
-      state_is = state_word_lem text e i y tally elements items f j above a;
-      kind_is = kind_word_lem text e i y tally elements items f j above a;
-      low_is = low_word text e i y tally elements items f j above a;
-      high_is = high_word text e i y tally elements items f j above a;
+      state_is = state_word_lem text e i y elements items f j above a;
+      kind_is = kind_word_lem text e i y elements items f j above a;
+      low_is = low_word text e i y elements items f j above a;
+      high_is = high_word text e i y elements items f j above a;
     })
 
 module _ (all : List Piece) (above : List Done) (p : Piece) (word : ℕ → ℕ) (h : Held (value_of all above p) word) where
@@ -247,16 +246,16 @@ module _ (all : List Piece) (above : List Done) (p : Piece) (word : ℕ → ℕ)
   pub none_held : (word column.state ≡ 0 → ⊥) → (word column.kind ≡ 0) × (word column.low ≡ 0) × (word column.high ≡ 0)
   none_held g = let n = no_number (value_of all above p) (λ z. g (h.state_is ∙ z)) in (h.kind_is ∙ n.0, h.low_is ∙ n.1, h.high_is ∙ n.2)
 
-module _ (text : List ℕ) (e i : ℕ) (y : Summary) (tally : Tally) (elements items : List ℕ) (f : Finished text e i y tally elements items) where
-  pub tallied : (k : ℕ) → k ≤ states.range → get_or tally.counts k 0 ≡ in_state k items 0 y.pieces
+module _ (text : List ℕ) (e i : ℕ) (y : Summary) (elements items : List ℕ) (f : Finished text e i y elements items) where
+  pub tallied : (k : ℕ) → k ≤ states.range → get_or y.tally.counts k 0 ≡ in_state k items 0 y.pieces
   tallied k l =
       f.counts k l
       ∙ sym (state_count k l f.dones (replicate (i - 8 * length (pieces_of text)) 0))
-      ∙ ap₂ (λ (t : List ℕ) (n : ℕ). in_state k t 0 n) (sym f.items_are) (size text e i y tally elements items f ∙ sym f.pieces)
+      ∙ ap₂ (λ (t : List ℕ) (n : ℕ). in_state k t 0 n) (sym f.items_are) (size text e i y elements items f ∙ sym f.pieces)
 
   pub whole_held : (y.whole ≡ true)
       ↔ (GoodFrame (pieces_of text) × ((j : ℕ) → j < length (pieces_of text) → is_item (class_of (piece_at (pieces_of text) j)) ≡ true → word_at items j column.state ≡ 0))
   whole_held = (
-    (λ w. let x = f.whole.0 w in (x.0, whole_to text e i y tally elements items f x.1)),
-    λ x. f.whole.1 (x.0, whole_from text e i y tally elements items f x.1),
+    (λ w. let x = f.whole.0 w in (x.0, whole_to text e i y elements items f x.1)),
+    λ x. f.whole.1 (x.0, whole_from text e i y elements items f x.1),
   )

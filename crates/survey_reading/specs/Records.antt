@@ -1,9 +1,8 @@
 -- How it is said what a caller reads off the item table that a survey leaves, record by record and word by word (01, "Pieces, items, states"): the
 -- window in `promises` has the statements, over the contract of `read_survey`. Assumes nothing: these are definitions.
-use Rattle.std.specs.Prelude.{ℕ, ◌<◌, ◌≡◌, true, List, []}
+use Rattle.std.specs.Prelude.{ℕ, ◌<◌, ◌≡◌, true, List, [], Ok}
 use Rattle.records.specs.Records.{word_at, is_item}
 use Rattle.pieces.specs.Columns as column
-use Rattle.records.specs.declared.Tally.{Tally}
 use Rattle.values.specs.ValueWords.{state_of, value_kind, low_of, high_of}
 use Rattle.values.specs.declared.Value.{Value}
 use Rattle.meaning.specs.Elements.{Piece}
@@ -15,14 +14,13 @@ use Rattle.meaning.specs.Values.{Gives}
 use Rattle.meaning.specs.Meaning.{Come}
 use Rattle.meaning.specs.Records.{record_count, piece_of, pieces_above}
 use Rattle.survey_reading.specs.Permitted.{Permitted}
-use Rattle.survey_reading.specs.declared.Ended.TheVariants as answer
 use Rattle.survey_reading.specs.declared.Summary.{Summary}
 
 -- what is said of every survey that is done: its text, what it answers, and the item table that it leaves, whatever sizes the lent tables have
-abbrev pub OfSurveys : (List ℕ → Summary → Tally → List ℕ → Type 0) → Type 0
+abbrev pub OfSurveys : (List ℕ → Summary → List ℕ → Type 0) → Type 0
 OfSurveys P =
-    (text : List ℕ) (element_words item_words : ℕ) (y : Summary) (tally : Tally) (elements items : List ℕ)
-    → Permitted text element_words item_words (record { outcome = answer.Done y; tally = tally }) elements items → P text y tally items
+    (text : List ℕ) (element_words item_words : ℕ) (y : Summary) (elements items : List ℕ)
+    → Permitted text element_words item_words (Ok y) elements items → P text y items
 
 -- record j of a text is an item's, and this is what the pieces above it come to
 pub record ItemAt (text : List ℕ) (j : ℕ) (above : List Done) : Type 0 where
@@ -33,7 +31,7 @@ pub record ItemAt (text : List ℕ) (j : ℕ) (above : List Done) : Type 0 where
 -- what is said of every item: the text's pieces, those above it with what they come to, its own piece, and the words of its record
 abbrev pub OfItems : (List Piece → List Done → Piece → (ℕ → ℕ) → Type 0) → Type 0
 OfItems P =
-    OfSurveys (λ text y tally items. (j : ℕ) (above : List Done) → ItemAt text j above → P (pieces_of text) above (piece_of (pieces_of text) j) (word_at items j))
+    OfSurveys (λ text y items. (j : ℕ) (above : List Done) → ItemAt text j above → P (pieces_of text) above (piece_of (pieces_of text) j) (word_at items j))
 
 -- what an item comes to that meets none of 1 to 6 and ends in none of 7 to 10, as its record holds it: kind and two numbers
 pub record Numbered (all : List Piece) (above : List Done) (p : Piece) (word : ℕ → ℕ) : Type 0 where

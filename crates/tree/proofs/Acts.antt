@@ -1,4 +1,5 @@
 -- What each action of the code makes of what the arrays hold is what the action makes of the state. Assumes nothing.
+use Rattle.std.specs.Prelude.{Ok, Err}
 use Prim.Native.Nat.{ℕ, zero, suc, ◌+◌, ◌*◌, ◌-◌, ◌≤◌, ◌<◌}
 use mathlib.Core.Path.{◌≡◌, refl, sym, ◌∙◌, ap, ap₂, subst}
 use mathlib.Core.Bool.{Bool, true, false, cond}
@@ -12,10 +13,8 @@ use Rattle.forms.specs.code.RuleActions.{State, Refusal, name_differs, fresh, to
 use Rattle.forms.proofs.Nesting.{top_size, joined_less, joined_few}
 use Rattle.places.specs.declared.ElementNumber.{ElementNumber}
 use Rattle.refusals.specs.declared.StrictRefusal.TheVariants as refusal
-use Rattle.tree.specs.declared.Did.{Did}
-use Rattle.tree.specs.declared.Did.TheVariants.{Went, Stopped}
 use Rattle.forms.specs.RowWords.{row_at}
-use Rattle.tree.specs.code.Held.{Frames, Held, ActionDone, used_after, pick_used}
+use Rattle.tree.specs.code.Held.{Frames, Held, ActionDone, used_after, pick_used, Did}
 use Rattle.tree.proofs.Lists.{four_pushed}
 use Rattle.tree.proofs.Holding as holding
 
@@ -73,13 +72,13 @@ module _ (frames cells next heads : List ℕ) (fp used depth k : ℕ) (alike : �
   After r f c n h a = ActionDone r f c n h (used_after a used) k (does alike a k s)
 
   pub act_opens : (a : ℕ) (F : List ℕ) → a ≡ 0 → 4 ≤ fp → fp ≤ length frames → F ≡ set (set (set (set frames (fp - 4) k) (fp - 4 + 1) k) (fp - 4 + 2) used) (fp - 4 + 3) 0
-      → After (Went (record { fp = fp - 4; depth = depth; used = used })) F cells next heads a
+      → After (Ok (record { fp = fp - 4; depth = depth; used = used })) F cells next heads a
   unfolding does
   act_opens a F z l m q =
       let e : drop (fp - 4) F ≡ k ∷ k ∷ used ∷ 0 ∷ drop fp frames = ap (drop (fp - 4)) q ∙ four_pushed frames (fp - 4) fp k k used 0 (omega arith) m in
       let n : length F ≡ length frames = ap length q ∙ simp length-set in
       let rm = held.room in
-      subst (After (Went (record { fp = fp - 4; depth = depth; used = used })) F cells next heads) (sym z) (
+      subst (After (Ok (record { fp = fp - 4; depth = depth; used = used })) F cells next heads) (sym z) (
         record {
           framed = subst (λ (x : List ℕ). Frames cells next heads used x (fresh k ∷ s.frames)) (sym e) (holding.framed_opens k held.framed);
           room = omega arith;
@@ -90,11 +89,11 @@ module _ (frames cells next heads : List ℕ) (fp used depth k : ℕ) (alike : �
         refl,
       )
 
-  pub act_closes : (a : ℕ) → a ≡ 1 → fp + 8 ≤ length frames → After (Went (record { fp = fp + 4; depth = depth; used = used })) frames cells next heads a
+  pub act_closes : (a : ℕ) → a ≡ 1 → fp + 8 ≤ length frames → After (Ok (record { fp = fp + 4; depth = depth; used = used })) frames cells next heads a
   unfolding does
   act_closes a z l =
       let rm = held.room in
-      subst (After (Went (record { fp = fp + 4; depth = depth; used = used })) frames cells next heads) (sym z) (
+      subst (After (Ok (record { fp = fp + 4; depth = depth; used = used })) frames cells next heads) (sym z) (
         record {
           framed = subst (λ (x : List ℕ). Frames cells next heads used x (joined s.frames)) (drop-drop 4 fp frames)
               (holding.framed_closes (simp length-drop (omega arith)) held.framed);
@@ -106,11 +105,11 @@ module _ (frames cells next heads : List ℕ) (fp used depth k : ℕ) (alike : �
         refl,
       )
 
-  pub act_last : (a : ℕ) → a ≡ 1 → length frames < fp + 8 → After (Went (record { fp = fp; depth = depth; used = used })) frames cells next heads a
+  pub act_last : (a : ℕ) → a ≡ 1 → length frames < fp + 8 → After (Ok (record { fp = fp; depth = depth; used = used })) frames cells next heads a
   unfolding does
   act_last a z l =
       let rm = held.room in
-      subst (After (Went (record { fp = fp; depth = depth; used = used })) frames cells next heads) (sym z) (
+      subst (After (Ok (record { fp = fp; depth = depth; used = used })) frames cells next heads) (sym z) (
         record {
           framed = holding.framed_last (simp length-drop (omega arith)) held.framed;
           room = omega (arith, joined_few s.frames (omega arith));
@@ -121,12 +120,12 @@ module _ (frames cells next heads : List ℕ) (fp used depth k : ℕ) (alike : �
         refl,
       )
 
-  pub act_marks : (a r : ℕ) → a ≡ 2 → r ≡ k - 1 → After (Went (record { fp = fp; depth = depth; used = used })) (set frames (fp + 1) r) cells next heads a
+  pub act_marks : (a r : ℕ) → a ≡ 2 → r ≡ k - 1 → After (Ok (record { fp = fp; depth = depth; used = used })) (set frames (fp + 1) r) cells next heads a
   unfolding does
   act_marks a r z q =
       let rm = held.room in
       let n : length (set frames (fp + 1) r) ≡ length frames = simp length-set in
-      subst (After (Went (record { fp = fp; depth = depth; used = used })) (set frames (fp + 1) r) cells next heads) (sym z) (
+      subst (After (Ok (record { fp = fp; depth = depth; used = used })) (set frames (fp + 1) r) cells next heads) (sym z) (
         record {
           framed = subst (λ (x : ℕ). Frames cells next heads used (drop fp (set frames (fp + 1) r)) (on_top (marked x) s.frames)) q
               (subst (λ (x : List ℕ). Frames cells next heads used x (on_top (marked r) s.frames)) (sym (drop-set-add fp frames 1 r)) (holding.framed_marks r held.framed));
@@ -138,12 +137,12 @@ module _ (frames cells next heads : List ℕ) (fp used depth k : ℕ) (alike : �
         refl,
       )
 
-  pub act_names : (a : ℕ) → a ≡ 3 → After (Went (record { fp = fp; depth = depth; used = used })) (set frames (fp + 3) k) cells next heads a
+  pub act_names : (a : ℕ) → a ≡ 3 → After (Ok (record { fp = fp; depth = depth; used = used })) (set frames (fp + 3) k) cells next heads a
   unfolding does
   act_names a z =
       let rm = held.room in
       let n : length (set frames (fp + 3) k) ≡ length frames = simp length-set in
-      subst (After (Went (record { fp = fp; depth = depth; used = used })) (set frames (fp + 3) k) cells next heads) (sym z) (
+      subst (After (Ok (record { fp = fp; depth = depth; used = used })) (set frames (fp + 3) k) cells next heads) (sym z) (
         record {
           framed = subst (λ (x : List ℕ). Frames cells next heads used x (on_top (named k) s.frames)) (sym (drop-set-add fp frames 3 k)) (holding.framed_names k held.framed);
           room = omega (arith, top_size (named k) s.frames);
@@ -162,35 +161,35 @@ module _ (frames cells next heads : List ℕ) (fp used depth k : ℕ) (alike : �
       ap (λ (x : Bool). cond x (go s) (stop name_differs)) (ap (λ (x : ℕ). frame_is_named alike x (k - 1)) e ∙ sym q)
 
   pub act_same : (a : ℕ) (b : Bool) → a ≡ 4 → b ≡ frame_is_named alike (get_or frames (fp + 3) 0) (k - 1) → b ≡ true
-      → After (Went (record { fp = fp; depth = depth; used = used })) frames cells next heads a
+      → After (Ok (record { fp = fp; depth = depth; used = used })) frames cells next heads a
   act_same a b z q h =
-      subst (After (Went (record { fp = fp; depth = depth; used = used })) frames cells next heads) (sym z)
-      (subst (λ (x : Step State Refusal). ActionDone (Went (record { fp = fp; depth = depth; used = used })) frames cells next heads (used_after 4 used) k x) (sym (judged true (sym h ∙ q)))
+      subst (After (Ok (record { fp = fp; depth = depth; used = used })) frames cells next heads) (sym z)
+      (subst (λ (x : Step State Refusal). ActionDone (Ok (record { fp = fp; depth = depth; used = used })) frames cells next heads (used_after 4 used) k x) (sym (judged true (sym h ∙ q)))
       (held, deep, refl))
 
   pub act_differs : (a : ℕ) (b : Bool) (e : ElementNumber) → a ≡ 4 → b ≡ frame_is_named alike (get_or frames (fp + 3) 0) (k - 1) → b ≡ false → e.0 ≡ k - 1
-      → After (Stopped (refusal.NameDiffers e)) frames cells next heads a
+      → After (Err (refusal.NameDiffers e)) frames cells next heads a
   act_differs a b e z q h i =
-      subst (After (Stopped (refusal.NameDiffers e)) frames cells next heads) (sym z)
-      (subst (λ (x : Step State Refusal). ActionDone (Stopped (refusal.NameDiffers e)) frames cells next heads (used_after 4 used) k x) (sym (judged false (sym h ∙ q)))
+      subst (After (Err (refusal.NameDiffers e)) frames cells next heads) (sym z)
+      (subst (λ (x : Step State Refusal). ActionDone (Err (refusal.NameDiffers e)) frames cells next heads (used_after 4 used) k x) (sym (judged false (sym h ∙ q)))
       (ap (λ (x : ℕ). refusal.NameDiffers (record { 0 = x })) i))
 
-  pub act_deeper : (a : ℕ) → a ≡ 5 → depth < 32 → After (Went (record { fp = fp; depth = depth + 1; used = used })) frames cells next heads a
+  pub act_deeper : (a : ℕ) → a ≡ 5 → depth < 32 → After (Ok (record { fp = fp; depth = depth + 1; used = used })) frames cells next heads a
   unfolding does
   act_deeper a z l =
-      subst (After (Went (record { fp = fp; depth = depth + 1; used = used })) frames cells next heads) (sym z)
+      subst (After (Ok (record { fp = fp; depth = depth + 1; used = used })) frames cells next heads) (sym z)
       (rw (lt-ltb s.depth 32 (omega arith)) (held, ap (λ (x : ℕ). x + 1) deep, refl))
 
-  pub act_deep : (a : ℕ) (e : ElementNumber) → a ≡ 5 → 32 ≤ depth → e.0 ≡ k - 1 → After (Stopped (refusal.TooDeep e)) frames cells next heads a
+  pub act_deep : (a : ℕ) (e : ElementNumber) → a ≡ 5 → 32 ≤ depth → e.0 ≡ k - 1 → After (Err (refusal.TooDeep e)) frames cells next heads a
   unfolding does
   act_deep a e z l i =
-      subst (After (Stopped (refusal.TooDeep e)) frames cells next heads) (sym z)
+      subst (After (Err (refusal.TooDeep e)) frames cells next heads) (sym z)
       (rw (le-ltb s.depth 32 (omega arith)) (ap (λ (x : ℕ). refusal.TooDeep (record { 0 = x })) i))
 
-  pub act_shallower : (a r : ℕ) → a ≡ 6 → r ≡ depth - 1 → After (Went (record { fp = fp; depth = r; used = used })) frames cells next heads a
+  pub act_shallower : (a r : ℕ) → a ≡ 6 → r ≡ depth - 1 → After (Ok (record { fp = fp; depth = r; used = used })) frames cells next heads a
   unfolding does
   act_shallower a r z q =
-      subst (After (Went (record { fp = fp; depth = r; used = used })) frames cells next heads) (sym z)
+      subst (After (Ok (record { fp = fp; depth = r; used = used })) frames cells next heads) (sym z)
       (held, ap (λ (x : ℕ). x - 1) deep ∙ sym q, refl)
 
   abbrev first_word : ℕ
@@ -203,7 +202,7 @@ module _ (frames cells next heads : List ℕ) (fp used depth k : ℕ) (alike : �
       → base_word ≤ used → fp + 4 ≤ length frames → 5 * used + 5 ≤ length cells → used < length next → used + 1 < length heads
       → c' ≡ sets cells (5 * used) ((a - 7) ∷ first_word ∷ (k - first_word) ∷ (used - base_word + 1) ∷ get_or frames (fp + 1) 0 ∷ [])
       → n' ≡ set next used (get_or heads base_word 0) → h' ≡ set (set heads base_word (used + 1)) (used + 1) 0
-      → After (Went (record { fp = fp; depth = depth; used = used + 1 })) frames c' n' h' a
+      → After (Ok (record { fp = fp; depth = depth; used = used + 1 })) frames c' n' h' a
   unfolding does
   act_row a c' n' h' d0 d1 d2 d3 d4 d5 d6 lb lf lc ln lh qc qn qh =
       let i : ℕ = first_word in
@@ -231,11 +230,11 @@ module _ (frames cells next heads : List ℕ) (fp used depth k : ℕ) (alike : �
         within = holding.within_put cells C next heads used b (λ j l. sets_below (f ∷ i ∷ n ∷ m ∷ o ∷ []) cells (5 * used) j l) ln lh lb held.within held.bare;
         bare = holding.bare_put cells C next heads used b (λ j l. sets_below (f ∷ i ∷ n ∷ m ∷ o ∷ []) cells (5 * used) j l) ln lh lb held.within held.bare;
       } in
-      let P : List ℕ → List ℕ → List ℕ → Type 0 = λ x y v. After (Went (record { fp = fp; depth = depth; used = used + 1 })) frames x y v a in
+      let P : List ℕ → List ℕ → List ℕ → Type 0 = λ x y v. After (Ok (record { fp = fp; depth = depth; used = used + 1 })) frames x y v a in
       subst (λ x. P x n' h') (sym qc)
       (subst (λ y. P C y h') (sym qn)
       (subst (λ v. P C (set next used (get_or heads b 0)) v) (sym qh)
-      (subst (After (Went (record { fp = fp; depth = depth; used = used + 1 })) frames C (set next used (get_or heads b 0)) (set (set heads b (used + 1)) (used + 1) 0)) (sym z) (H, deep, grown (a - 7)))))
+      (subst (After (Ok (record { fp = fp; depth = depth; used = used + 1 })) frames C (set next used (get_or heads b 0)) (set (set heads b (used + 1)) (used + 1) 0)) (sym z) (H, deep, grown (a - 7)))))
     where
       plain : (x : ℕ) → x + 0 ≡ x
       plain x = omega arith

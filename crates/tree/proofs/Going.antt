@@ -1,5 +1,6 @@
 -- What the scan keeps true, turn by turn: the arrays hold a state from which the machine ends as it does from the start, and what is left
 -- to read is within its bounds of steps, stack, frames and rows. Assumes nothing.
+use Rattle.std.specs.Prelude.{Ok, Err}
 use Prim.Native.Nat.{ℕ, suc, ◌+◌, ◌*◌, ◌-◌, ◌≤◌, ◌<◌}
 use mathlib.Core.Path.{◌≡◌, refl, sym as flip, ◌∙◌, ap, ap₂, subst}
 use mathlib.Core.Bool.{Bool, true, false}
@@ -23,10 +24,7 @@ use Rattle.forms.specs.code.Reading.{reading_from, steps}
 use Rattle.forms.proofs.Tests as tests
 use Rattle.forms.proofs.Nesting.{Nested, nested_grow, nested_eat, nested_act}
 use Rattle.tree.specs.code.Room.{bottom, outermost, frames_words}
-use Rattle.tree.specs.declared.Did.{Did}
 use Rattle.tree.specs.declared.Moved.{Moved}
-use Rattle.tree.specs.declared.Did.TheVariants.{Went, Stopped}
-use Rattle.tree.specs.declared.Answer.TheVariants.{Tree, Refused}
 use Rattle.refusals.specs.declared.StrictRefusal.{StrictRefusal}
 use Rattle.tree.specs.code.Answers.{terminals_of, no_file_answer}
 use Rattle.tree.specs.code.Held.{Frames, Held, ActionDone, Tells, used_after, pick_used}
@@ -109,12 +107,12 @@ module _ (text elements : List ℕ) (n : ℕ) (goal : End State Refusal) where
 
   module _ {frames cells next heads : List ℕ} {fp depth used at : ℕ} where
     -- all read, or too much
-    pub ends : (g : Going [] frames cells next heads fp depth used at) → n ≤ at → at ≤ n → n ≤ 8192 → Tells (Tree used) cells next heads goal
+    pub ends : (g : Going [] frames cells next heads fp depth used at) → n ≤ at → at ≤ n → n ≤ 8192 → Tells (Ok used) cells next heads goal
     unfolding runs
     ends g l m b =
         let f = holding.framed_end g.held.framed (g.nested.inner_is ∙ ap suc g.nested.frame_nest) in
         let r = rows_bound g in
-        subst (Tells (Tree used) cells next heads) (flip (turns g [] (none_left g l))) (f.0, f.1, omega arith, g.held.within)
+        subst (Tells (Ok used) cells next heads) (flip (turns g [] (none_left g l))) (f.0, f.1, omega arith, g.held.within)
 
     pub too_much : (g : Going [] frames cells next heads fp depth used at) → at < n → Tells (no_file_answer at) cells next heads goal
     unfolding runs
@@ -199,7 +197,7 @@ module _ (text elements : List ℕ) (n : ℕ) (goal : End State Refusal) where
           by false q e = subst (λ (x : ℕ). spare.Fewer tests.is_row tests.spare x at α) (flip e) (spare.fewer_other tests.is_row tests.spare used at a α g.fewer)
 
       went : (fp' depth' used' : ℕ) (frames' cells' next' heads' : List ℕ) → (x : Step State Refusal) → does alike a at g.state ≡ x
-          → ActionDone (Went (record { fp = fp'; depth = depth'; used = used' })) frames' cells' next' heads' (used_after a used) at x → Going α frames' cells' next' heads' fp' depth' used' at
+          → ActionDone (Ok (record { fp = fp'; depth = depth'; used = used' })) frames' cells' next' heads' (used_after a used) at x → Going α frames' cells' next' heads' fp' depth' used' at
       unfolding runs
       went fp' depth' used' frames' cells' next' heads' (go t) e h =
           let p = g.paid in
@@ -217,25 +215,18 @@ module _ (text elements : List ℕ) (n : ℕ) (goal : End State Refusal) where
           }
       went fp' depth' used' frames' cells' next' heads' (stop r) e h = absurd h
 
-      pub goes_on_lem : (fp' depth' used' : ℕ) (frames' cells' next' heads' : List ℕ)
-          → ActionDone (Went (record { fp = fp'; depth = depth'; used = used' })) frames' cells' next' heads' (used_after a used) at (does alike a at g.state) → Going α frames' cells' next' heads' fp' depth' used' at
-      goes_on_lem fp' depth' used' frames' cells' next' heads' h = went fp' depth' used' frames' cells' next' heads' (does alike a at g.state) refl h
-
-      pub goes_by : (r : Did) (m : Moved) (frames' cells' next' heads' : List ℕ) → r ≡ Went m → ActionDone r frames' cells' next' heads' (used_after a used) at (does alike a at g.state)
+      pub goes_by : (m : Moved) (frames' cells' next' heads' : List ℕ) → ActionDone (Ok m) frames' cells' next' heads' (used_after a used) at (does alike a at g.state)
           → Going α frames' cells' next' heads' m.fp m.depth m.used at
-      goes_by r m frames' cells' next' heads' e d =
-          goes_on_lem m.fp m.depth m.used frames' cells' next' heads' (subst (λ (x : Did). ActionDone x frames' cells' next' heads' (used_after a used) at (does alike a at g.state)) e d)
+      goes_by m frames' cells' next' heads' d = went m.fp m.depth m.used frames' cells' next' heads' (does alike a at g.state) refl d
 
-      stops : (r : StrictRefusal) (f c k h c' k' h' : List ℕ) (x : Step State Refusal) → does alike a at g.state ≡ x → ActionDone (Stopped r) f c k h (used_after a used) at x
-          → Tells (Refused r) c' k' h' goal
+      stops : (r : StrictRefusal) (f c k h c' k' h' : List ℕ) (x : Step State Refusal) → does alike a at g.state ≡ x → ActionDone (Err r) f c k h (used_after a used) at x
+          → Tells (Err r) c' k' h' goal
       unfolding runs
-      stops r f c k h c' k' h' (stop x) e d = subst (Tells (Refused r) c' k' h') (flip (turns g (drop at kinds) refl)) (rw e d)
+      stops r f c k h c' k' h' (stop x) e d = subst (Tells (Err r) c' k' h') (flip (turns g (drop at kinds) refl)) (rw e d)
       stops r f c k h c' k' h' (go t) e d = absurd d
 
-      pub stops_here : (r : Did) (x : StrictRefusal) (f c k h c' k' h' : List ℕ) → r ≡ Stopped x → ActionDone r f c k h (used_after a used) at (does alike a at g.state)
-          → Tells (Refused x) c' k' h' goal
-      stops_here r x f c k h c' k' h' e d =
-          stops x f c k h c' k' h' (does alike a at g.state) refl (subst (λ (y : Did). ActionDone y f c k h (used_after a used) at (does alike a at g.state)) e d)
+      pub stops_here : (x : StrictRefusal) (f c k h c' k' h' : List ℕ) → ActionDone (Err x) f c k h (used_after a used) at (does alike a at g.state) → Tells (Err x) c' k' h' goal
+      stops_here x f c k h c' k' h' d = stops x f c k h c' k' h' (does alike a at g.state) refl d
 
   -- at the start, from a name that lies low enough, has no row to spare and costs less than an element pays for
   pub begins : (m : ℕ) → tests.height m ≤ 63 → tests.spare m ≡ 0 → tests.weight m < 128 → goal ≡ reading_from (nt m) alike kinds

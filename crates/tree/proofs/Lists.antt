@@ -58,11 +58,6 @@ drop_set_here l k x h =
     drop-cons (set l k x) k 0 h' ∙ ap₂ (λ (a : ℕ) (b : List ℕ). a ∷ b) (get_or-set_same l k x 0 h) (drop-set-lt (suc k) l k x (omega arith))
 
 -- the stack
-pub push_start : (stk : List ℕ) (b : List Sym) (sp m : ℕ) → m ≡ length b → m ≤ sp → syms (drop (sp - m + m) stk) ≡ drop m b ++ syms (drop sp stk)
-push_start stk b sp m e h =
-    let s : sp - m + m ≡ sp = omega arith in
-    rw (s, e, drop-length b)
-
 pub push_more : (stk : List ℕ) (b rest : List Sym) (base i j x : ℕ) → i ≡ suc j → i ≤ length b → base + j < length stk → sym_of x ≡ get_or b j (tok 0)
     → syms (drop (base + i) stk) ≡ drop i b ++ rest → syms (drop (base + j) (set stk (base + j) x)) ≡ drop j b ++ rest
 push_more stk b rest base i j x e l r s t =

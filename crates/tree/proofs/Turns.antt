@@ -96,34 +96,31 @@ module _ (text elements : List ℕ) (n : ℕ) (stk : List ℕ) (sp : ℕ) (size 
       subst (λ (α : List Sym). due tests.weight tests.leads rest (n - at) < due tests.weight tests.leads α (n - at)) (flip (on_act l h)) (omega arith)
 
   -- a rule
-  module _ (at t q : ℕ) (l : sp < stack_words) (h : kind_count ≤ get_or stk sp 0) (m : get_or stk sp 0 < first_action) (et : t ≡ look (drop at (terminals_of n elements))) (eq : q ≡ predict (get_or stk sp 0 - kind_count) t) (d : q ≡ 0 → ⊥) where
-    pub rule_is : predict (get_or stk sp 0 - kind_count) (look (drop at (terminals_of n elements))) ≡ suc (q - 1)
-    rule_is = ap (predict (get_or stk sp 0 - kind_count)) (flip et) ∙ flip eq ∙ nz q d
-      where
-        nz : (q : ℕ) → (q ≡ 0 → ⊥) → q ≡ suc (q - 1)
-        nz q z = omega arith
+  module _ (at t p : ℕ) (l : sp < stack_words) (h : kind_count ≤ get_or stk sp 0) (m : get_or stk sp 0 < first_action) (et : t ≡ look (drop at (terminals_of n elements))) (eq : predict (get_or stk sp 0 - kind_count) t ≡ p + 1) where
+    pub rule_is : predict (get_or stk sp 0 - kind_count) (look (drop at (terminals_of n elements))) ≡ suc p
+    rule_is = ap (predict (get_or stk sp 0 - kind_count)) (flip et) ∙ eq ∙ add-one p
 
-    pub rule_in : q - 1 < forms.count
-    rule_in = ((tests.forms_ll).table (get_or stk sp 0 - kind_count) (look (drop at (terminals_of n elements))) (q - 1) rule_is).0
+    pub rule_in : p < forms.count
+    rule_in = ((tests.forms_ll).table (get_or stk sp 0 - kind_count) (look (drop at (terminals_of n elements))) p rule_is).0
 
     module _ {goal : End State Refusal} {frames cells next heads : List ℕ} {fp depth used : ℕ} (g : Going text elements n goal left frames cells next heads fp depth used at) where
-      grown : Going text elements n goal (body (q - 1) ++ rest) frames cells next heads fp depth used at
-      grown = going.by_rule text elements n goal (at_nt g l h m) (q - 1) rule_is
+      grown : Going text elements n goal (body p ++ rest) frames cells next heads fp depth used at
+      grown = going.by_rule text elements n goal (at_nt g l h m) p rule_is
 
-      pub rule_room : (k : ℕ) → k ≡ length (body (q - 1)) → k ≤ sp + 1
-      rule_room k e = omega (arith, going.stack_bound text elements n goal grown, length-append (body (q - 1)) rest, rest_size l)
+      pub rule_room : (k : ℕ) → k ≡ length (body p) → k ≤ sp + 1
+      rule_room k e = omega (arith, going.stack_bound text elements n goal grown, length-append (body p) rest, rest_size l)
 
-      pub rule_on : (k : ℕ) (stk' : List ℕ) → k ≡ length (body (q - 1)) → syms (drop (sp + 1 - k) stk') ≡ body (q - 1) ++ rest
+      pub rule_on : (k : ℕ) (stk' : List ℕ) → k ≡ length (body p) → syms (drop (sp + 1 - k) stk') ≡ body p ++ rest
           → Going text elements n goal (syms (drop (sp + 1 - k) stk')) frames cells next heads fp depth used at
-      rule_on k stk' e p = subst (λ (α : List Sym). Going text elements n goal α frames cells next heads fp depth used at) (flip p) grown
+      rule_on k stk' e r = subst (λ (α : List Sym). Going text elements n goal α frames cells next heads fp depth used at) (flip r) grown
 
-    pub rule_less : (α : List Sym) → α ≡ body (q - 1) ++ rest → due tests.weight tests.leads α (n - at) < to_do n stk sp at
-    rule_less α p =
-        subst (λ (β : List Sym). due tests.weight tests.leads β (n - at) < to_do n stk sp at) (flip p)
-        (subst (λ (β : List Sym). due tests.weight tests.leads (body (q - 1) ++ rest) (n - at) < due tests.weight tests.leads β (n - at)) (flip (on_nt l h m))
-        (subst (λ (x : ℕ). due tests.weight tests.leads (body (q - 1) ++ rest) x < due tests.weight tests.leads (nt (get_or stk sp 0 - kind_count) ∷ rest) x)
+    pub rule_less : (α : List Sym) → α ≡ body p ++ rest → due tests.weight tests.leads α (n - at) < to_do n stk sp at
+    rule_less α r =
+        subst (λ (β : List Sym). due tests.weight tests.leads β (n - at) < to_do n stk sp at) (flip r)
+        (subst (λ (β : List Sym). due tests.weight tests.leads (body p ++ rest) (n - at) < due tests.weight tests.leads β (n - at)) (flip (on_nt l h m))
+        (subst (λ (x : ℕ). due tests.weight tests.leads (body p ++ rest) x < due tests.weight tests.leads (nt (get_or stk sp 0 - kind_count) ∷ rest) x)
         (length-drop at (terminals_of n elements) ∙ ap (λ (x : ℕ). x - at) (terminals_size n elements))
-        (due_grow body predict tests.weight tests.leads tests.steps_paid (get_or stk sp 0 - kind_count) (q - 1) rest (drop at (terminals_of n elements)) rule_is)))
+        (due_grow body predict tests.weight tests.leads tests.steps_paid (get_or stk sp 0 - kind_count) p rest (drop at (terminals_of n elements)) rule_is)))
 
 -- the first turn
 module _ (text elements : List ℕ) (n from : ℕ) (stk frames cells next heads : List ℕ) (stack : syms (drop bottom stk) ≡ sym_of from ∷ []) (size : length frames ≡ frames_words)

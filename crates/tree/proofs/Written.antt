@@ -145,16 +145,7 @@ written_end n t rows words at h k g =
     g.stands ∙ ap₂ (λ (x : List ℕ) (y : ℕ). x ++ zeros y) d z
 
 -- the whole table
-module _ (t : List ℕ) (count n m words room : ℕ) (same : room ≡ words) (a : m ≡ min (room / 5) (min 8192 8192)) (b : n ≡ min count (min (length t / 3) m)) where
-  pub all_in : 3 * n ≤ length t
-  all_in = omega arith
-
-  pub all_small_lem : n ≤ 8192
-  all_small_lem = omega arith
-
-  pub all_room : 5 * n ≤ room
-  all_room = omega arith
-
+module _ (t : List ℕ) (count n words room : ℕ) (same : room ≡ words) (a : n ≡ min (min (min count (length t / 3)) (room / 5)) 8192) where
   pub all_rows : (rows : List ℕ) → rows ≡ pieces_words (kind_pieces (kinds_of n t)) ++ zeros (room - 5 * n) → rows ≡ item_rows t count words
   unfolding item_rows
   all_rows rows e =

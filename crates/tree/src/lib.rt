@@ -4,7 +4,7 @@
 // they would cost more than all else.
 #![tactic(auto)]
 
-ghost use Rattle.std.specs.Prelude.{◌≡◌, List, [], ◌∷◌, ◌++◌, ℕ, ◌+◌, ◌-◌, ◌*◌, ◌/◌, ◌≤◌, ◌<◌, min, length, drop, get_or, set, replicate};
+ghost use Rattle.std.specs.Prelude.{◌≡◌, List, [], ◌∷◌, ◌++◌, Ok, MatchOption, ℕ, ◌+◌, ◌-◌, ◌*◌, ◌/◌, ◌≤◌, ◌<◌, min, length, drop, get_or, set, replicate};
 ghost use Rattle.std.proofs.lemmas.List.Edits.{sets};
 ghost use Rattle.places.specs.Sizes.{most_elements};
 ghost use Rattle.grammars.specs.code.Grammar.{look};
@@ -19,12 +19,11 @@ ghost use Rattle.forms.specs.code.Reading.{reading_from};
 ghost use Rattle.same_names.specs.Alike.{same_name};
 ghost use Rattle.form_table.specs.code.Symbols.{sym_of, syms};
 ghost use Rattle.form_table.specs.code.FormBytes.{form_bytes};
-ghost use Rattle.tree.specs.declared.Did.TheVariants.{Went};
 ghost use Rattle.tree.specs.code.Answers.{elements_counted, terminals_of, reading_in, tree_answer_of, tree_table_of};
 ghost use Rattle.forms.specs.RowWords.{words_of};
 ghost use Rattle.pieces.specs.Kinds.{kind_pieces};
 ghost use Rattle.places.specs.Places.{row_words, kinds_of};
-ghost use Rattle.tree.specs.code.Room.{Room, bottom, stack_words, frame_words, frame_operator, frame_base, frame_name, outermost, frames_words, most_rows};
+ghost use Rattle.tree.specs.code.Room.{bottom, stack_words, frame_words, frame_operator, frame_base, frame_name, outermost, frames_words, most_rows};
 ghost use Rattle.tree.specs.code.PieceRows.{scan_start_of, rows_of_piece, pieces_words, item_rows};
 ghost use Rattle.tree.specs.code.Held.{Held, Spans, ActionDone, Tells, ScanStarts, used_after};
 
@@ -89,11 +88,14 @@ const ROW_OF: u64 = 7;
 // How many may stand open together.
 const MOST_OPEN: usize = 32;
 
-// A tree, how many rows it has; or one of 01's refusals 5, 6, 7 and 8.
-#[derive(Clone, Copy)]
-pub enum Answer {
-    Tree(usize),
-    Refused(StrictRefusal),
+// The machine's arrays: its stack; its frames; the numbers of the rows; the row after each in the list of its base; the first row of each base.
+#[derive(Drop)]
+struct Machine {
+    stk: [u64; STACK],
+    frames: [u64; FRAMES],
+    cells: [u64; ROW_NUMBERS * MOST_ROWS],
+    next: [u64; MOST_ROWS],
+    heads: [u64; MOST_ROWS],
 }
 
 // Where the frames begin, how many stand open, how many rows there are.
@@ -104,30 +106,11 @@ pub struct Moved {
     pub used: usize,
 }
 
-// What an action did: the machine goes on, or refusal 6 or 7.
-#[derive(Clone, Copy)]
-pub enum Did {
-    Went(Moved),
-    Stopped(StrictRefusal),
-}
-
-fn minus(a: u64, b: u64) -> u64
-    ensures { result ≡ a - b }
-{
-    if b <= a { a - b } else { 0 }
-}
-
 // The element just read, when k were read.
 fn last_read(k: u64) -> ElementNumber
     ensures { result.0 ≡ k - 1 }
 {
-    ElementNumber(minus(k, 1) as usize)
-}
-
-fn wide(x: u8) -> u64
-    ensures { result ≡ x }
-{
-    x as u64
+    ElementNumber(k.saturating_sub(1) as usize)
 }
 
 // What the next element is to the forms, 0 at the end.
@@ -140,18 +123,18 @@ fn next_kind(forms: &[u8], elements: &[u64], count: usize, e: ElementNumber) -> 
     }
     let kind = places::kind_of(elements, e);
     if kind < form_table::ELEMENT_KINDS as u64 {
-        return wide(forms[kind as usize]);
+        return u64::from(forms[kind as usize]);
     }
     OTHER
 }
 
-// The rule for name n at the next kind t, its number and one more; 0 where there is none.
-fn pick(forms: &[u8], n: usize, t: u64) -> u64
+// The rule for name n at the next kind t.
+fn pick(forms: &[u8], n: usize, t: u64) -> Option<usize>
     requires { (forms.now ≡ form_bytes) × (n < name_count) × (t < kind_count) }
-    ensures { result ≡ predict n t }
+    ensures { MatchOption result (predict n t ≡ 0) (λ p. predict n t ≡ p + 1) }
 {
     let j = t as usize;
-    wide(forms[form_table::PICKS + n * KINDS + j])
+    usize::from(forms[form_table::PICKS + n * KINDS + j]).checked_sub(1)
 }
 
 // How many symbols rule p has.
@@ -159,7 +142,7 @@ fn body_len(forms: &[u8], p: usize) -> usize
     requires { (forms.now ≡ form_bytes) × (p < grammar.count) }
     ensures { result ≡ length (body p) }
 {
-    wide(forms[form_table::SIZES + p]) as usize
+    usize::from(forms[form_table::SIZES + p])
 }
 
 // Puts rule p's symbols on the stack, which grows downwards.
@@ -168,10 +151,8 @@ fn push(forms: &[u8], stk: &mut [u64], sp: usize, p: usize, m: usize)
     ensures { syms (drop (sp - m) stk.new) ≡ body p ++ syms (drop sp stk.old) }
 {
     let base = sp - m;
-    let mut i = m;
-    while 0 < i {
-        i -= 1;
-        let x = wide(forms[form_table::BODIES + p * form_table::LINE + i]);
+    for i in (0..m).rev() {
+        let x = u64::from(forms[form_table::BODIES + p * form_table::LINE + i]);
         stk[base + i] = x;
     }
 }
@@ -254,19 +235,19 @@ fn complete_row(
         base,
         form,
         i,
-        minus(k, i),
+        k.saturating_sub(i),
         rows,
         o,
     );
 }
 
-fn went(fp: usize, depth: usize, used: usize) -> Did
-    ensures { result ≡ Went (record { fp = fp; depth = depth; used = used }) }
+fn went(fp: usize, depth: usize, used: usize) -> Result<Moved, StrictRefusal>
+    ensures { result ≡ Ok (record { fp = fp; depth = depth; used = used }) }
 {
-    Did::Went(Moved { fp, depth, used })
+    Ok(Moved { fp, depth, used })
 }
 
-// An action when k elements were read.
+// An action when k elements were read: the machine goes on, or refusal 6 or 7.
 fn do_act(
     a: u64,
     k: u64,
@@ -279,7 +260,7 @@ fn do_act(
     fp: usize,
     depth: usize,
     used: usize,
-) -> Did
+) -> Result<Moved, StrictRefusal>
     requires { (frame_words ≤ fp) × (fp + frame_words ≤ length frames.old) × (row_numbers * used + row_numbers ≤ length cells.old) × (used < length next.old) × (used + 1 < length heads.old) × (used < most_rows) × (depth ≤ most_open) × (get_or frames.old (fp + frame_base) 0 ≤ used) }
     ensures { (s : State) → Held frames.old cells.old next.old heads.old fp used s.frames → s.depth ≡ depth → ActionDone result frames.new cells.new next.new heads.new (used_after a used) k (does (same_name text.now elements.now) a k s) }
 {
@@ -294,7 +275,7 @@ fn do_act(
         return went(fp, depth, used);
     }
     if a == MARKS {
-        frames[fp + FRAME_OPERATOR] = minus(k, 1);
+        frames[fp + FRAME_OPERATOR] = k.saturating_sub(1);
         return went(fp, depth, used);
     }
     if a == NAMED {
@@ -305,16 +286,16 @@ fn do_act(
         if is_named(text, elements, frames, fp, k) {
             return went(fp, depth, used);
         }
-        return Did::Stopped(StrictRefusal::NameDiffers(last_read(k)));
+        return Err(StrictRefusal::NameDiffers(last_read(k)));
     }
     if a == DEEPER {
         if depth < MOST_OPEN {
             return went(fp, depth + 1, used);
         }
-        return Did::Stopped(StrictRefusal::TooDeep(last_read(k)));
+        return Err(StrictRefusal::TooDeep(last_read(k)));
     }
     if a == SHALLOWER {
-        return went(fp, minus(depth as u64, 1) as usize, used);
+        return went(fp, depth.saturating_sub(1), used);
     }
     complete_row(a - ROW_OF, k, frames, cells, next, heads, fp, used);
     went(fp, depth, used + 1)
@@ -339,75 +320,68 @@ fn scan(
     text: &[u8],
     elements: &[u64],
     count: usize,
-    stk: &mut [u64],
-    frames: &mut [u64],
-    cells: &mut [u64],
-    next: &mut [u64],
-    heads: &mut [u64],
+    machine: &mut Machine,
     forms: &[u8],
-) -> Answer
-    requires { (row_words * count ≤ length elements.now) × (count ≤ most_elements) × ScanStarts from × Room stk.old frames.old cells.old next.old heads.old × (forms.now ≡ form_bytes) }
-    ensures { Tells result cells.new next.new heads.new (reading_from (sym_of from) (same_name text.now elements.now) (terminals_of count elements.now)) }
+) -> Result<usize, StrictRefusal>
+    requires { (row_words * count ≤ length elements.now) × (count ≤ most_elements) × ScanStarts from × (forms.now ≡ form_bytes) }
+    ensures { Tells result machine.new.cells machine.new.next machine.new.heads (reading_from (sym_of from) (same_name text.now elements.now) (terminals_of count elements.now)) }
 {
-    begin(from, stk, frames, heads);
+    begin(
+        from,
+        &mut machine.stk,
+        &mut machine.frames,
+        &mut machine.heads,
+    );
     let mut sp: usize = BOTTOM;
     let mut fp: usize = OUTERMOST;
     let mut depth: usize = 0;
     let mut used: usize = 0;
     let mut at: usize = 0;
+    // a while: a turn goes on by what it takes off the stack and puts on it
     while sp < STACK {
-        let top = stk[sp];
+        let top = machine.stk[sp];
         if top < FIRST_NAME {
             if count <= at {
-                return Answer::Refused(StrictRefusal::NoFile(ElementNumber(at)));
+                return Err(StrictRefusal::NoFile(ElementNumber(at)));
             }
             let t = next_kind(forms, elements, count, ElementNumber(at));
             if top != t {
-                return Answer::Refused(StrictRefusal::NoFile(ElementNumber(at)));
+                return Err(StrictRefusal::NoFile(ElementNumber(at)));
             }
             sp += 1;
             at += 1;
         } else if top < FIRST_ACTION {
             let t = next_kind(forms, elements, count, ElementNumber(at));
-            let q = pick(forms, (top - FIRST_NAME) as usize, t);
-            if q == 0 {
-                return Answer::Refused(StrictRefusal::NoFile(ElementNumber(at)));
-            }
-            let p = (q - 1) as usize;
+            let Some(p) = pick(forms, (top - FIRST_NAME) as usize, t) else {
+                return Err(StrictRefusal::NoFile(ElementNumber(at)));
+            };
             let m = body_len(forms, p);
-            push(forms, stk, sp + 1, p, m);
+            push(forms, &mut machine.stk, sp + 1, p, m);
             sp = sp + 1 - m;
         } else {
-            let r = do_act(
+            let w = do_act(
                 top - FIRST_ACTION,
                 at as u64,
                 text,
                 elements,
-                frames,
-                cells,
-                next,
-                heads,
+                &mut machine.frames,
+                &mut machine.cells,
+                &mut machine.next,
+                &mut machine.heads,
                 fp,
                 depth,
                 used,
-            );
-            match r {
-                Did::Went(w) => {
-                    fp = w.fp;
-                    depth = w.depth;
-                    used = w.used;
-                    sp += 1;
-                }
-                Did::Stopped(refusal) => {
-                    return Answer::Refused(refusal);
-                }
-            }
+            )?;
+            fp = w.fp;
+            depth = w.depth;
+            used = w.used;
+            sp += 1;
         }
     }
     if at < count {
-        return Answer::Refused(StrictRefusal::NoFile(ElementNumber(at)));
+        return Err(StrictRefusal::NoFile(ElementNumber(at)));
     }
-    Answer::Tree(used)
+    Ok(used)
 }
 
 // The rows in order: the list of each base, from the first base on.
@@ -418,6 +392,7 @@ fn write_out(cells: &[u64], next: &[u64], heads: &[u64], used: usize, tab: &mut 
     let mut base: usize = 0;
     let mut link: usize = 0;
     let mut out: usize = 0;
+    // a while: it follows the lists, and a base may have none
     while out < used {
         if link == 0 {
             link = heads[base] as usize;
@@ -436,119 +411,78 @@ fn write_out(cells: &[u64], next: &[u64], heads: &[u64], used: usize, tab: &mut 
     }
 }
 
-// The least of three.
-fn least(a: usize, b: usize, c: usize) -> usize
-    ensures { result ≡ min a (min b c) }
-{
-    lent_tables::least(a, lent_tables::least(b, c))
-}
-
 // Elements to a tree: the first count elements, as far as the table has them and 01's sizes go, as a file. The rows go into `tree`, and
-// zeros after them; on a refusal it is all zeros.
-pub fn read_tree(text: &[u8], elements: &[u64], count: usize, tree: &mut [u64]) -> Answer
+// zeros after them; on a refusal, one of 01's 5 to 8, it is all zeros. The answer is how many rows there are.
+pub fn read_tree(
+    text: &[u8],
+    elements: &[u64],
+    count: usize,
+    tree: &mut [u64],
+) -> Result<usize, StrictRefusal>
     ensures value { result ≡ tree_answer_of (length tree.old) (reading_in text.now elements.now (elements_counted elements.now count)) }
     ensures tree_after { tree.new ≡ tree_table_of (length tree.old) (reading_in text.now elements.now (elements_counted elements.now count)) }
 {
     lent_tables::clear(tree);
-    let n = least(count, elements.len() / places::ROW_WORDS, MOST_ELEMENTS);
-    let mut stk = [0u64; STACK];
-    let mut frames = [0u64; FRAMES];
-    let mut cells = [0u64; ROW_NUMBERS * MOST_ROWS];
-    let mut next = [0u64; MOST_ROWS];
-    let mut heads = [0u64; MOST_ROWS];
-    let forms = form_table::forms();
-    let found = scan(
-        FILE,
-        text,
-        elements,
-        n,
-        &mut stk,
-        &mut frames,
-        &mut cells,
-        &mut next,
-        &mut heads,
-        &forms,
-    );
-    let Answer::Tree(used) = found else {
-        return found;
+    let n = count
+        .min(elements.len() / places::ROW_WORDS)
+        .min(MOST_ELEMENTS);
+    let mut machine = Machine {
+        stk: [0; STACK],
+        frames: [0; FRAMES],
+        cells: [0; ROW_NUMBERS * MOST_ROWS],
+        next: [0; MOST_ROWS],
+        heads: [0; MOST_ROWS],
     };
+    let forms = form_table::forms();
+    let used = scan(FILE, text, elements, n, &mut machine, &forms)?;
     let rows = tree.len() / ROW_NUMBERS;
     if rows < used {
-        return Answer::Refused(StrictRefusal::TreeShort(rows));
+        return Err(StrictRefusal::TreeShort(rows));
     }
-    write_out(&cells, &next, &heads, used, tree);
-    Answer::Tree(used)
+    write_out(&machine.cells, &machine.next, &machine.heads, used, tree);
+    Ok(used)
 }
 
-// The symbol from which a piece is read that begins with this kind, 0 where it is not read.
-fn start_of(kind: u64) -> u64
+// The symbol from which a piece is read that begins with this kind, if it is read.
+fn start_of(kind: u64) -> Option<u64>
     ensures { result ≡ scan_start_of kind }
 {
-    if kind == pieces::WORD_CONSTANT {
-        return CONSTANT;
+    match kind {
+        pieces::WORD_CONSTANT => Some(CONSTANT),
+        pieces::WORD_SUBTYPE => Some(SUBTYPE),
+        _ => None,
     }
-    if kind == pieces::WORD_SUBTYPE {
-        return SUBTYPE;
-    }
-    0
 }
 
 // The rows of the piece that the elements begin with, at the front of `rows`. No name is compared in it, so no text is needed.
-fn read_piece(
-    elements: &[u64],
-    size: usize,
-    stk: &mut [u64],
-    frames: &mut [u64],
-    cells: &mut [u64],
-    next: &mut [u64],
-    heads: &mut [u64],
-    forms: &[u8],
-    rows: &mut [u64],
-)
-    requires { (1 ≤ size) × (row_words * size ≤ length elements.now) × (size ≤ most_elements) × (row_numbers * size ≤ length rows.old) × Room stk.old frames.old cells.old next.old heads.old × (forms.now ≡ form_bytes) }
+fn read_piece(elements: &[u64], size: usize, machine: &mut Machine, forms: &[u8], rows: &mut [u64])
+    requires { (1 ≤ size) × (row_words * size ≤ length elements.now) × (size ≤ most_elements) × (row_numbers * size ≤ length rows.old) × (forms.now ≡ form_bytes) }
     ensures { rows.new ≡ sets rows.old 0 (words_of (rows_of_piece (kinds_of size elements.now))) }
 {
-    let from = start_of(places::kind_of(elements, ElementNumber(0)));
-    if from == 0 {
-        return;
-    }
-    let no_text = [0u8; 1];
-    let found = scan(
-        from, &no_text, elements, size, stk, frames, cells, next, heads, forms,
-    );
-    let Answer::Tree(used) = found else {
+    let Some(from) = start_of(places::kind_of(elements, ElementNumber(0))) else {
         return;
     };
-    write_out(cells, next, heads, used, rows);
+    let no_text = [0u8; 1];
+    let Ok(used) = scan(from, &no_text, elements, size, machine, forms) else {
+        return;
+    };
+    write_out(&machine.cells, &machine.next, &machine.heads, used, rows);
 }
 
 // The rows of each piece of the first n elements, those of a piece from its first element's row on.
-fn read_pieces(
-    elements: &[u64],
-    n: usize,
-    stk: &mut [u64],
-    frames: &mut [u64],
-    cells: &mut [u64],
-    next: &mut [u64],
-    heads: &mut [u64],
-    forms: &[u8],
-    rows: &mut [u64],
-)
-    requires { (row_words * n ≤ length elements.now) × (n ≤ most_elements) × (row_numbers * n ≤ length rows.old) × (rows.old ≡ replicate (length rows.old) 0) × Room stk.old frames.old cells.old next.old heads.old × (forms.now ≡ form_bytes) }
+fn read_pieces(elements: &[u64], n: usize, machine: &mut Machine, forms: &[u8], rows: &mut [u64])
+    requires { (row_words * n ≤ length elements.now) × (n ≤ most_elements) × (row_numbers * n ≤ length rows.old) × (rows.old ≡ replicate (length rows.old) 0) × (forms.now ≡ form_bytes) }
     ensures { rows.new ≡ pieces_words (kind_pieces (kinds_of n elements.now)) ++ replicate (length rows.old - row_numbers * n) 0 }
 {
     let mut at: usize = 0;
+    // a while: each turn goes on by the size of a piece
     while at < n {
         let size = pieces::piece_size(elements, n, ElementNumber(at));
         let row = ROW_NUMBERS * at;
         read_piece(
             places::rows_from(elements, ElementNumber(at)),
             size,
-            stk,
-            frames,
-            cells,
-            next,
-            heads,
+            machine,
             forms,
             &mut rows[row..],
         );
@@ -562,26 +496,17 @@ pub fn read_items(elements: &[u64], count: usize, rows: &mut [u64])
     ensures { rows.new ≡ item_rows elements.now count (length rows.old) }
 {
     lent_tables::clear(rows);
-    let n = least(
-        count,
-        elements.len() / places::ROW_WORDS,
-        least(rows.len() / ROW_NUMBERS, MOST_ELEMENTS, MOST_ELEMENTS),
-    );
-    let mut stk = [0u64; STACK];
-    let mut frames = [0u64; FRAMES];
-    let mut cells = [0u64; ROW_NUMBERS * MOST_ROWS];
-    let mut next = [0u64; MOST_ROWS];
-    let mut heads = [0u64; MOST_ROWS];
+    let n = count
+        .min(elements.len() / places::ROW_WORDS)
+        .min(rows.len() / ROW_NUMBERS)
+        .min(MOST_ELEMENTS);
+    let mut machine = Machine {
+        stk: [0; STACK],
+        frames: [0; FRAMES],
+        cells: [0; ROW_NUMBERS * MOST_ROWS],
+        next: [0; MOST_ROWS],
+        heads: [0; MOST_ROWS],
+    };
     let forms = form_table::forms();
-    read_pieces(
-        elements,
-        n,
-        &mut stk,
-        &mut frames,
-        &mut cells,
-        &mut next,
-        &mut heads,
-        &forms,
-        rows,
-    );
+    read_pieces(elements, n, &mut machine, &forms, rows);
 }

@@ -5,11 +5,11 @@
 ghost use Rattle.std.specs.Prelude.{◌≡◌, length};
 ghost use Rattle.puts.specs.Puts.{Wrote};
 ghost use Rattle.puts.specs.Lines.{Part};
-ghost use Rattle.tree_lines.specs.Lines.{fails_of, verdict_text, head_of, numbers_at, row_text, tree_line, tree_lines};
+ghost use Rattle.tree_lines.specs.Lines.{fails_of, verdict_text, head_of, row_text, tree_line, tree_lines};
 
 use form_numbers::ROW_NUMBERS;
 use puts::Filled;
-use refused_line::{COUNT, PLACE, REFUSAL};
+use refused_line::COUNT;
 
 // Where the strict reading's answer has whether the file passes, and the first row that is not supported.
 const PASSES: usize = 3;
@@ -42,22 +42,12 @@ pub fn put_head(rows: u64, passes: u64, row: u64, out: &mut [u8], at: usize) -> 
     put_verdict(passes, row, out, b)
 }
 
-// The numbers of a row, none where the table has no such row.
-fn numbers_at(tree: &[u64], i: usize) -> &[u64]
-    ensures { result.now ≡ numbers_at tree.now i }
-{
-    if i < tree.len() / ROW_NUMBERS {
-        return puts::words_from(tree, ROW_NUMBERS * i, ROW_NUMBERS);
-    }
-    &tree[tree.len()..]
-}
-
 // The line of a row: its number and its five numbers.
 pub fn put_row(tree: &[u64], i: usize, out: &mut [u8], at: usize) -> usize
     ensures { Wrote out.old at (row_text tree.now i) out.new result }
 {
     let a = puts::put_decimal(i as u64, out, at);
-    let b = puts::put_fields(numbers_at(tree, i), out, a);
+    let b = puts::put_fields(puts::numbers_at(tree, ROW_NUMBERS, i), out, a);
     puts::put_byte(puts::LINE_FEED, out, b)
 }
 
@@ -65,9 +55,8 @@ pub fn put_row(tree: &[u64], i: usize, out: &mut [u8], at: usize) -> usize
 fn put_tree_line(tree: &[u64], answer: &[u64], i: usize, out: &mut [u8], at: usize) -> usize
     ensures { Wrote out.old at (tree_line tree.now answer.now i) out.new result }
 {
-    let refusal = lent_tables::word_at(answer, REFUSAL);
-    if refusal != 0 {
-        return refused_line::put_refused(refusal, lent_tables::word_at(answer, PLACE), out, at);
+    if let Some(end) = refused_line::put_refusal(answer, out, at) {
+        return end;
     }
     if i == 0 {
         let rows = lent_tables::word_at(answer, COUNT);
@@ -82,7 +71,7 @@ fn tree_lines(tree: &[u64], answer: &[u64]) -> usize
     ensures { result ≡ tree_lines tree.now answer.now }
 {
     let rows = lent_tables::word_at(answer, COUNT) as usize;
-    let listed = lent_tables::least(rows, tree.len() / ROW_NUMBERS);
+    let listed = rows.min(tree.len() / ROW_NUMBERS);
     refused_line::lines_by(answer, listed + 1)
 }
 
@@ -90,16 +79,10 @@ fn tree_lines(tree: &[u64], answer: &[u64]) -> usize
 pub fn fill_tree(tree: &[u64], answer: &[u64], from: usize, out: &mut [u8]) -> Filled
     ensures { Part (tree_line tree.now answer.now) from (tree_lines tree.now answer.now) (length out.old) result out.new }
 {
-    let to = tree_lines(tree, answer);
-    let mut i = from;
-    let mut w: usize = 0;
-    while i < to {
-        let r = put_tree_line(tree, answer, i, out, w);
-        if out.len() <= r {
-            return puts::ended(i, to, out, w);
-        }
-        w = r;
-        i += 1;
-    }
-    puts::ended(i, to, out, w)
+    puts::fill(
+        |i, out, at| put_tree_line(tree, answer, i, out, at),
+        from,
+        tree_lines(tree, answer),
+        out,
+    )
 }

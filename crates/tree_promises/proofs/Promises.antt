@@ -1,4 +1,5 @@
 -- The promises of the strict reading, each by what is proved of the machine and of any LL(1) grammar. Assumes nothing.
+use Rattle.std.specs.Prelude.{Ok, Err}
 use Prim.Native.Nat.{ℕ, zero, suc, ◌*◌, ◌-◌, ◌/◌, ◌≤◌, ◌<◌}
 use mathlib.Core.Path.{◌≡◌, refl, sym, ◌∙◌, ap, subst}
 use mathlib.Core.Bool.{Bool, true, false, cond}
@@ -23,21 +24,19 @@ use Rattle.forms.proofs.Closing as closing
 use Rattle.forms.proofs.Tiling.{rows_tiled}
 use Rattle.forms.proofs.Leaves.{leaves_are}
 use Rattle.forms.proofs.Labels.{labels_lead}
-use Rattle.tree.specs.code.Answers.{reading_in, tree_answer_of, tree_table_of, no_file_answer, name_differs_answer, too_deep_answer, table_short}
+use Rattle.tree.specs.code.Answers.{reading_in, tree_answer_of, tree_table_of, no_file_answer, name_differs_answer, too_deep_answer, table_short, Answer}
 use Rattle.forms.specs.RowWords.{words_of}
 use Rattle.refusals.specs.Refusals.{strict_place}
 use Rattle.refusals.specs.declared.StrictRefusal.TheVariants as refusal
-use Rattle.tree.specs.declared.Answer.{Answer}
-use Rattle.tree.specs.declared.Answer.TheVariants.{Tree, Refused}
 use Rattle.tree.proofs.Lists.{terminals_size}
 use Rattle.tree_promises.specs.code.Promises.{FirstElements, tree_answer, Accepts, HasRows, OneTree, NoFileExactly, NameDiffersExactly, TooDeepExactly, FileExactly, IsShort, ZerosElse, RowsNest, LeavesInOrder, OperatorColumn, RowsFitLines, EachLabelLeads}
 use Rattle.tree_promises.proofs.Exactly as exactly
 
 -- an answer comes from one end of the reading
-tree_end : (room rows : ℕ) (o : End State Refusal) → tree_answer_of room o ≡ Tree rows → (s : State) × ((o ≡ read s) × (length (state_rows s) ≡ rows) × (5 * rows ≤ room))
+tree_end : (room rows : ℕ) (o : End State Refusal) → tree_answer_of room o ≡ Ok rows → (s : State) × ((o ≡ read s) × (length (state_rows s) ≡ rows) × (5 * rows ≤ room))
 tree_end room rows (read s) e = go (leb (5 * length (state_rows s)) room) refl e
   where
-    go : (b : Bool) → leb (5 * length (state_rows s)) room ≡ b → cond b (Tree (length (state_rows s))) (table_short (room / 5)) ≡ Tree rows
+    go : (b : Bool) → leb (5 * length (state_rows s)) room ≡ b → cond b (Ok (length (state_rows s))) (table_short (room / 5)) ≡ Ok rows
         → (t : State) × ((◌≡◌ {A = End State Refusal} (read s) (read t)) × (length (state_rows t) ≡ rows) × (5 * rows ≤ room))
     go true q e = let z : length (state_rows s) ≡ rows = cc in (s, (refl, z, omega (arith, leb-true (5 * length (state_rows s)) room q)))
     go false q e = let z : ◌≡◌ {A = ℕ} 0 1 = cc in clash z
@@ -46,28 +45,28 @@ tree_end room rows (stopped k name_differs) e = let z : ◌≡◌ {A = ℕ} 0 1 
 tree_end room rows (stopped k too_deep) e = let z : ◌≡◌ {A = ℕ} 0 1 = cc in clash z
 tree_end room rows spent e = let z : ◌≡◌ {A = ℕ} 0 1 = cc in clash z
 
-answer_read : (room : ℕ) (s : State) → 5 * length (state_rows s) ≤ room → tree_answer_of room (read s) ≡ Tree (length (state_rows s))
-answer_read room s l = ap (λ (b : Bool). cond b (Tree (length (state_rows s))) (table_short (room / 5))) (le-leb (5 * length (state_rows s)) room l)
+answer_read : (room : ℕ) (s : State) → 5 * length (state_rows s) ≤ room → tree_answer_of room (read s) ≡ Ok (length (state_rows s))
+answer_read room s l = ap (λ (b : Bool). cond b (Ok (length (state_rows s))) (table_short (room / 5))) (le-leb (5 * length (state_rows s)) room l)
 
 -- the place of a refusal, and the rows of a tree
 abbrev placed : Answer → ℕ
-placed (Tree rows) = rows
-placed (Refused r) = strict_place r
+placed (Ok rows) = rows
+placed (Err r) = strict_place r
 
 -- refusals 1 to 4 are none of the tree's
 abbrev pub elsewhere : Answer → ℕ
-elsewhere (Tree rows) = 0
-elsewhere (Refused (refusal.Elements r)) = 1
-elsewhere (Refused (refusal.Unreadable e)) = 1
-elsewhere (Refused (refusal.NoFile e)) = 0
-elsewhere (Refused (refusal.NameDiffers e)) = 0
-elsewhere (Refused (refusal.TooDeep e)) = 0
-elsewhere (Refused (refusal.TreeShort rows)) = 0
+elsewhere (Ok rows) = 0
+elsewhere (Err (refusal.Elements r)) = 1
+elsewhere (Err (refusal.Unreadable e)) = 1
+elsewhere (Err (refusal.NoFile e)) = 0
+elsewhere (Err (refusal.NameDiffers e)) = 0
+elsewhere (Err (refusal.TooDeep e)) = 0
+elsewhere (Err (refusal.TreeShort rows)) = 0
 
 pub none_elsewhere : (room : ℕ) (o : End State Refusal) → elsewhere (tree_answer_of room o) ≡ 0
 none_elsewhere room (read s) = go (leb (5 * length (state_rows s)) room)
   where
-    go : (b : Bool) → elsewhere (cond b (Tree (length (state_rows s))) (table_short (room / 5))) ≡ 0
+    go : (b : Bool) → elsewhere (cond b (Ok (length (state_rows s))) (table_short (room / 5))) ≡ 0
     go true = refl
     go false = refl
 none_elsewhere room (bad k) = refl
@@ -84,7 +83,7 @@ accepts text table n room rows = (
       let r : reading_in text table n ≡ read f.0 = (meaning.reads_files (same_name text table) (FirstElements table n) f.0).1 f.1.0 in
       let l = f.1.1 in
       let m = f.1.2 in
-      ap (tree_answer_of room) r ∙ answer_read room f.0 (omega arith) ∙ ap Tree l,
+      ap (tree_answer_of room) r ∙ answer_read room f.0 (omega arith) ∙ ap Ok l,
 )
 
 pub has_rows : HasRows
@@ -98,7 +97,7 @@ one_tree text table n s t p q = meaning.one_reading (same_name text table) (Firs
 wrong_end : (room k : ℕ) (o : End State Refusal) → (o ≡ spent → ⊥) → tree_answer_of room o ≡ no_file_answer k → o ≡ bad k
 wrong_end room k (read s) d e = go (leb (5 * length (state_rows s)) room) e
   where
-    go : (b : Bool) → cond b (Tree (length (state_rows s))) (table_short (room / 5)) ≡ no_file_answer k → ◌≡◌ {A = End State Refusal} (read s) (bad k)
+    go : (b : Bool) → cond b (Ok (length (state_rows s))) (table_short (room / 5)) ≡ no_file_answer k → ◌≡◌ {A = End State Refusal} (read s) (bad k)
     go true e = let z : ◌≡◌ {A = ℕ} 0 1 = cc in clash z
     go false e = let z : ◌≡◌ {A = ℕ} 0 1 = cc in clash z
 wrong_end room k (bad j) d e = ap bad (ap placed e)
@@ -109,7 +108,7 @@ wrong_end room k spent d e = absurd (d refl)
 deep_end : (room k : ℕ) (o : End State Refusal) → tree_answer_of room o ≡ too_deep_answer k → (j : ℕ) × ((o ≡ stopped j too_deep) × (k ≡ j - 1))
 deep_end room k (read s) e = go (leb (5 * length (state_rows s)) room) e
   where
-    go : (b : Bool) → cond b (Tree (length (state_rows s))) (table_short (room / 5)) ≡ too_deep_answer k → (j : ℕ) × ((◌≡◌ {A = End State Refusal} (read s) (stopped j too_deep)) × (k ≡ j - 1))
+    go : (b : Bool) → cond b (Ok (length (state_rows s))) (table_short (room / 5)) ≡ too_deep_answer k → (j : ℕ) × ((◌≡◌ {A = End State Refusal} (read s) (stopped j too_deep)) × (k ≡ j - 1))
     go true e = let z : ◌≡◌ {A = ℕ} 0 1 = cc in clash z
     go false e = let z : ◌≡◌ {A = ℕ} 0 1 = cc in clash z
 deep_end room k (bad j) e = let z : ◌≡◌ {A = ℕ} 0 1 = cc in clash z
@@ -120,7 +119,7 @@ deep_end room k spent e = let z : ◌≡◌ {A = ℕ} 0 1 = cc in clash z
 name_end : (room k : ℕ) (o : End State Refusal) → tree_answer_of room o ≡ name_differs_answer k → (j : ℕ) × ((o ≡ stopped j name_differs) × (k ≡ j - 1))
 name_end room k (read s) e = go (leb (5 * length (state_rows s)) room) e
   where
-    go : (b : Bool) → cond b (Tree (length (state_rows s))) (table_short (room / 5)) ≡ name_differs_answer k → (j : ℕ) × ((◌≡◌ {A = End State Refusal} (read s) (stopped j name_differs)) × (k ≡ j - 1))
+    go : (b : Bool) → cond b (Ok (length (state_rows s))) (table_short (room / 5)) ≡ name_differs_answer k → (j : ℕ) × ((◌≡◌ {A = End State Refusal} (read s) (stopped j name_differs)) × (k ≡ j - 1))
     go true e = let z : ◌≡◌ {A = ℕ} 0 1 = cc in clash z
     go false e = let z : ◌≡◌ {A = ℕ} 0 1 = cc in clash z
 name_end room k (bad j) e = let z : ◌≡◌ {A = ℕ} 0 1 = cc in clash z
@@ -173,7 +172,7 @@ file_exactly text table n = exactly.read_exactly (same_name text table) (FirstEl
 short_end : (room k : ℕ) (o : End State Refusal) → tree_answer_of room o ≡ table_short k → (k ≡ room / 5) × ((s : State) × ((o ≡ read s) × (room < 5 * length (state_rows s))))
 short_end room k (read s) e = go (leb (5 * length (state_rows s)) room) refl e
   where
-    go : (b : Bool) → leb (5 * length (state_rows s)) room ≡ b → cond b (Tree (length (state_rows s))) (table_short (room / 5)) ≡ table_short k
+    go : (b : Bool) → leb (5 * length (state_rows s)) room ≡ b → cond b (Ok (length (state_rows s))) (table_short (room / 5)) ≡ table_short k
         → (k ≡ room / 5) × ((t : State) × ((◌≡◌ {A = End State Refusal} (read s) (read t)) × (room < 5 * length (state_rows t))))
     go true q e = let z : ◌≡◌ {A = ℕ} 0 1 = cc in clash z
     go false q e = let z : k ≡ room / 5 = cc in (z, (s, (refl, leb-false (5 * length (state_rows s)) room q)))
@@ -183,7 +182,7 @@ short_end room k (stopped j too_deep) e = let z : ◌≡◌ {A = ℕ} 0 1 = cc i
 short_end room k spent e = let z : ◌≡◌ {A = ℕ} 0 1 = cc in clash z
 
 answer_short : (room : ℕ) (s : State) → room < 5 * length (state_rows s) → tree_answer_of room (read s) ≡ table_short (room / 5)
-answer_short room s l = ap (λ (b : Bool). cond b (Tree (length (state_rows s))) (table_short (room / 5))) (lt-leb (5 * length (state_rows s)) room l)
+answer_short room s l = ap (λ (b : Bool). cond b (Ok (length (state_rows s))) (table_short (room / 5))) (lt-leb (5 * length (state_rows s)) room l)
 
 pub is_short : IsShort
 is_short text table n room k = (
@@ -198,10 +197,10 @@ is_short text table n room k = (
       ap (tree_answer_of room) r ∙ answer_short room s (omega arith) ∙ ap table_short (sym f.0),
 )
 
-zeros_end : (room : ℕ) (o : End State Refusal) → ((rows : ℕ) → tree_answer_of room o ≡ Tree rows → ⊥) → tree_table_of room o ≡ replicate room 0
+zeros_end : (room : ℕ) (o : End State Refusal) → ((rows : ℕ) → tree_answer_of room o ≡ Ok rows → ⊥) → tree_table_of room o ≡ replicate room 0
 zeros_end room (read s) d = go (leb (5 * length (state_rows s)) room) d
   where
-    go : (b : Bool) → ((rows : ℕ) → cond b (Tree (length (state_rows s))) (table_short (room / 5)) ≡ Tree rows → ⊥)
+    go : (b : Bool) → ((rows : ℕ) → cond b (Ok (length (state_rows s))) (table_short (room / 5)) ≡ Ok rows → ⊥)
         → cond b (words_of (state_rows s) ++ replicate (room - 5 * length (state_rows s)) 0) (replicate room 0) ≡ replicate room 0
     go true d = absurd (d (length (state_rows s)) refl)
     go false d = refl

@@ -1,14 +1,11 @@
 -- What the functions' proofs cite: the definitions at the branches that the code takes, and signed numbers in words. Assumes nothing.
-use mathlib.Core.Path.{◌≡◌, refl, sym, ap, ◌∙◌}
+use mathlib.Core.Path.{◌≡◌, refl, ap}
 use mathlib.Core.Bool.{true, false, true≢false}
-use Prim.Native.Nat.{ℕ, zero, suc, ◌-◌, ◌%◌, ◌≤◌, ◌<◌}
+use Prim.Native.Nat.{ℕ, zero, suc, ◌-◌, ◌≤◌, ◌<◌}
 use native.Mathlib.Omega.{arith}
 use lib.Dec.{T}
-use lib.IntN.{ℤ, pos, negsuc, nat_abs, ◌-ℤ◌}
+use lib.IntN.{ℤ, pos, negsuc, ◌-ℤ◌}
 use lib.Signed.{mag, lt_z, non_neg}
-use mir.Syntax.{w32}
-use mir.Val.{to_z}
-use mir.ValLaws.{to_z_pos}
 use borrow.Author.Tests.{lt-ltb, le-ltb, ltb-true, ne_eqb}
 use Rattle.integers.specs.FoldedNumbers.{integer_kind, truth_kind}
 use Rattle.pieces.specs.Classes as classes
@@ -18,7 +15,7 @@ use Rattle.values.specs.declared.Value.TheVariants.{Without}
 use Rattle.values.specs.Values.{language_value}
 use Rattle.places.specs.Places.{all_words}
 use Rattle.values.specs.ValueWords.{word_of, halves, positives}
-use Rattle.values.specs.code.Used.{signed_half, signed_number, used_constant, used_subtype, used_value}
+use Rattle.values.specs.code.Used.{signed_half, used_constant, used_subtype, used_value}
 
 -- ---- the language's names, and records that give nothing
 
@@ -55,17 +52,9 @@ pub flip : (z : ℤ) → lt_z z (pos 0) ≡ true → negsuc 0 -ℤ z ≡ pos (ma
 flip (pos n) p = absurd (omega (arith, ltb-true n 0 p))
 flip (negsuc n) p = rw (le-ltb (suc n) 1 (omega arith)) (ap pos (omega arith))
 
-pub minus_one_less : (m : ℕ) → negsuc 0 -ℤ pos m ≡ negsuc m
-minus_one_less zero = refl
-minus_one_less (suc m) = ap negsuc (omega arith)
-
 pub word_below : (z : ℤ) → lt_z z (pos 0) ≡ true → (all_words - 1) - mag z ≡ word_of z
 word_below (pos n) p = absurd (omega (arith, ltb-true n 0 p))
 word_below (negsuc n) p = omega arith
-
-pub word_above : (z : ℤ) → lt_z z (pos 0) ≡ false → nat_abs z ≡ word_of z
-word_above (pos n) p = refl
-word_above (negsuc n) p = absurd (true≢false p)
 
 pub above : (z : ℤ) → lt_z z (pos 0) ≡ false → T (non_neg z)
 above (pos n) p = tt
@@ -76,11 +65,3 @@ half_low m h = rw (lt-ltb m positives h)
 
 pub half_high : (m : ℕ) → positives ≤ m → signed_half m ≡ negsuc (halves - 1 - m)
 half_high m h = rw (le-ltb m positives h)
-
-pub number_low : (n : ℕ) → n % halves < positives → to_z w32 (n % halves) ≡ signed_number n
-unfolding signed_number
-number_low n h = to_z_pos w32 (n % halves) h ∙ sym (half_low (n % halves) h)
-
-pub number_high : (n : ℕ) → positives ≤ n % halves → negsuc (halves - 1 - n % halves) ≡ signed_number n
-unfolding signed_number
-number_high n h = sym (half_high (n % halves) h)

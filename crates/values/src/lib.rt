@@ -4,7 +4,7 @@
 
 ghost use Rattle.std.specs.Prelude.{◌≡◌};
 ghost use Rattle.values.specs.Values.{language_value};
-ghost use Rattle.values.specs.ValueWords.{word_of, truth_word, state_of, value_kind, low_of, high_of};
+ghost use Rattle.values.specs.ValueWords.{word_of, state_of, value_kind, low_of, high_of};
 ghost use Rattle.values.specs.code.Used.{signed_number, used_constant, used_subtype, used_value};
 
 // What an item comes to: a number, a truth, a subtype's ends, the truths as a type; or the state that it is without one.
@@ -19,12 +19,8 @@ pub enum Value {
 
 const LARGEST: i32 = integers::LARGEST as i32;
 
-// How many numbers there are in half a word, and of them those that are not negative.
+// How many numbers there are in half a word.
 const HALVES: u64 = 4294967296;
-
-const POSITIVES: u64 = HALVES / 2;
-
-const LAST_HALF: u64 = HALVES - 1;
 
 // The names that the language claims, by number.
 pub fn language_value(k: u64) -> Value
@@ -41,31 +37,18 @@ pub fn language_value(k: u64) -> Value
     }
 }
 
-// A number as a word, in two's complement: `as` loses a sign, so each sign has its own way.
+// A number as a word, in two's complement.
 pub fn word(z: i32) -> u64
     ensures { result ≡ word_of z }
 {
-    if z < 0 {
-        return u64::MAX - ((-1 - z) as u64);
-    }
-    z as u64
+    i64::from(z).cast_unsigned()
 }
 
 // The number in a word's low half.
 pub fn number(n: u64) -> i32
     ensures { result ≡ signed_number n }
 {
-    let m = n % HALVES;
-    if m < POSITIVES {
-        return m as i32;
-    }
-    -1 - ((LAST_HALF - m) as i32)
-}
-
-fn truth_word(t: bool) -> u64
-    ensures { result ≡ truth_word t }
-{
-    if t { 1 } else { 0 }
+    ((n % HALVES) as u32).cast_signed()
 }
 
 // The state of the record.
@@ -73,11 +56,8 @@ pub fn state_word(v: Value) -> u64
     ensures { result ≡ state_of v }
 {
     match v {
-        Value::Number(_) => 0,
-        Value::Truth(_) => 0,
-        Value::Range(_, _) => 0,
-        Value::Truths => 0,
-        Value::Without(s) => s as u64,
+        Value::Number(_) | Value::Truth(_) | Value::Range(_, _) | Value::Truths => 0,
+        Value::Without(s) => u64::from(s),
     }
 }
 
@@ -86,10 +66,8 @@ pub fn kind_word(v: Value) -> u64
     ensures { result ≡ value_kind v }
 {
     match v {
-        Value::Number(_) => integers::KIND_INTEGER,
-        Value::Truth(_) => integers::KIND_TRUTH,
-        Value::Range(_, _) => integers::KIND_INTEGER,
-        Value::Truths => integers::KIND_TRUTH,
+        Value::Number(_) | Value::Range(_, _) => integers::KIND_INTEGER,
+        Value::Truth(_) | Value::Truths => integers::KIND_TRUTH,
         Value::Without(_) => 0,
     }
 }
@@ -100,10 +78,9 @@ pub fn low_word(v: Value) -> u64
 {
     match v {
         Value::Number(z) => word(z),
-        Value::Truth(t) => truth_word(t),
+        Value::Truth(t) => u64::from(t),
         Value::Range(low, _) => word(low),
-        Value::Truths => 0,
-        Value::Without(_) => 0,
+        Value::Truths | Value::Without(_) => 0,
     }
 }
 
@@ -112,11 +89,9 @@ pub fn high_word(v: Value) -> u64
     ensures { result ≡ high_of v }
 {
     match v {
-        Value::Number(_) => 0,
-        Value::Truth(_) => 0,
+        Value::Number(_) | Value::Truth(_) | Value::Without(_) => 0,
         Value::Range(_, high) => word(high),
         Value::Truths => 1,
-        Value::Without(_) => 0,
     }
 }
 

@@ -35,26 +35,21 @@ unfolding verdict_of
 all_left l n = refl
 
 module _ (l : List ℕ) (n before i : ℕ) (inv : Whole l n before i) where
-  here : i < n → i < length l / 5 → verdict_of l n ≡ cond (unsupported before (get_or l (5 * i) 0)) (NotSupported i) (verdict_from (get_or l (5 * i) 0) (suc i) (drop (suc i) (forms_in (rows_in l n) l)))
+  here : i < rows_in l n → verdict_of l n ≡ cond (unsupported before (get_or l (5 * i) 0)) (NotSupported i) (verdict_from (get_or l (5 * i) 0) (suc i) (drop (suc i) (forms_in (rows_in l n) l)))
   unfolding verdict_from
-  here h m =
-      let k : i < rows_in l n = omega arith in
+  here k =
       sym inv
       ∙ ap (verdict_from before i) (drop-cons (forms_in (rows_in l n) l) i 0 (omega (arith, forms_size (rows_in l n) l)) ∙ ap (λ (x : ℕ). x ∷ drop (suc i) (forms_in (rows_in l n) l)) (forms_get (rows_in l n) l i k))
 
-  pub no_more : length l / 5 ≤ i → Passes ≡ verdict_of l n
-  unfolding verdict_from
-  no_more h = sym (sym inv ∙ ap (verdict_from before i) (drop_of_length-le (forms_in (rows_in l n) l) {i = i} (omega (arith, forms_size (rows_in l n) l))))
-
-  pub all_passed : n ≤ i → Passes ≡ verdict_of l n
+  pub all_passed : rows_in l n ≤ i → Passes ≡ verdict_of l n
   unfolding verdict_from
   all_passed h = sym (sym inv ∙ ap (verdict_from before i) (drop_of_length-le (forms_in (rows_in l n) l) {i = i} (omega (arith, forms_size (rows_in l n) l))))
 
-  pub first_fails : (r : Bool) → i < n → i < length l / 5 → r ≡ unsupported before (get_or l (5 * i) 0) → r ≡ true → NotSupported i ≡ verdict_of l n
-  first_fails r h m e t =
-      sym (here h m ∙ ap (λ (b : Bool). cond b (NotSupported i) (verdict_from (get_or l (5 * i) 0) (suc i) (drop (suc i) (forms_in (rows_in l n) l)))) (sym e ∙ t))
+  pub first_fails : (r : Bool) → i < rows_in l n → r ≡ unsupported before (get_or l (5 * i) 0) → r ≡ true → NotSupported i ≡ verdict_of l n
+  first_fails r h e t =
+      sym (here h ∙ ap (λ (b : Bool). cond b (NotSupported i) (verdict_from (get_or l (5 * i) 0) (suc i) (drop (suc i) (forms_in (rows_in l n) l)))) (sym e ∙ t))
 
-  pub goes_on_lem : (r : Bool) → i < n → i < length l / 5 → r ≡ unsupported before (get_or l (5 * i) 0) → r ≡ false → Whole l n (get_or l (5 * i) 0) (i + 1)
-  goes_on_lem r h m e t =
+  pub goes_on_lem : (r : Bool) → i < rows_in l n → r ≡ unsupported before (get_or l (5 * i) 0) → r ≡ false → Whole l n (get_or l (5 * i) 0) (i + 1)
+  goes_on_lem r h e t =
       ap (λ (j : ℕ). verdict_from (get_or l (5 * i) 0) j (drop j (forms_in (rows_in l n) l))) (add-one i)
-      ∙ sym (here h m ∙ ap (λ (b : Bool). cond b (NotSupported i) (verdict_from (get_or l (5 * i) 0) (suc i) (drop (suc i) (forms_in (rows_in l n) l)))) (sym e ∙ t))
+      ∙ sym (here h ∙ ap (λ (b : Bool). cond b (NotSupported i) (verdict_from (get_or l (5 * i) 0) (suc i) (drop (suc i) (forms_in (rows_in l n) l)))) (sym e ∙ t))

@@ -6,6 +6,7 @@ ghost use Rattle.verdict.specs.code.Judging.{unsupported, verdict_of};
 
 use form_numbers::{BARE_LOOP, BLOCK_IS, EXIT, GUARD, LABEL, NEXT, NULL, ROW_NUMBERS, WHILE_LOOP};
 
+// An enum of its own and no Option: `passes` and `not supported` are the subject's own two words for it.
 #[derive(Clone, Copy)]
 pub enum Verdict {
     Passes,
@@ -28,17 +29,12 @@ pub fn judge(tree: &[u64], rows: usize) -> Verdict
     ensures { result ≡ verdict_of tree.now rows }
 {
     let mut before: u64 = 0;
-    let mut i: usize = 0;
-    while i < rows {
-        if tree.len() / ROW_NUMBERS <= i {
-            return Verdict::Passes;
-        }
+    for i in 0..rows.min(tree.len() / ROW_NUMBERS) {
         let form = tree[ROW_NUMBERS * i];
         if fails(before, form) {
             return Verdict::NotSupported(i);
         }
         before = form;
-        i += 1;
     }
     Verdict::Passes
 }

@@ -1,5 +1,6 @@
 -- Laws of `begins` and `searched` at places of their lists, and that the search in a packed list finds the place in the list of words.
 -- Assumes nothing.
+use Rattle.std.proofs.Common.{Option, Some, None}
 use mathlib.Core.Path.{◌≡◌, refl, sym, ap, ◌∙◌}
 use mathlib.Core.Bool.{Bool, true, false, not, ◌&&◌, ◌||◌, false≢true, and-false}
 use mathlib.Core.List.{List, [], ◌∷◌, ◌++◌}
@@ -17,8 +18,6 @@ use Rattle.classes.specs.Bytes.{between, is_letter, lower}
 use Rattle.classes.proofs.Laws.{part_rest, by_test, within_low, within_high, not_upper, not_lower}
 use Rattle.words.specs.Words.{delimiters, bytes_of, begins, spells, place_from}
 use Rattle.words.specs.code.Packed.{searched, byte_from}
-use Rattle.words.specs.declared.Place.{Place}
-use Rattle.words.specs.declared.Place.TheVariants.{At, Nowhere}
 
 -- the turns of `begins_with`: x is the byte in lower case
 module _ (w t : List ℕ) (i : ℕ) (whole : Bool) where
@@ -46,8 +45,8 @@ searched_over (suc n) k w [] = refl
 searched_over (suc n) k w (x ∷ t) = searched_over n k w t
 
 -- the turns of `search`: x is the answer of `entry_is` for the word at i
-module _ (w t : List ℕ) (i k : ℕ) (whole : Place) where
-  found_here : i < length t → (eqb (get_or t i 0) (length w) && begins w (drop (suc i) t)) ≡ true → searched 0 k w (drop i t) ≡ At k
+module _ (w t : List ℕ) (i k : ℕ) (whole : Option ℕ) where
+  found_here : i < length t → (eqb (get_or t i 0) (length w) && begins w (drop (suc i) t)) ≡ true → searched 0 k w (drop i t) ≡ Some k
   unfolding searched
   found_here h e = rw (drop-cons t i 0 h) (rw (e, searched))
 
@@ -55,7 +54,7 @@ module _ (w t : List ℕ) (i k : ℕ) (whole : Place) where
   unfolding searched
   past_this h e = rw (drop-cons t i 0 h) (rw (e, searched) (searched_over (get_or t i 0) (suc k) w (drop (suc i) t) ∙ rw drop-drop))
 
-  pub search_end : searched 0 k w (drop i t) ≡ whole → length t ≤ i → Nowhere ≡ whole
+  pub search_end : searched 0 k w (drop i t) ≡ whole → length t ≤ i → None ≡ whole
   unfolding searched
   search_end v h = rw (drop_of_length-le t h) at v
 
@@ -63,7 +62,7 @@ module _ (w t : List ℕ) (i k : ℕ) (whole : Place) where
     test : (eqb (get_or t i 0) (length w) && begins w (drop (suc i) t)) ≡ x
     test = sym (rw (part_rest t (i + 1), add-one) at e)
 
-    pub search_hit : x ≡ true → At k ≡ whole
+    pub search_hit : x ≡ true → Some k ≡ whole
     search_hit y = sym (found_here h (test ∙ y)) ∙ v
 
     pub search_past : x ≡ false → searched 0 (k + 1) w (drop (i + 1 + get_or t i 0) t) ≡ whole
@@ -99,7 +98,7 @@ packed_place k w (x ∷ xs) = go (spells w x) refl (packed_place (suc k) w xs)
     go false e h = rw (entry_spells w x (packed xs) ∙ e, searched, e, place_from) (searched_over (length (bytes_of x)) (suc k) w (bytes_of x ++ packed xs) ∙ rw drop-append_seam h)
 
 -- the first word of a list, or one of the others
-place_first : (k : ℕ) (w : List ℕ) (x : String) (xs : List String) → spells w x ≡ true → place_from k w (x ∷ xs) ≡ At k
+place_first : (k : ℕ) (w : List ℕ) (x : String) (xs : List String) → spells w x ≡ true → place_from k w (x ∷ xs) ≡ Some k
 unfolding place_from
 place_first k w x xs t = rw (t, place_from)
 
@@ -107,23 +106,23 @@ place_later : (k : ℕ) (w : List ℕ) (x : String) (xs : List String) → spell
 unfolding place_from
 place_later k w x xs t = rw (t, place_from)
 
-place_none : (k : ℕ) (w : List ℕ) → place_from k w [] ≡ Nowhere
+place_none : (k : ℕ) (w : List ℕ) → place_from k w [] ≡ None
 unfolding place_from
 place_none k w = refl
 
 -- a place is between the list
-pub place_below : (xs : List String) (k n : ℕ) (w : List ℕ) → place_from k w xs ≡ At n → n < k + length xs
+pub place_below : (xs : List String) (k n : ℕ) (w : List ℕ) → place_from k w xs ≡ Some n → n < k + length xs
 unfolding place_from
 place_below [] k n w e = let z : ◌≡◌ {A = ℕ} 0 1 = cc in absurd (omega arith)
 place_below (x ∷ xs) k n w e = go (spells w x) refl (place_below xs (suc k) n w)
   where
-    go : (y : Bool) → spells w x ≡ y → (place_from (suc k) w xs ≡ At n → n < suc k + length xs) → n < k + suc (length xs)
-    go true t h = let i : At k ≡ At n = sym (place_first k w x xs t) ∙ e in let j : k ≡ n = cc in omega arith
+    go : (y : Bool) → spells w x ≡ y → (place_from (suc k) w xs ≡ Some n → n < suc k + length xs) → n < k + suc (length xs)
+    go true t h = let i : Some k ≡ Some n = sym (place_first k w x xs t) ∙ e in let j : k ≡ n = cc in omega arith
     go false t h = omega (arith, h (sym (place_later k w x xs t) ∙ e))
 
 -- the turns of `byte_place`
-module _ (b : ℕ) (t : List ℕ) (i k : ℕ) (whole : Place) (v : byte_from (k + i) b (drop i t) ≡ whole) where
-  pub byte_hit : i < length t → get_or t i 0 ≡ b → At (k + i) ≡ whole
+module _ (b : ℕ) (t : List ℕ) (i k : ℕ) (whole : Option ℕ) (v : byte_from (k + i) b (drop i t) ≡ whole) where
+  pub byte_hit : i < length t → get_or t i 0 ≡ b → Some (k + i) ≡ whole
   unfolding byte_from
   byte_hit h e = rw (drop-cons t i 0 h, eq-eqb (get_or t i 0) b e, byte_from) at v
 
@@ -131,7 +130,7 @@ module _ (b : ℕ) (t : List ℕ) (i k : ℕ) (whole : Place) (v : byte_from (k 
   unfolding byte_from
   byte_past h e = rw (add-one i, add-suc) (rw (drop-cons t i 0 h, ne_eqb (get_or t i 0) b e, byte_from) at v)
 
-  pub byte_end : length t ≤ i → Nowhere ≡ whole
+  pub byte_end : length t ≤ i → None ≡ whole
   unfolding byte_from
   byte_end h = rw (drop_of_length-le t h) at v
 
@@ -215,7 +214,7 @@ lower_other d x p e = lower_plain d x p ∙ ne_eqb x d (λ z. eqb-false d x e (s
 not_pair : (b d x y : ℕ) → eqb (lower d) y ≡ false → (eqb (lower b) x && (eqb (lower d) y && true)) ≡ false
 not_pair b d x y e = rw (e, and-false)
 
-pub pair_none : (b d : ℕ) → (eqb d 61 || eqb d 62 || eqb d 42) ≡ false → Nowhere ≡ place_from 0 (b ∷ d ∷ []) delimiters
+pub pair_none : (b d : ℕ) → (eqb d 61 || eqb d 62 || eqb d 42) ≡ false → None ≡ place_from 0 (b ∷ d ∷ []) delimiters
 unfolding spells begins bytes_of is_letter
 pair_none b d e =
     let x = or_none (eqb d 61) (eqb d 62) (eqb d 42) e in

@@ -1,10 +1,8 @@
 -- The reserved words and the delimiters, and which of a list a stretch of bytes spells. Assumes nothing.
-use Rattle.std.specs.Prelude.{ℕ, suc, Bool, true, false, ◌&&◌, List, [] as []ᴸ, ◌∷◌ as ◌∷ᴸ◌, eqb, length}
+use Rattle.std.specs.Prelude.{ℕ, suc, Bool, true, false, ◌&&◌, List, [] as []ᴸ, ◌∷◌ as ◌∷ᴸ◌, eqb, length, Option, Some, None}
 use Prim.Native.Char.{code}
 use Prim.Native.String.{String, [], ◌∷◌}
 use Rattle.classes.specs.Bytes.{lower}
-use Rattle.words.specs.declared.Place.{Place}
-use Rattle.words.specs.declared.Place.TheVariants.{At, Nowhere}
 
 -- "Reserved words are those of 000": the 115 of its clause 15.10
 unfoldable pub reserved_words : List String
@@ -48,9 +46,9 @@ unfoldable pub spells : List ℕ → String → Bool
 spells w x = eqb (length (bytes_of x)) (length w) && begins w (bytes_of x)
 
 -- which word of a list the bytes spell, the list's first being number k
-unfoldable pub place_from : ℕ → List ℕ → List String → Place
-place_from k w []ᴸ = Nowhere
-place_from k w (x ∷ᴸ xs) = elim (spells w x) [ true ↦ At k | false ↦ place_from (suc k) w xs ]
+unfoldable pub place_from : ℕ → List ℕ → List String → Option ℕ
+place_from k w []ᴸ = None
+place_from k w (x ∷ᴸ xs) = elim (spells w x) [ true ↦ Some k | false ↦ place_from (suc k) w xs ]
 
-abbrev pub place_in : List ℕ → List String → Place
+abbrev pub place_in : List ℕ → List String → Option ℕ
 place_in w xs = place_from 0 w xs

@@ -9,25 +9,16 @@ ghost use Rattle.words.specs.code.Packed.{delimiter_count, searched, byte_from};
 // How many delimiters have two bytes: they stand first in the list.
 const TWO_BYTE_DELIMITERS: usize = 7;
 
-// The number of a word in its list, counted from 0.
-#[derive(Clone, Copy)]
-pub enum Place {
-    At(usize),
-    Nowhere,
-}
-
 fn begins_with(w: &[u8], t: &[u8]) -> bool
     ensures { result ≡ begins w.now t.now }
 {
-    let mut i = 0;
-    while i < w.len() {
+    for (i, b) in w.iter().enumerate() {
         if t.len() <= i {
             return false;
         }
-        if classes::lower_case(w[i]) != t[i] {
+        if classes::lower_case(*b) != t[i] {
             return false;
         }
-        i += 1;
     }
     true
 }
@@ -43,24 +34,25 @@ fn entry_is(w: &[u8], t: &[u8], n: usize) -> bool
 }
 
 // The place of a word in a list that holds each word after its length.
-fn search(w: &[u8], list: &[u8]) -> Place
+fn search(w: &[u8], list: &[u8]) -> Option<usize>
     ensures { result ≡ searched 0 0 w.now list.now }
 {
+    // a while: each turn goes on after the word that it passed
     let mut i = 0;
     let mut k = 0;
     while i < list.len() {
         let n = list[i] as usize;
         let from = i + 1;
         if entry_is(w, &list[from..], n) {
-            return Place::At(k);
+            return Some(k);
         }
         i = from + n;
         k += 1;
     }
-    Place::Nowhere
+    None
 }
 
-pub fn reserved_word(w: &[u8]) -> Place
+pub fn reserved_word(w: &[u8]) -> Option<usize>
     ensures { result ≡ place_in w.now reserved_words }
 {
     search(
@@ -70,33 +62,32 @@ pub fn reserved_word(w: &[u8]) -> Place
 }
 
 // The place of a byte in a list of bytes, the first of which has the number k.
-fn byte_place(b: u8, list: &[u8], k: usize) -> Place
+fn byte_place(b: u8, list: &[u8], k: usize) -> Option<usize>
     requires { k ≤ delimiter_count }
     ensures { result ≡ byte_from k b list.now }
 {
-    let mut i = 0;
-    while i < list.len() {
-        if list[i] == b {
-            return Place::At(k + i);
+    // no `position(..).map(..)`: its proof was tried by `search`, with the set for chains too, and did not close
+    for (i, x) in list.iter().enumerate() {
+        if *x == b {
+            return Some(k + i);
         }
-        i += 1;
     }
-    Place::Nowhere
+    None
 }
 
 // A delimiter of one byte: they stand after the seven of two bytes.
-pub fn delimiter_one(b: u8) -> Place
+pub fn delimiter_one(b: u8) -> Option<usize>
     ensures { result ≡ place_in (b ∷ []) delimiters }
 {
     byte_place(b, b"&'()*+,-./:;<=>|[]", TWO_BYTE_DELIMITERS)
 }
 
 // A delimiter of two bytes: each ends with `=`, `>` or `*`.
-pub fn delimiter_two(b: u8, d: u8) -> Place
+pub fn delimiter_two(b: u8, d: u8) -> Option<usize>
     ensures { result ≡ place_in (b ∷ d ∷ []) delimiters }
 {
     if (d == b'=') | (d == b'>') | (d == b'*') {
         return search(&[b, d], b"\x02=>\x02**\x02:=\x02/=\x02>=\x02<=\x02<>");
     }
-    Place::Nowhere
+    None
 }

@@ -1,12 +1,9 @@
--- The invariant: what was passed, with the run of the rest, is the run of the whole. The measure is what is left. Assumes nothing.
+-- The invariant: what was passed, with the run of the rest, is the run of the whole. Assumes nothing.
 use mathlib.Core.Path.{◌≡◌}
 use Rattle.classes.specs.Runs.{count_while, goes_on}
-use lib.ListN.{length, drop}
-use Prim.Native.Nat.{◌+◌, ◌-◌, ◌≤◌}
+use lib.ListN.{drop}
+use Prim.Native.Nat.{◌+◌}
 use Rattle.classes.proofs.run_length.Given as goal
 
 abbrev pub invariant-loop-i : goal.invariant-loop-i
-invariant-loop-i l = (l.i ≤ length l.s) × (l.i + count_while (goes_on l.c) (drop l.i l.s) ≡ count_while (goes_on l.c) l.s)
-
-abbrev pub decreases-loop-i : goal.decreases-loop-i
-decreases-loop-i l = length l.s - l.i
+invariant-loop-i l = l.i + count_while (goes_on l.c) (drop l.i l.s) ≡ count_while (goes_on l.c) l.s

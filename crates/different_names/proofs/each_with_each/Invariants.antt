@@ -7,6 +7,3 @@ use Rattle.different_names.proofs.each_with_each.Given as goal
 
 abbrev pub invariant-loop-k : goal.invariant-loop-k
 invariant-loop-k l = distinct (names_from (name_at l.s l.firsts l.sizes) l.k (l.n - l.k)) ≡ distinct (names_from (name_at l.s l.firsts l.sizes) 0 l.n)
-
-abbrev pub decreases-loop-k : goal.decreases-loop-k
-decreases-loop-k l = l.n - l.k

@@ -1,19 +1,17 @@
--- The loop: whether the name is one of those that are left. Assumes nothing.
-use mathlib.Core.Path.{refl}
-use Rattle.different_names.proofs.Loops.{found_below, found_above, found_same, found_none}
+-- The name is compared with each of the others. Assumes nothing.
+use mathlib.Core.Path.{refl, ◌∙◌}
+use borrow.Author.Rules.{rules}
+use borrow.Author.Tests.{tests}
+use Rattle.std.proofs.lemmas.Iterator.{YieldsList-from_range}
+use Rattle.std.proofs.lemmas.Iterator.Search.{any_from_yields_List}
+use Rattle.stored.specs.Stored.{same_bytes}
+use Rattle.different_names.specs.StandingNames.{name_at}
+use Rattle.different_names.proofs.Loops.{among_range}
 use Rattle.different_names.proofs.found_from.Goals as goal
 
-pub loop-j-init : goal.loop-j-init
-loop-j-init c = refl
-
-pub loop-j-preserved-in-Below : goal.loop-j-preserved-in-Below
-loop-j-preserved-in-Below c = search found_below
-
-pub returns-in-Same : goal.returns-in-Same
-returns-in-Same c = search found_same
-
-pub loop-j-preserved : goal.loop-j-preserved
-loop-j-preserved c = search found_above
-
 pub returns : goal.returns
-returns c = search found_none
+returns c =
+    rw (← c.name_of-name.ensures)
+    (any_from_yields_List (λ j. same_bytes c.name_of-name.result.now (name_at c.args.s.now c.args.firsts.now c.args.sizes.now j)) _ _ _ c.any.ensures.ran (YieldsList-from_range c.args.from c.args.n _ refl refl)
+    (λ x b q k. search (rules, tests))
+    ∙ among_range _ (name_at c.args.s.now c.args.firsts.now c.args.sizes.now) _ _)

@@ -7,13 +7,13 @@ pub returns-then-n-eq0 : goal.returns-then-n-eq0
 returns-then-n-eq0 c = search told_none
 
 pub loop-i-init : goal.loop-i-init
-loop-i-init c = (omega arith, (omega arith, search climb_first))
+loop-i-init c = (omega arith, search climb_first)
 
 pub loop-i-preserved : goal.loop-i-preserved
-loop-i-preserved c = (omega arith, (omega arith, search climb_on))
+loop-i-preserved c = (omega arith, search climb_on)
 
-pub returns-in-Same : goal.returns-in-Same
-returns-in-Same c = search told_twice
+pub returns-in-Equal : goal.returns-in-Equal
+returns-in-Equal c = search told_twice
 
 pub returns : goal.returns
-returns c = search climb_whole
+returns c = climb_whole _ _ _ _ _ _ c.loop-i.invariant.1 (omega arith) (omega arith)

@@ -4,7 +4,6 @@ use borrow.Author.Rules.{rules}
 use Rattle.element_reading.proofs.Turns.{skip_in, skip_fits, skip_less, skip_below, skip_count, skip_puts, add_in, add_fits, add_less, add_below, add_count, add_puts, kept_length}
 use native.Mathlib.Omega.{arith}
 use native.Mathlib.Nat.{add-zero}
-use Prim.Native.Nat.{◌-◌}
 use mathlib.Core.Path.{refl}
 use Rattle.element_reading.proofs.read_line.Goals as goal
 

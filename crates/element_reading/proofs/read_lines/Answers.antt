@@ -5,7 +5,7 @@ use Rattle.element_reading.proofs.Turns.{line_in, text_below, text_count, text_p
 use Rattle.element_reading.specs.Rows.{rows_of}
 use lib.ListN.{length}
 use native.Mathlib.Omega.{arith}
-use Prim.Native.Nat.{◌+◌, ◌-◌, ◌≤◌}
+use Prim.Native.Nat.{◌+◌, ◌≤◌}
 use mathlib.Core.Path.{refl}
 use Rattle.element_reading.proofs.read_lines.Goals as goal
 

@@ -8,8 +8,8 @@ returns-then-s-lt-LONG_DELIMITER c = search double_short
 pub overflow_cast-result : goal.overflow_cast-result
 overflow_cast-result c = search delimiter_fits
 
-pub returns-in-At : goal.returns-in-At
-returns-in-At c = search double_found
+pub returns-in-Some : goal.returns-in-Some
+returns-in-Some c = search double_found
 
-pub returns-in-Nowhere : goal.returns-in-Nowhere
-returns-in-Nowhere c = search double_none
+pub returns-in-None : goal.returns-in-None
+returns-in-None c = search double_none

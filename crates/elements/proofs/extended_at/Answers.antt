@@ -11,5 +11,5 @@ returns-then-spoils_extended c = search extended_spoilt
 pub returns-else-spoils_extended : goal.returns-else-spoils_extended
 returns-else-spoils_extended c = search extended_whole
 
-pub returns-in-Never : goal.returns-in-Never
-returns-in-Never c = search extended_open
+pub returns-in-None : goal.returns-in-None
+returns-in-None c = search extended_open

@@ -5,8 +5,8 @@ use Rattle.elements.proofs.single_at.Goals as goal
 pub overflow_cast-result : goal.overflow_cast-result
 overflow_cast-result c = search delimiter_fits
 
-pub returns-in-At : goal.returns-in-At
-returns-in-At c = search single_found
+pub returns-in-Some : goal.returns-in-Some
+returns-in-Some c = search single_found
 
-pub returns-in-Nowhere : goal.returns-in-Nowhere
-returns-in-Nowhere c = search single_none
+pub returns-in-None : goal.returns-in-None
+returns-in-None c = search single_none

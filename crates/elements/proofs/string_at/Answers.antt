@@ -6,8 +6,8 @@ use Rattle.elements.proofs.string_at.Goals as goal
 pub overflow_add-result : goal.overflow_add-result
 overflow_add-result c = search closed_fits
 
-pub returns-in-After : goal.returns-in-After
-returns-in-After c = search string_whole
+pub returns-in-Some : goal.returns-in-Some
+returns-in-Some c = search string_whole
 
-pub returns-in-Never : goal.returns-in-Never
-returns-in-Never c = search string_open
+pub returns-in-None : goal.returns-in-None
+returns-in-None c = search string_open

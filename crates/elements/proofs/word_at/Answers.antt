@@ -16,8 +16,8 @@ overflow_cast-result c = search reserved_fits
 pub returns-then-next-eq34 : goal.returns-then-next-eq34
 returns-then-next-eq34 c = search word_quote
 
-pub returns-in-At : goal.returns-in-At
-returns-in-At c = search word_reserved
+pub returns-in-Some : goal.returns-in-Some
+returns-in-Some c = search word_reserved
 
 pub returns-else-next-eq34 : goal.returns-else-next-eq34
 returns-else-next-eq34 c = search word_name

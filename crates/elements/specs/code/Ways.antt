@@ -1,6 +1,6 @@
 -- The code's way to what stands at the front of a line's rest: by what its first byte opens, each function looking at the byte after its
 -- own element. `proofs/Rules.antt` joins it to the rules of `Element`. Assumes nothing.
-use Rattle.std.specs.Prelude.{ℕ, ◌+◌, Bool, cond, ◌&&◌, ◌||◌, List, eqb, ltb, length, get_or, take, drop}
+use Rattle.std.specs.Prelude.{ℕ, ◌+◌, Bool, cond, ◌&&◌, ◌||◌, List, eqb, ltb, length, get_or, take, drop, Option, Some, None}
 use Rattle.classes.specs.Bytes.{is_letter, is_digit}
 use Rattle.classes.specs.Signs.{separates}
 use Rattle.classes.specs.Bytes as byte
@@ -8,14 +8,10 @@ use Rattle.classes.specs.Signs as sign
 use Rattle.classes.specs.Runs.{run}
 use Rattle.classes.specs.declared.Run.TheVariants.{Word}
 use Rattle.words.specs.Words.{place_in, reserved_words, delimiters}
-use Rattle.words.specs.declared.Place.{Place}
-use Rattle.words.specs.declared.Place.TheVariants.{At, Nowhere}
 use Rattle.numbers.specs.Numbers.{number}
 use Rattle.numbers.specs.declared.Number.{Number}
 use Rattle.numbers.specs.declared.Number.TheVariants.{Integer, Real, Neither}
 use Rattle.quoted.specs.Quoted.{closed}
-use Rattle.quoted.specs.declared.Closed.{Closed}
-use Rattle.quoted.specs.declared.Closed.TheVariants.{After, Never}
 use Rattle.elements.specs.Element.{unreadable_front, string_front, apostrophe_front, long_delimiter, delimiter_by, spoils_number}
 use Rattle.elements.specs.declared.Kind.{Kind}
 use Rattle.elements.specs.declared.Literal.{Literal}
@@ -27,18 +23,18 @@ use Rattle.elements.specs.declared.Front.TheVariants.{Skip, Element}
 unfoldable pub identifier_at : List ℕ → Front
 identifier_at s = cond (eqb (get_or s (run Word s) 0) sign.quote) (unreadable_front s) (Element Kind.Identifier (run Word s))
 
-abbrev pub word_by : Place → List ℕ → Front
-word_by (At n) s = Element (Kind.Reserved n) (run Word s)
-word_by Nowhere s = identifier_at s
+abbrev pub word_by : Option ℕ → List ℕ → Front
+word_by (Some n) s = Element (Kind.Reserved n) (run Word s)
+word_by None s = identifier_at s
 
 unfoldable pub letters_at : List ℕ → Front
 letters_at s = cond (eqb (get_or s (run Word s) 0) byte.underscore) (unreadable_front s) (word_by (place_in (take (run Word s) s) reserved_words) s)
 
 -- an extended identifier, and the byte after it
-abbrev pub extended_from : Closed → List ℕ → Front
-extended_from (After n) s =
+abbrev pub extended_from : Option ℕ → List ℕ → Front
+extended_from (Some n) s =
     cond (eqb n 1 || eqb (get_or s (n + 1) 0) byte.underscore || eqb (get_or s (n + 1) 0) sign.quote) (unreadable_front s) (Element Kind.Extended (n + 1))
-extended_from Never s = unreadable_front s
+extended_from None s = unreadable_front s
 
 unfoldable pub extended_at : List ℕ → Front
 extended_at s = extended_from (closed sign.backslash (drop 1 s)) s

@@ -1,15 +1,13 @@
--- The tests' ways. Assumes nothing.
-use Rattle.expressions.proofs.Turns.{outside_table, past_table, past_piece, in_piece}
+-- In the piece and the table, or after the table's last. Assumes nothing.
+use borrow.Author.Rules.{rules}
+use borrow.Author.Tests.{lt-ltb, le-ltb}
+use Rattle.expressions.specs.Folds.{element_in}
 use Rattle.expressions.proofs.element_in.Goals as goal
 
-pub returns-then-n-from : goal.returns-then-n-from
-returns-then-n-from c = search outside_table
+pub returns-then-at-min : goal.returns-then-at-min
+unfolding element_in
+returns-then-at-min c = search (rules, lt-ltb)
 
-pub returns-then-n-from-2 : goal.returns-then-n-from-2
-returns-then-n-from-2 c = search past_table
-
-pub returns-then-count-j : goal.returns-then-count-j
-returns-then-count-j c = search past_piece
-
-pub returns : goal.returns
-returns c = search in_piece
+pub returns-else-at-min : goal.returns-else-at-min
+unfolding element_in
+returns-else-at-min c = search (rules, le-ltb)

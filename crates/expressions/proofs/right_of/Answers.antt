@@ -1,12 +1,12 @@
 -- After the left operand's subtree, or past the last row. Assumes nothing.
-use Rattle.expressions.proofs.Turns.{right_none, right_past, right_there}
+use borrow.Author.Rules.{rules}
+use Rattle.expressions.specs.Folds.{right_of}
 use Rattle.expressions.proofs.right_of.Goals as goal
 
-pub returns-then-n-left : goal.returns-then-n-left
-returns-then-n-left c = search right_none
+pub returns-then-left-n : goal.returns-then-left-n
+unfolding right_of
+returns-then-left-n c = search rules
 
-pub returns-then-n-left-2 : goal.returns-then-n-left-2
-returns-then-n-left-2 c = search right_past
-
-pub returns : goal.returns
-returns c = search right_there
+pub returns-else-left-n : goal.returns-else-left-n
+unfolding right_of
+returns-else-left-n c = search rules

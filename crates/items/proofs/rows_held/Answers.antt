@@ -1,18 +1,15 @@
 -- The invariant: the rows counted with those left are the piece's. Assumes nothing.
-use borrow.Author.Rules.{rules}
-use native.Mathlib.Omega.{arith}
-use Prim.Native.Nat.{◌-◌}
 use Rattle.items.proofs.Laws.{held_start, held_stop, held_turn, held_end}
 use Rattle.items.proofs.rows_held.Goals as goal
 
 pub loop-m-init : goal.loop-m-init
-loop-m-init c = (omega arith, search held_start)
+loop-m-init c = search held_start
 
 pub returns-then-rows-from-eq0 : goal.returns-then-rows-from-eq0
 returns-then-rows-from-eq0 c = search held_stop
 
 pub loop-m-preserved : goal.loop-m-preserved
-loop-m-preserved c = (search rules, search held_turn)
+loop-m-preserved c = search held_turn
 
 pub returns : goal.returns
 returns c = search held_end

@@ -1,6 +1,7 @@
 -- After the first bound's rows, or none. Assumes nothing.
 use native.Mathlib.Omega.{arith}
-use Rattle.items.proofs.Laws.{held_room, second_none, second_past, second_there}
+use Rattle.items.specs.code.Items.{range_at}
+use Rattle.items.proofs.Laws.{held_room, second_none}
 use Rattle.items.proofs.second_bound.Goals as goal
 
 pub returns-then-m-eq-FIRST_BOUND : goal.returns-then-m-eq-FIRST_BOUND
@@ -21,8 +22,6 @@ offset_bounds-rows-from c = omega (arith, held_room c.args.rows.now c.args.items
 pub bounds-rows-from : goal.bounds-rows-from
 bounds-rows-from c = omega (arith, held_room c.args.rows.now c.args.items.now c.args.i c.args.m (omega (arith, c.requires.0)) c.requires.1, c.word-from.ensures, c.requires.0, c.if-m-eq-FIRST_BOUND.false)
 
-pub returns-then-m-size : goal.returns-then-m-size
-returns-then-m-size c = search second_past
-
 pub returns : goal.returns
-returns c = search second_there
+unfolding range_at
+returns c = rw (← c.word-from.ensures) (omega arith)

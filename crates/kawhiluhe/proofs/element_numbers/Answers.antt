@@ -2,8 +2,8 @@
 use Rattle.kawhiluhe.proofs.Laws.{elements_read, elements_refused}
 use Rattle.kawhiluhe.proofs.element_numbers.Goals as goal
 
-pub returns-in-Read : goal.returns-in-Read
-returns-in-Read c = search elements_read
+pub returns-in-Ok : goal.returns-in-Ok
+returns-in-Ok c = search elements_read
 
-pub returns-in-Refused : goal.returns-in-Refused
-returns-in-Refused c = search elements_refused
+pub returns-in-Err : goal.returns-in-Err
+returns-in-Err c = search elements_refused

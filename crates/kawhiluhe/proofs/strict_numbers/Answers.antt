@@ -8,5 +8,5 @@ returns-in-Passes c = search strict_passes
 pub returns-in-NotSupported : goal.returns-in-NotSupported
 returns-in-NotSupported c = search strict_fails
 
-pub returns-in-Refused : goal.returns-in-Refused
-returns-in-Refused c = search strict_refused
+pub returns-in-Err : goal.returns-in-Err
+returns-in-Err c = search strict_refused

@@ -2,8 +2,8 @@
 use Rattle.kawhiluhe.proofs.Laws.{unstore_read, unstore_refused}
 use Rattle.kawhiluhe.proofs.unstore_numbers.Goals as goal
 
-pub returns-in-Read : goal.returns-in-Read
-returns-in-Read c = search unstore_read
+pub returns-in-Ok : goal.returns-in-Ok
+returns-in-Ok c = search unstore_read
 
-pub returns-in-Refused : goal.returns-in-Refused
-returns-in-Refused c = search unstore_refused
+pub returns-in-Err : goal.returns-in-Err
+returns-in-Err c = search unstore_refused

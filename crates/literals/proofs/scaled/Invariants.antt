@@ -1,11 +1,8 @@
 -- The invariant: the product so far, which is not too large. Assumes nothing.
 use Rattle.integers.specs.Integers.{largest}
-use Prim.Native.Nat.{◌-◌, ◌≤◌, ◌*◌, ◌^◌}
+use Prim.Native.Nat.{◌≤◌, ◌*◌, ◌^◌}
 use mathlib.Core.Path.{◌≡◌}
 use Rattle.literals.proofs.scaled.Given as goal
 
-abbrev pub invariant-loop-i : goal.invariant-loop-i
-invariant-loop-i l = (l.i ≤ l.e) × ((l.acc ≡ l.m * l.base ^ l.i) × (l.acc ≤ largest))
-
-abbrev pub decreases-loop-i : goal.decreases-loop-i
-decreases-loop-i l = l.e - l.i
+abbrev pub invariant-loop-turn : goal.invariant-loop-turn
+invariant-loop-turn l = (l.acc ≡ l.m * l.base ^ l._turn) × (l.acc ≤ largest)

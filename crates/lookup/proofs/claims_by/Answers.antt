@@ -7,6 +7,6 @@ pub returns-then-is_claim : goal.returns-then-is_claim
 unfolding claims_by
 returns-then-is_claim c = rw (sym c.is_claim.ensures ∙ c.if-is_claim.true) c.named.ensures
 
-pub returns : goal.returns
+pub returns-else-is_claim : goal.returns-else-is_claim
 unfolding claims_by
-returns c = rw (sym c.is_claim.ensures ∙ c.if-is_claim.false)
+returns-else-is_claim c = c.if-is_claim.false ∙ rw (sym c.is_claim.ensures ∙ c.if-is_claim.false)

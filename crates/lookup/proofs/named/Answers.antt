@@ -2,11 +2,11 @@
 use Rattle.lookup.proofs.Laws.{named_basic, named_extended, named_neither}
 use Rattle.lookup.proofs.named.Goals as goal
 
-pub returns-then-k-eq-IDENTIFIER : goal.returns-then-k-eq-IDENTIFIER
-returns-then-k-eq-IDENTIFIER c = search named_basic
+pub returns-in-1 : goal.returns-in-1
+returns-in-1 c = search named_basic
 
-pub returns-then-k-eq-EXTENDED : goal.returns-then-k-eq-EXTENDED
-returns-then-k-eq-EXTENDED c = search named_extended
+pub returns-in-2 : goal.returns-in-2
+returns-in-2 c = search named_extended
 
-pub returns : goal.returns
-returns c = search named_neither
+pub returns-in_default : goal.returns-in_default
+returns-in_default c = search named_neither

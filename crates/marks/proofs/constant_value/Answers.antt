@@ -1,43 +1,48 @@
 -- The answer by its mark; one that is not of the mark's kind ends the item in its state. Assumes nothing.
-use mathlib.Core.Path.{sym, ap, ◌∙◌}
-use mir.Syntax.{w32}
-use mir.Val.{SFits}
-use mir.ValLaws.{to_z-of_z}
+use mathlib.Core.Path.{◌≡◌, refl}
+use mathlib.Core.Logic.{◌⊎◌, inl, inr}
+use Prim.Native.Nat.{ℕ}
 use borrow.Author.Rules.{rules}
+use lib.IntN.{ℤ}
+use mathlib.Core.Bool.{Bool}
+use Rattle.integers.specs.declared.Folded.{Folded}
+use Rattle.integers.specs.declared.Folded.TheVariants as F
+use Rattle.values.specs.declared.Value.{Value}
 use Rattle.values.specs.declared.Value.TheVariants.{Number, Truth, Range, Truths, Without}
-use Rattle.marks.specs.code.Marks.{value_in}
-use Rattle.marks.proofs.Steps.{no_number, no_truth_lem, constant_by}
+use Rattle.marks.specs.code.Marks.{constant_of, value_in, without_of}
 use Rattle.marks.proofs.constant_value.Goals as goal
 
+no_number : (mark : Value) (low high : ℤ) (f : Folded) → mark ≡ Range low high → ((z : ℤ) → f ≡ F.Whole z → ⊥) → without_of f ≡ value_in mark f
+no_number mark low high (F.Whole z) e h = absurd (h z refl)
+no_number mark low high (F.Truth t) e h = rw e
+no_number mark low high (F.Stopped s) e h = rw e
+
+no_truth : (mark : Value) (f : Folded) → mark ≡ Truths → ((t : Bool) → f ≡ F.Truth t → ⊥) → without_of f ≡ value_in mark f
+no_truth mark (F.Whole z) e h = rw e
+no_truth mark (F.Truth t) e h = absurd (h t refl)
+no_truth mark (F.Stopped s) e h = rw e
+
+no_mark : (mark : Value) (f : Folded) → ((x : ℤ) × (mark ≡ Number x)) ⊎ (((x : Bool) × (mark ≡ Truth x)) ⊎ ((x : ℕ) × (mark ≡ Without x))) → without_of f ≡ value_in mark f
+no_mark mark f (inl (x, e)) = rw e
+no_mark mark f (inr (inl (x, e))) = rw e
+no_mark mark f (inr (inr (x, e))) = rw e
+
 pub returns-in_default : goal.returns-in_default
-returns-in_default c = let e = c.beside_mark-answer in
-    c.without-in_default.ensures ∙ no_number c.in-Range.low c.in-Range.high e.result c.in_default.not-Whole ∙ constant_by c.args.mark (Range c.in-Range.low c.in-Range.high) c.args.x e.result e.ensures c.in-Range.is
+unfolding constant_of
+returns-in_default c = search (rules, no_number)
 
 pub returns-in_default-answer : goal.returns-in_default-answer
-returns-in_default-answer c = let e = c.beside_mark-answer in
-    c.without-in_default-answer.ensures ∙ no_truth_lem e.result c.in_default-answer.not-Truth ∙ constant_by c.args.mark Truths c.args.x e.result e.ensures c.in-Truths.is
-
-pub returns-in-Number : goal.returns-in-Number
-returns-in-Number c = let e = c.beside_mark-answer in
-    c.without.ensures ∙ constant_by c.args.mark (Number c.in-Number.field-0) c.args.x e.result e.ensures c.in-Number.is
-
-pub returns-in-Truth : goal.returns-in-Truth
-returns-in-Truth c = let e = c.beside_mark-answer in
-    c.without-in-Truth.ensures ∙ constant_by c.args.mark (Truth c.in-Truth.field-0) c.args.x e.result e.ensures c.in-Truth.is
+unfolding constant_of
+returns-in_default-answer c = search (rules, no_truth)
 
 pub returns-in-Whole : goal.returns-in-Whole
-returns-in-Whole c = let e = c.beside_mark-answer in
-    let lf : SFits w32 c.in-Range.low = search rules in
-    let hf : SFits w32 c.in-Range.high = search rules in
-    let zf : SFits w32 c.in-Whole.z = search rules in
-    (rw (to_z-of_z w32 c.in-Range.low lf, to_z-of_z w32 c.in-Range.high hf, to_z-of_z w32 c.in-Whole.z zf) at c.held.ensures)
-    ∙ ap (value_in (Range c.in-Range.low c.in-Range.high)) (sym c.in-Whole.is)
-    ∙ constant_by c.args.mark (Range c.in-Range.low c.in-Range.high) c.args.x e.result e.ensures c.in-Range.is
+unfolding constant_of
+returns-in-Whole c = search rules
 
-pub returns-in-Truth-answer : goal.returns-in-Truth-answer
-returns-in-Truth-answer c = let e = c.beside_mark-answer in
-    ap (value_in Truths) (sym c.in-Truth-answer.is) ∙ constant_by c.args.mark Truths c.args.x e.result e.ensures c.in-Truths.is
+pub returns-in-Truth : goal.returns-in-Truth
+unfolding constant_of
+returns-in-Truth c = search rules
 
-pub returns-in-Without : goal.returns-in-Without
-returns-in-Without c = let e = c.beside_mark-answer in
-    c.without-in-Without.ensures ∙ constant_by c.args.mark (Without c.in-Without.field-0) c.args.x e.result e.ensures c.in-Without.is
+pub returns-in-Number : goal.returns-in-Number
+unfolding constant_of
+returns-in-Number c = search (rules, no_mark)

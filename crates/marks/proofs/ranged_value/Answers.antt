@@ -1,32 +1,36 @@
--- A bound without a number ends the item in its state, the first before the second. Assumes nothing.
-use mathlib.Core.Path.{◌∙◌}
-use mir.Syntax.{w32}
-use mir.Val.{SFits}
-use mir.ValLaws.{to_z-of_z}
+-- A bound without a number ends the item in its state, the first before the second; two numbers in the order of the direction. Assumes nothing.
+use mathlib.Core.Path.{◌≡◌, refl}
+use mathlib.Core.Bool.{Bool}
 use borrow.Author.Rules.{rules}
-use Rattle.marks.proofs.Steps.{ranged_first, ranged_second, ranged_both, downward, upward}
+use lib.IntN.{ℤ}
+use Rattle.integers.specs.declared.Folded.{Folded}
+use Rattle.integers.specs.declared.Folded.TheVariants.{Whole, Truth, Stopped}
+use Rattle.values.specs.declared.Value.{Value}
+use Rattle.marks.specs.code.Marks.{ranged_of, bounds_in, without_of}
 use Rattle.marks.proofs.ranged_value.Goals as goal
 
+no_second : (mark : Value) (down : Bool) (f g : Folded) (x : ℤ) → f ≡ Whole x → ((y : ℤ) → g ≡ Whole y → ⊥) → without_of g ≡ bounds_in mark down f g
+no_second mark down f (Whole y) x e h = absurd (h y refl)
+no_second mark down f (Truth t) x e h = rw e
+no_second mark down f (Stopped s) x e h = rw e
+
+no_first : (mark : Value) (down : Bool) (f g : Folded) → ((x : ℤ) → f ≡ Whole x → ⊥) → without_of f ≡ bounds_in mark down f g
+no_first mark down (Whole x) g h = absurd (h x refl)
+no_first mark down (Truth t) g h = refl
+no_first mark down (Stopped s) g h = refl
+
 pub returns-in_default : goal.returns-in_default
-returns-in_default c = let e = c.first_bound-first in
-    c.without.ensures ∙ ranged_first c.args.mark c.args.a c.args.b c.args.down e.result e.ensures c.in_default.not-Whole
+unfolding ranged_of
+returns-in_default c = search (rules, no_first)
 
 pub returns-in_default-second : goal.returns-in_default-second
-returns-in_default-second c = let e = c.first_bound-first in
-    c.without-in_default-second.ensures ∙ ranged_second c.args.mark c.args.a c.args.b c.args.down e.result e.ensures c.in-Whole.x c.in-Whole.is c.in_default-second.not-Whole
+unfolding ranged_of
+returns-in_default-second c = search (rules, no_second)
 
 pub returns-then-down : goal.returns-then-down
-returns-then-down c = let e = c.first_bound-first in
-    let f : SFits w32 c.in-Whole.x = search rules in
-    let g : SFits w32 c.in-Whole-second.y = search rules in
-    (rw (to_z-of_z w32 c.in-Whole.x f, to_z-of_z w32 c.in-Whole-second.y g) at c.range_in.ensures)
-    ∙ downward c.args.mark c.args.down c.in-Whole.x c.in-Whole-second.y c.if-down.true
-    ∙ ranged_both c.args.mark c.args.a c.args.b c.args.down e.result e.ensures c.in-Whole.x c.in-Whole-second.y c.in-Whole.is c.in-Whole-second.is
+unfolding ranged_of
+returns-then-down c = search rules
 
 pub returns : goal.returns
-returns c = let e = c.first_bound-first in
-    let f : SFits w32 c.in-Whole.x = search rules in
-    let g : SFits w32 c.in-Whole-second.y = search rules in
-    (rw (to_z-of_z w32 c.in-Whole.x f, to_z-of_z w32 c.in-Whole-second.y g) at c.range_in-2.ensures)
-    ∙ upward c.args.mark c.args.down c.in-Whole.x c.in-Whole-second.y c.if-down.false
-    ∙ ranged_both c.args.mark c.args.a c.args.b c.args.down e.result e.ensures c.in-Whole.x c.in-Whole-second.y c.in-Whole.is c.in-Whole-second.is
+unfolding ranged_of
+returns c = search rules

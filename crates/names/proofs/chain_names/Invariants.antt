@@ -1,5 +1,4 @@
 -- The invariant: the records from the i-th on are chained. Assumes nothing.
-use Prim.Native.Nat.{◌≤◌}
 use mathlib.Core.Path.{◌≡◌}
 use lib.ListN.{length}
 use Rattle.places.specs.Sizes.{most_pieces}
@@ -7,7 +6,4 @@ use Rattle.names.specs.code.Chains.{in_bucket, Chained, buckets}
 use Rattle.names.proofs.chain_names.Given as goal
 
 abbrev pub invariant-loop-i : goal.invariant-loop-i
-invariant-loop-i l = (l.i ≤ l.n) × (length l.heads ≡ buckets) × (length l.next ≡ most_pieces) × Chained (in_bucket l.text l.elements l.items) l.n l.i l.heads l.next
-
-abbrev pub decreases-loop-i : goal.decreases-loop-i
-decreases-loop-i l = l.i
+invariant-loop-i l = (length l.heads ≡ buckets) × (length l.next ≡ most_pieces) × Chained (in_bucket l.text l.elements l.items) l.n l.i l.heads l.next

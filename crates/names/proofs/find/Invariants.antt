@@ -4,7 +4,7 @@ use Rattle.names.proofs.Chaining.{left_of, Searching}
 use Rattle.names.proofs.find.Given as goal
 
 abbrev pub invariant-loop-h : goal.invariant-loop-h
-invariant-loop-h l = Searching l.text l.elements l.items l.e.0 l.h
+invariant-loop-h l = Searching l.chains.text.now l.chains.elements.now l.chains.items.now l.e.0 l.h
 
 abbrev pub decreases-loop-h : goal.decreases-loop-h
-decreases-loop-h l = left_of (records_in l.items) l.h
+decreases-loop-h l = left_of (records_in l.chains.items.now) l.h

@@ -1,5 +1,4 @@
 -- The invariant: the records so far are marked. Assumes nothing.
-use Prim.Native.Nat.{◌-◌, ◌≤◌}
 use mathlib.Core.Path.{◌≡◌}
 use lib.ListN.{length}
 use Rattle.places.specs.Sizes.{most_pieces}
@@ -7,7 +6,4 @@ use Rattle.names.specs.code.Chains.{Flagging}
 use Rattle.names.proofs.find_twins.Given as goal
 
 abbrev pub invariant-loop-i : goal.invariant-loop-i
-invariant-loop-i l = (l.i ≤ l.n) × (length l.flags ≡ most_pieces) × Flagging l.own l.n l.i l.flags l.any
-
-abbrev pub decreases-loop-i : goal.decreases-loop-i
-decreases-loop-i l = l.n - l.i
+invariant-loop-i l = (length l.flags ≡ most_pieces) × Flagging l.own l.n l.i l.flags l.any

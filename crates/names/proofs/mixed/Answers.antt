@@ -6,4 +6,4 @@ use Rattle.names.proofs.mixed.Goals as goal
 
 pub returns : goal.returns
 unfolding mixed_with
-returns c = (refl, search rules)
+returns c = (rw c.from.ensures refl, search rules)

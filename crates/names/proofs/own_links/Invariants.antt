@@ -1,5 +1,4 @@
 -- The invariant: the numbers so far are written. Assumes nothing.
-use Prim.Native.Nat.{◌-◌, ◌≤◌}
 use mathlib.Core.Path.{◌≡◌}
 use lib.ListN.{length}
 use Rattle.places.specs.Sizes.{most_pieces}
@@ -8,7 +7,4 @@ use Rattle.names.proofs.Tables.{Written}
 use Rattle.names.proofs.own_links.Given as goal
 
 abbrev pub invariant-loop-i : goal.invariant-loop-i
-invariant-loop-i l = (l.i ≤ l.n) × (length l.own ≡ most_pieces) × Written (own_of l.text l.elements l.items) l.own l.i
-
-abbrev pub decreases-loop-i : goal.decreases-loop-i
-decreases-loop-i l = l.n - l.i
+invariant-loop-i l = (length l.own ≡ most_pieces) × Written (own_of l.chains.text.now l.chains.elements.now l.chains.items.now) l.own l.i

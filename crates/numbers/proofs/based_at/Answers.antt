@@ -15,10 +15,10 @@ pub returns-then-base-gt-GREATEST_BASE : goal.returns-then-base-gt-GREATEST_BASE
 returns-then-base-gt-GREATEST_BASE c = search base_large
 
 pub overflow_add-result : goal.overflow_add-result
-overflow_add-result c = let h : c.args.n + 1 + c.in-Of.k ≤ length c.args.s.now = search based_fits in omega arith
+overflow_add-result c = let h : c.args.n + 1 + c.in-Some.k ≤ length c.args.s.now = search based_fits in omega arith
 
-pub returns-in-Of : goal.returns-in-Of
-returns-in-Of c = search based_whole
+pub returns-in-Some : goal.returns-in-Some
+returns-in-Some c = search based_whole
 
-pub returns-in-Nothing : goal.returns-in-Nothing
-returns-in-Nothing c = search based_none
+pub returns-in-None : goal.returns-in-None
+returns-in-None c = search based_none

@@ -5,18 +5,18 @@ use Rattle.operands.specs.SpelledOperators.{sign_of}
 use mathlib.Core.Path.{sym, ap}
 use Rattle.operands.proofs.sign_of.Goals as goal
 
-pub returns-then-kind-eq-MINUS : goal.returns-then-kind-eq-MINUS
+pub returns-in-22 : goal.returns-in-22
 unfolding spelling sign_of
-returns-then-kind-eq-MINUS c = ap sign_of (sym c.if-kind-eq-MINUS.true)
+returns-in-22 c = ap sign_of (sym c.in-22.is)
 
-pub returns-then-kind-eq-WORD_ABS : goal.returns-then-kind-eq-WORD_ABS
+pub returns-in-33 : goal.returns-in-33
 unfolding spelling sign_of
-returns-then-kind-eq-WORD_ABS c = ap sign_of (sym c.if-kind-eq-WORD_ABS.true)
+returns-in-33 c = ap sign_of (sym c.in-33.is)
 
-pub returns-then-kind-eq-WORD_NOT : goal.returns-then-kind-eq-WORD_NOT
+pub returns-in-90 : goal.returns-in-90
 unfolding spelling sign_of
-returns-then-kind-eq-WORD_NOT c = ap sign_of (sym c.if-kind-eq-WORD_NOT.true)
+returns-in-90 c = ap sign_of (sym c.in-90.is)
 
-pub returns : goal.returns
+pub returns-in_default : goal.returns-in_default
 unfolding spelling
-returns c = search pluses
+returns-in_default c = search pluses

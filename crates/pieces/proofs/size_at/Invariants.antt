@@ -1,5 +1,5 @@
 -- The invariant: the elements so far, with how many more the rest says, are the piece. Assumes nothing.
-use Prim.Native.Nat.{◌-◌, ◌≤◌, ◌+◌}
+use Prim.Native.Nat.{◌+◌}
 use mathlib.Core.Path.{◌≡◌}
 use lib.ListN.{drop}
 use Rattle.pieces.specs.Cutting.{more, piece_size}
@@ -8,7 +8,4 @@ use Rattle.places.specs.Places.{kinds_of}
 use Rattle.pieces.proofs.size_at.Given as goal
 
 abbrev pub invariant-loop-m : goal.invariant-loop-m
-invariant-loop-m l = (l.from + l.m ≤ l.n) × (l.m + more closes_piece opens_piece l.closed (drop (l.from + l.m) (kinds_of l.n l.elements)) ≡ piece_size closes_piece opens_piece (drop l.from (kinds_of l.n l.elements)))
-
-abbrev pub decreases-loop-m : goal.decreases-loop-m
-decreases-loop-m l = l.n - (l.from + l.m)
+invariant-loop-m l = l.m + more closes_piece opens_piece l.closed (drop (l.first.0 + l.m) (kinds_of l.n l.elements)) ≡ piece_size closes_piece opens_piece (drop l.first.0 (kinds_of l.n l.elements))

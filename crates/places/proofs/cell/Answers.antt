@@ -1,9 +1,7 @@
--- `places::cell` meets its contract. A word of a row that the table has, and 0 of one that it has not. Assumes nothing.
-use Rattle.places.proofs.Laws.{cell_in, cell_out}
+-- `places::cell` meets its contract. A word of a row of the element table's width. Assumes nothing.
+use mathlib.Core.Path.{◌∙◌}
+use Rattle.places.proofs.Laws.{cell_is}
 use Rattle.places.proofs.cell.Goals as goal
 
-pub returns-then-i-table : goal.returns-then-i-table
-returns-then-i-table c = cell_in c.args.table.now c.args.i c.args.j c.if-i-table.true
-
 pub returns : goal.returns
-returns c = cell_out c.args.table.now c.args.i c.args.j c.if-i-table.false
+returns c = c.word_in.ensures ∙ cell_is c.args.table.now c.args.i c.args.j c.requires

@@ -1,6 +1,5 @@
 -- The invariant: where it closes from here is where it closes. Two bytes may be passed at once, past the end too. Assumes nothing.
 use Rattle.quoted.proofs.Laws.{turn_doubled, turn_inside, turn_closes, turn_breaks, turns_end}
-use Prim.Native.Nat.{◌-◌}
 use mathlib.Core.Path.{refl}
 use Rattle.quoted.proofs.closing.Goals as goal
 

@@ -1,16 +1,14 @@
--- The loop: what is left is in lower case where all is. Assumes nothing.
-use mathlib.Core.Path.{refl}
-use Rattle.stored.proofs.Names.{lower_no, lower_on, lower_yes}
+-- Every byte is tested. Assumes nothing.
+use mathlib.Core.Path.{◌∙◌}
+use lib.Dec.{eqb}
+use borrow.Author.Rules.{rules}
+use borrow.Author.Tests.{tests}
+use Rattle.std.proofs.lemmas.Iterator.{YieldsList-from_slice}
+use Rattle.std.proofs.lemmas.Iterator.Search.{all_from_yields_List}
+use Rattle.classes.specs.Bytes.{lower}
+use Rattle.stored.proofs.Names.{lower_all}
 use Rattle.stored.proofs.in_lower_case.Goals as goal
 
-pub loop-i-init : goal.loop-i-init
-loop-i-init c = refl
-
-pub returns-then-lower_case-b : goal.returns-then-lower_case-b
-returns-then-lower_case-b c = search lower_no
-
-pub loop-i-preserved : goal.loop-i-preserved
-loop-i-preserved c = search lower_on
-
 pub returns : goal.returns
-returns c = search lower_yes
+returns c =
+    all_from_yields_List (λ b. eqb (lower b) b) _ _ _ c.all.ensures.ran (YieldsList-from_slice c.args.s.now cc) (λ x b q k. search (rules, tests)) ∙ lower_all c.args.s.now

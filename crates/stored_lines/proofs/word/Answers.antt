@@ -1,12 +1,8 @@
--- A word that the table has, or 0. Assumes nothing.
-use Rattle.stored_lines.proofs.Laws.{word_none, word_in, word_out}
+-- A word of a row of the stored table's width. Assumes nothing.
+use Rattle.lent_tables.specs.TableWords.{word_in}
+use Rattle.stored_lines.specs.Lines.{row_word}
 use Rattle.stored_lines.proofs.word.Goals as goal
 
-pub returns-then-j-ge-ROW_WORDS : goal.returns-then-j-ge-ROW_WORDS
-returns-then-j-ge-ROW_WORDS c = search word_none
-
-pub returns-then-i-rows : goal.returns-then-i-rows
-returns-then-i-rows c = search word_in
-
 pub returns : goal.returns
-returns c = search word_out
+unfolding word_in row_word
+returns c = c.word_in.ensures

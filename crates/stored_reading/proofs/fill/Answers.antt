@@ -2,17 +2,14 @@
 use mathlib.Core.Path.{refl}
 use native.Mathlib.Omega.{arith}
 use borrow.Author.Rules.{rules}
-use Rattle.stored_reading.proofs.Cases.{fill_wrong, fill_ends, fill_out, fits_place, head_fits, fill_room, fill_word, fits_three, fits_next, less_next, there_next, fill_length, fill_left, fill_on}
+use Rattle.stored_reading.proofs.Cases.{fill_done, fill_out, fits_place, head_fits, fill_room, fill_word, fits_three, fits_next, less_next, there_next, fill_length, fill_left, fill_on}
 use Rattle.stored_reading.proofs.fill.Goals as goal
 
 pub loop-at-init : goal.loop-at-init
 loop-at-init c = (search rules, (refl, (omega arith, refl)))
 
 pub returns-in-Wrong : goal.returns-in-Wrong
-returns-in-Wrong c = search fill_wrong
-
-pub returns-in-Ends : goal.returns-in-Ends
-returns-in-Ends c = search fill_ends
+returns-in-Wrong c = search fill_done
 
 pub overflow_add-at : goal.overflow_add-at
 overflow_add-at c = search fits_place

@@ -2,17 +2,14 @@
 use mathlib.Core.Path.{refl}
 use native.Mathlib.Omega.{arith}
 use borrow.Author.Rules.{rules}
-use Rattle.stored_reading.proofs.Cases.{fits_head, fits_place, head_fits, fits_three, fits_next, less_next, there_next, note_room, note_word, note_cell, note_left, firsts_wrong, firsts_ends, firsts_out, firsts_on, sizes_wrong, sizes_ends, sizes_out, sizes_on}
+use Rattle.stored_reading.proofs.Cases.{fits_head, fits_place, head_fits, fits_three, fits_next, less_next, there_next, note_room, note_word, note_cell, note_left, firsts_done, firsts_out, firsts_on, sizes_done, sizes_out, sizes_on}
 use Rattle.stored_reading.proofs.note_names.Goals as goal
 
 pub loop-at-init : goal.loop-at-init
 loop-at-init c = (search rules, (omega arith, (refl, refl)))
 
 pub returns-in-Wrong : goal.returns-in-Wrong
-returns-in-Wrong c = record { firsts_after = search firsts_wrong; sizes_after = search sizes_wrong }
-
-pub returns-in-Ends : goal.returns-in-Ends
-returns-in-Ends c = record { firsts_after = search firsts_ends; sizes_after = search sizes_ends }
+returns-in-Wrong c = record { firsts_after = search firsts_done; sizes_after = search sizes_done }
 
 pub overflow_add-firsts : goal.overflow_add-firsts
 overflow_add-firsts c = search fits_head

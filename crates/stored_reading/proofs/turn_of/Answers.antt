@@ -8,8 +8,8 @@ returns-in-Bad c = search turn_bad
 pub returns-in-End : goal.returns-in-End
 returns-in-End c = search turn_end
 
-pub returns-in-Nothing : goal.returns-in-Nothing
-returns-in-Nothing c = search turn_none
+pub returns-in-None : goal.returns-in-None
+returns-in-None c = search turn_none
 
-pub returns-in-Holds : goal.returns-in-Holds
-returns-in-Holds c = search turn_gives
+pub returns-in-Some : goal.returns-in-Some
+returns-in-Some c = search turn_gives

@@ -1,13 +1,10 @@
 -- The invariant: what was put at the place is the bytes passed, as they are stored. Assumes nothing.
-use Prim.Native.Nat.{ℕ, ◌≤◌, ◌-◌}
+use Prim.Native.Nat.{ℕ}
 use mathlib.Core.List.{List, []}
-use lib.ListN.{length, take}
+use lib.ListN.{take}
 use Rattle.puts.specs.Puts.{Wrote}
 use Rattle.stored_writing.specs.Written.{as_stored}
 use Rattle.stored_writing.proofs.put_name.Given as goal
 
-abbrev pub invariant-loop-i : goal.invariant-loop-i
-invariant-loop-i l = (l.i ≤ length l.name) × ((t : List ℕ) → Wrote t l.at [] l.initial.out l.initial.w → Wrote t l.at (as_stored l.basic (take l.i l.name)) l.out l.w)
-
-abbrev pub decreases-loop-i : goal.decreases-loop-i
-decreases-loop-i l = length l.name - l.i
+abbrev pub invariant-loop-b : goal.invariant-loop-b
+invariant-loop-b l = (t : List ℕ) → Wrote t l.at [] l.initial.out l.initial.w → Wrote t l.at (as_stored l.basic (take l.b-index l.name)) l.out l.w

@@ -2,8 +2,8 @@
 use Rattle.storing.proofs.Puts.{record_none, record_put}
 use Rattle.storing.proofs.put_record.Goals as goal
 
-pub returns-in-Nothing : goal.returns-in-Nothing
-returns-in-Nothing c = search record_none
+pub returns-in-None : goal.returns-in-None
+returns-in-None c = search record_none
 
-pub returns-in-Holds : goal.returns-in-Holds
-returns-in-Holds c = search record_put
+pub returns-in-Some : goal.returns-in-Some
+returns-in-Some c = search record_put

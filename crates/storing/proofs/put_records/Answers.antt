@@ -1,19 +1,18 @@
 -- The invariant: what was put at the place is the fields of the records passed. Assumes nothing.
 use borrow.Author.Rules.{rules}
-use Prim.Native.Nat.{◌-◌}
 use native.Mathlib.Omega.{arith}
 use Rattle.puts.proofs.Laws.{same_size}
 use Rattle.storing.proofs.Puts.{records_none, records_more, records_all}
 use Rattle.storing.proofs.put_records.Goals as goal
 
 pub loop-i-init : goal.loop-i-init
-loop-i-init c = (omega arith, λ t h. records_none _ _ _ h)
+loop-i-init c = λ t h. records_none _ _ _ h
 
 pub loop-i-preserved : goal.loop-i-preserved
-loop-i-preserved c = (omega arith, λ t h. records_more _ _ _ _ (c.loop-i.invariant.1 t h) (search rules))
+loop-i-preserved c = λ t h. records_more _ _ _ _ (c.loop-i.invariant t h) (search rules)
 
 pub shape_of-out : goal.shape_of-out
-shape_of-out c = same_size (c.loop-i.invariant.1 _ c.put_none-w.ensures)
+shape_of-out c = same_size (c.loop-i.invariant _ c.put_none-w.ensures)
 
 pub returns : goal.returns
-returns c = records_all _ _ _ _ _ (omega arith) (c.loop-i.invariant.1 _ c.put_none-w.ensures)
+returns c = records_all _ _ _ _ _ (omega arith) (c.loop-i.invariant _ c.put_none-w.ensures)

@@ -10,29 +10,29 @@ returns-then-not-whole c = let a = c.args in
     let e = length a.elements.now in
     let i = length a.items.now in
     let o = length a.out.now in
-    way_not_whole a.text.now e i o c.read_survey-survey.result _ _ c.read_survey-survey.ensures c.in-Done.y c.in-Done.is _ _ _ c.if-not-whole.true c.clear.ensures c.clear-then-not-whole.ensures (cleared_all a.out.now _ c.clear_from.ensures)
+    way_not_whole a.text.now e i o c.read_survey.result _ _ c.read_survey.ensures c.in_ok-survey.survey c.in_ok-survey.was _ _ _ c.if-not-whole.true c.clear.ensures c.clear-then-not-whole.ensures (cleared_all a.out.now _ c.clear_from.ensures)
 
 pub table_size-size-requires : goal.table_size-size-requires
 table_size-size-requires c = let a = c.args in
     let e = length a.elements.now in
     let i = length a.items.now in
     let o = length a.out.now in
-    asked a.text.now e i o c.read_survey-survey.result _ _ c.read_survey-survey.ensures c.in-Done.y c.in-Done.is
+    asked a.text.now e i o c.read_survey.result _ _ c.read_survey.ensures c.in_ok-survey.survey c.in_ok-survey.was
 
 pub returns-then-room-size : goal.returns-then-room-size
 returns-then-room-size c = let a = c.args in
     let e = length a.elements.now in
     let i = length a.items.now in
     let o = length a.out.now in
-    way_short a.text.now e i o c.read_survey-survey.result _ _ c.read_survey-survey.ensures c.in-Done.y c.in-Done.is c.table_size-size.result _ _ _ c.if-not-whole.false c.table_size-size.ensures c.if-room-size.true c.clear-then-room-size.ensures c.clear-then-room-size-2.ensures (cleared_all a.out.now _ c.clear_from.ensures)
+    way_short a.text.now e i o c.read_survey.result _ _ c.read_survey.ensures c.in_ok-survey.survey c.in_ok-survey.was c.table_size-size.result _ _ _ c.if-not-whole.false c.table_size-size.ensures c.if-room-size.true c.clear-then-room-size.ensures c.clear-then-room-size-2.ensures (cleared_all a.out.now _ c.clear_from.ensures)
 
-pub returns-in-Refused : goal.returns-in-Refused
-returns-in-Refused c = let a = c.args in
-    way_refused a.text.now (length a.elements.now) (length a.items.now) (length a.out.now) c.read_survey-survey.result _ _ c.read_survey-survey.ensures c.in-Refused.r _ c.in-Refused.is (cleared_all a.out.now _ c.clear_from.ensures)
+pub returns-in_err-survey : goal.returns-in_err-survey
+returns-in_err-survey c = let a = c.args in
+    way_refused a.text.now (length a.elements.now) (length a.items.now) (length a.out.now) c.read_survey.result _ _ c.read_survey.ensures _ c.from_residual.result _ c.in_err-survey.was c.from_residual.ensures.1 (cleared_all a.out.now _ c.clear_from.ensures)
 
-pub returns-else-room-size : goal.returns-else-room-size
-returns-else-room-size c = let a = c.args in
+pub returns : goal.returns
+returns c = let a = c.args in
     let e = length a.elements.now in
     let i = length a.items.now in
     let o = length a.out.now in
-    way_stored a.text.now e i o c.read_survey-survey.result _ _ c.read_survey-survey.ensures c.in-Done.y c.in-Done.is c.table_size-size.result c.put_table.result _ _ c.if-not-whole.false c.table_size-size.ensures (omega arith) (cleared_all a.out.now _ c.clear_from.ensures) c.put_table.ensures
+    way_stored a.text.now e i o c.read_survey.result _ _ c.read_survey.ensures c.in_ok-survey.survey c.in_ok-survey.was c.table_size-size.result c.put_table.result _ _ c.if-not-whole.false c.table_size-size.ensures (omega arith) (cleared_all a.out.now _ c.clear_from.ensures) c.put_table.ensures

@@ -1,5 +1,5 @@
 -- What the code makes of any tables: the fields of an item table's records, one after the other. Assumes nothing.
-use Rattle.std.specs.Prelude.{ℕ, zero, suc, ◌+◌, Bool, List, [], ◌∷◌, ◌++◌, map, eqb}
+use Rattle.std.specs.Prelude.{ℕ, zero, suc, ◌+◌, Bool, List, [], ◌∷◌, ◌++◌, map, eqb, Option, Some, None}
 use Rattle.places.specs.Kinds.{identifier_kind}
 use Rattle.places.specs.Places.{kind_column, cell_at}
 use Rattle.pieces.specs.Columns as column
@@ -8,13 +8,12 @@ use Rattle.values.specs.code.Used.{used_value}
 use Rattle.operands.specs.code.Operands.{bytes_at}
 use Rattle.stored.specs.Fields.{fields_bytes}
 use Rattle.stored.specs.StoredItems.{StoredItem, item_field, name_field}
-use Rattle.stored.specs.declared.Held.{Held}
-use Rattle.stored.specs.declared.Held.TheVariants.{Nothing, Holds}
 use Rattle.stored_writing.specs.Written.{as_stored, field_put, fields_put, field_size, field_head_size}
+use Rattle.stored.specs.declared.StoredValue.{StoredValue}
 use Rattle.storing.specs.SurveyItems.{stored_value}
 
 -- what record i gives to be stored
-unfoldable pub held_at : List ℕ → ℕ → Held
+unfoldable pub held_at : List ℕ → ℕ → Option StoredValue
 held_at items i = stored_value (used_value (word_at items i column.class) (word_at items i column.state) (word_at items i column.kind) (word_at items i column.low) (word_at items i column.high))
 
 -- the name that element e is, as it is stored
@@ -24,9 +23,9 @@ is_basic elements e = eqb (cell_at elements e kind_column) identifier_kind
 unfoldable pub stored_name_at : List ℕ → List ℕ → ℕ → List ℕ
 stored_name_at text elements e = as_stored (is_basic elements e) (bytes_at text elements e)
 
-abbrev pub item_by : Held → List ℕ → List StoredItem
-item_by Nothing n = []
-item_by (Holds v) n = record { value = v; name = n } ∷ []
+abbrev pub item_by : Option StoredValue → List ℕ → List StoredItem
+item_by None n = []
+item_by (Some v) n = record { value = v; name = n } ∷ []
 
 unfoldable pub item_at : List ℕ → List ℕ → List ℕ → ℕ → List StoredItem
 item_at text elements items i = item_by (held_at items i) (stored_name_at text elements (word_at items i column.name))

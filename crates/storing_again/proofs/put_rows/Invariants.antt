@@ -1,5 +1,5 @@
 -- The invariant: what was put at the place is the fields of the rows passed. Assumes nothing.
-use Prim.Native.Nat.{ℕ, ◌≤◌, ◌-◌}
+use Prim.Native.Nat.{ℕ}
 use mathlib.Core.List.{List, [], map}
 use Rattle.puts.specs.Puts.{Wrote}
 use Rattle.stored.specs.StoredItems.{item_field}
@@ -8,7 +8,4 @@ use Rattle.storing_again.specs.code.RowItems.{row_items}
 use Rattle.storing_again.proofs.put_rows.Given as goal
 
 abbrev pub invariant-loop-i : goal.invariant-loop-i
-invariant-loop-i l = (l.i ≤ l.n) × ((t : List ℕ) → Wrote t l.at [] l.initial.out l.initial.w → Wrote t l.at (fields_put (map item_field (row_items l.bytes l.rows l.i))) l.out l.w)
-
-abbrev pub decreases-loop-i : goal.decreases-loop-i
-decreases-loop-i l = l.n - l.i
+invariant-loop-i l = (t : List ℕ) → Wrote t l.at [] l.initial.out l.initial.w → Wrote t l.at (fields_put (map item_field (row_items l.bytes l.rows l.i))) l.out l.w

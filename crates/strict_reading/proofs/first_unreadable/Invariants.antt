@@ -2,12 +2,8 @@
 use Rattle.places.specs.Places.{kinds_of}
 use Rattle.strict_reading.specs.code.Strict.{unreadable_from}
 use lib.ListN.{drop}
-use Prim.Native.Nat.{◌-◌}
 use mathlib.Core.Path.{◌≡◌}
 use Rattle.strict_reading.proofs.first_unreadable.Given as goal
 
 abbrev pub invariant-loop-i : goal.invariant-loop-i
 invariant-loop-i l = unreadable_from l.i (drop l.i (kinds_of l.count l.elements)) ≡ unreadable_from 0 (kinds_of l.count l.elements)
-
-abbrev pub decreases-loop-i : goal.decreases-loop-i
-decreases-loop-i l = l.count - l.i

@@ -8,16 +8,16 @@ use Rattle.strict_reading.proofs.read_strict.Goals as goal
 pub read_all-requires : goal.read_all-requires
 read_all-requires c = let a = c.args in
     let p = permitted_is a.text.now (length a.elements.now) _ _ c.read_elements.ensures in
-    read_room a.text.now (length a.elements.now) _ _ _ p.0 p.1 c.in-Read.is
+    read_room a.text.now (length a.elements.now) _ _ _ p.0 p.1 c.in-Ok.is
 
-pub returns-in-Read : goal.returns-in-Read
-returns-in-Read c = let a = c.args in
+pub returns-in-Ok : goal.returns-in-Ok
+returns-in-Ok c = let a = c.args in
     let p = permitted_is a.text.now (length a.elements.now) _ _ c.read_elements.ensures in
     permitted_by a.text.now (length a.elements.now) (length a.tree.now) _ _ _
-    (strict_read a.text.now (length a.elements.now) (length a.tree.now) _ _ p.0 p.1 _ _ _ _ c.in-Read.is c.read_all.ensures.value c.read_all.ensures.elements_after c.read_all.ensures.tree_after)
+    (strict_read a.text.now (length a.elements.now) (length a.tree.now) _ _ p.0 p.1 _ _ _ _ c.in-Ok.is c.read_all.ensures.value c.read_all.ensures.elements_after c.read_all.ensures.tree_after)
 
-pub returns-in-Refused : goal.returns-in-Refused
-returns-in-Refused c = let a = c.args in
+pub returns-in-Err : goal.returns-in-Err
+returns-in-Err c = let a = c.args in
     let p = permitted_is a.text.now (length a.elements.now) _ _ c.read_elements.ensures in
     permitted_by a.text.now (length a.elements.now) (length a.tree.now) _ _ _
-    (strict_refused a.text.now (length a.elements.now) (length a.tree.now) _ _ p.0 p.1 _ _ c.in-Refused.is c.clear.ensures)
+    (strict_refused a.text.now (length a.elements.now) (length a.tree.now) _ _ p.0 p.1 _ _ c.in-Err.is c.clear.ensures)

@@ -5,14 +5,14 @@ use Rattle.survey_reading.proofs.Joined.{way_read, way_refused}
 use Rattle.survey_reading.proofs.Permits.{permits_these}
 use Rattle.survey_reading.proofs.read_survey.Goals as goal
 
-pub returns-in-Read : goal.returns-in-Read
-returns-in-Read c = let a = c.args in
+pub returns-in-Ok : goal.returns-in-Ok
+returns-in-Ok c = let a = c.args in
     let p = permitted_is a.text.now (length a.elements.now) _ _ c.read_elements.ensures in
     permits_these a.text.now (length a.elements.now) (length a.items.now) _ _ _
-    (way_read a.text.now (length a.elements.now) (length a.items.now) _ _ _ p.0 p.1 c.in-Read.is _ _ _ c.survey_pieces.ensures.value c.survey_pieces.ensures.elements_after c.survey_pieces.ensures.after)
+    (way_read a.text.now (length a.elements.now) (length a.items.now) _ _ _ p.0 p.1 c.in-Ok.is _ _ _ c.survey_pieces.ensures.value c.survey_pieces.ensures.elements_after c.survey_pieces.ensures.after)
 
-pub returns-in-Refused : goal.returns-in-Refused
-returns-in-Refused c = let a = c.args in
+pub returns-in-Err : goal.returns-in-Err
+returns-in-Err c = let a = c.args in
     let p = permitted_is a.text.now (length a.elements.now) _ _ c.read_elements.ensures in
     permits_these a.text.now (length a.elements.now) (length a.items.now) _ _ _
-    (way_refused a.text.now (length a.elements.now) (length a.items.now) _ _ _ _ _ p.0 p.1 c.in-Refused.is c.clear.ensures c.refused.ensures)
+    (way_refused a.text.now (length a.elements.now) (length a.items.now) _ _ _ _ p.0 p.1 c.in-Err.is c.clear.ensures)

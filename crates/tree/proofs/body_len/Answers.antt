@@ -9,4 +9,4 @@ pub bounds-forms-p : goal.bounds-forms-p
 bounds-forms-p c = omega (arith, forms_size c.requires.0)
 
 pub returns : goal.returns
-returns c = c.wide.ensures ∙ size_is c.requires.0 c.args.p c.requires.1
+returns c = c.from.ensures ∙ size_is c.requires.0 c.args.p c.requires.1

@@ -3,4 +3,4 @@ use Rattle.tree.proofs.complete_row.Goals as goal
 
 pub returns : goal.returns
 returns c = let stored = c.put_row.ensures in
-    (rw c.minus.ensures at stored.0, stored.1, stored.2)
+    (rw c.saturating_sub.ensures at stored.0, stored.1, stored.2)

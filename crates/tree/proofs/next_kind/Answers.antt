@@ -13,8 +13,8 @@ pub bounds-forms-kind : goal.bounds-forms-kind
 bounds-forms-kind c = omega (arith, forms_size c.requires.0)
 
 pub returns-then-kind : goal.returns-then-kind
-returns-then-kind c = terminals_at c.args.count c.args.elements.now c.args.e.0 c.kind_of-kind.result c.wide.result c.requires.1 c.if-count-e.false c.kind_of-kind.ensures
-    (c.wide.ensures ∙ kind_at c.requires.0 c.kind_of-kind.result c.if-kind.true)
+returns-then-kind c = terminals_at c.args.count c.args.elements.now c.args.e.0 c.kind_of-kind.result c.from.result c.requires.1 c.if-count-e.false c.kind_of-kind.ensures
+    (c.from.ensures ∙ kind_at c.requires.0 c.kind_of-kind.result c.if-kind.true)
 
 pub returns : goal.returns
 returns c = terminals_at c.args.count c.args.elements.now c.args.e.0 c.kind_of-kind.result (number_of other) c.requires.1 c.if-count-e.false c.kind_of-kind.ensures

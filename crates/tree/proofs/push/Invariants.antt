@@ -1,14 +1,11 @@
--- `tree::push` meets its contract. The symbols from i on stand on the stack; the measure is i. Assumes nothing.
-use Prim.Native.Nat.{◌+◌, ◌≤◌}
+-- `tree::push` meets its contract. The symbols from i on stand on the stack. Assumes nothing.
+use Prim.Native.Nat.{◌+◌}
 use mathlib.Core.Path.{◌≡◌}
 use mathlib.Core.List.{◌++◌}
-use lib.ListN.{length, drop}
+use lib.ListN.{drop}
 use Rattle.forms.specs.code.Rules.{body}
 use Rattle.form_table.specs.code.Symbols.{syms}
 use Rattle.tree.proofs.push.Given as goal
 
 abbrev pub invariant-loop-i : goal.invariant-loop-i
-invariant-loop-i l = (l.i ≤ l.m) × (length l.stk ≡ length l.initial.stk) × (syms (drop (l.base + l.i) l.stk) ≡ drop l.i (body l.p) ++ syms (drop l.sp l.initial.stk))
-
-abbrev pub decreases-loop-i : goal.decreases-loop-i
-decreases-loop-i l = l.i
+invariant-loop-i l = (syms (drop (l.base + l.i) l.stk) ≡ drop l.i (body l.p) ++ syms (drop l.sp l.initial.stk))

@@ -2,17 +2,11 @@
 use Prim.Native.Nat.{◌≤◌, ◌-◌}
 use mathlib.Core.Path.{◌≡◌}
 use lib.ListN.{length}
-use Rattle.tree.specs.code.Room.{stack_words, frames_words, most_rows, cells_words}
 use Rattle.tree.proofs.Written.{Written}
 use Rattle.tree.proofs.read_pieces.Given as goal
 
 abbrev pub invariant-loop-at : goal.invariant-loop-at
 invariant-loop-at l = (l.at ≤ l.n)
-    × (length l.stk ≡ stack_words)
-    × (length l.frames ≡ frames_words)
-    × (length l.cells ≡ cells_words)
-    × (length l.next ≡ most_rows)
-    × (length l.heads ≡ most_rows)
     × (length l.rows ≡ length l.initial.rows)
     × Written l.n l.elements l.rows (length l.initial.rows) l.at
 

@@ -12,14 +12,14 @@ use Rattle.tree.proofs.Turns as turns
 use Rattle.tree.proofs.scan.Given as goal
 
 abbrev pub invariant-loop-sp : goal.invariant-loop-sp
-invariant-loop-sp l = (length l.stk ≡ stack_words)
+invariant-loop-sp l = (length l.machine.stk ≡ stack_words)
     × (l.sp ≤ stack_words)
-    × (length l.frames ≡ frames_words)
-    × (length l.cells ≡ cells_words)
-    × (length l.next ≡ most_rows)
-    × (length l.heads ≡ most_rows)
+    × (length l.machine.frames ≡ frames_words)
+    × (length l.machine.cells ≡ cells_words)
+    × (length l.machine.next ≡ most_rows)
+    × (length l.machine.heads ≡ most_rows)
     × (l.at ≤ l.count)
-    × Going l.text l.elements l.count (reading_from (sym_of l.from) (same_name l.text l.elements) (terminals_of l.count l.elements)) (syms (drop l.sp l.stk)) l.frames l.cells l.next l.heads l.fp l.depth l.used l.at
+    × Going l.text l.elements l.count (reading_from (sym_of l.from) (same_name l.text l.elements) (terminals_of l.count l.elements)) (syms (drop l.sp l.machine.stk)) l.machine.frames l.machine.cells l.machine.next l.machine.heads l.fp l.depth l.used l.at
 
 abbrev pub decreases-loop-sp : goal.decreases-loop-sp
-decreases-loop-sp l = turns.to_do l.count l.stk l.sp l.at
+decreases-loop-sp l = turns.to_do l.count l.machine.stk l.sp l.at

@@ -1,6 +1,6 @@
 -- What reading an element table's elements as a file answers, and what the lent tree table then holds (01, "Refusals and their order").
 -- Assumes nothing: these are definitions.
-use Rattle.std.specs.Prelude.{ℕ, ◌-◌, ◌*◌, ◌/◌, min, cond, List, [], ◌∷◌, ◌++◌, leb, length, replicate}
+use Rattle.std.specs.Prelude.{ℕ, ◌-◌, ◌*◌, ◌/◌, min, cond, List, [], ◌∷◌, ◌++◌, leb, length, replicate, Result, Ok, Err}
 use Rattle.places.specs.Sizes.{most_elements}
 use Rattle.places.specs.Places.{rows_in, kinds_of}
 use Rattle.grammars.specs.code.Actions.{End, read, bad, stopped, spent}
@@ -9,11 +9,13 @@ use Rattle.forms.specs.code.Kinds.{terminal_of}
 use Rattle.forms.specs.RowWords.{row_numbers}
 use Rattle.forms.specs.code.RuleActions.{State, Refusal, name_differs, too_deep, state_rows}
 use Rattle.forms.specs.code.Reading.{file_reading}
-use Rattle.tree.specs.declared.Answer.{Answer}
-use Rattle.tree.specs.declared.Answer.TheVariants.{Tree, Refused}
 use Rattle.refusals.specs.declared.StrictRefusal.{StrictRefusal}
 use Rattle.refusals.specs.declared.StrictRefusal.TheVariants as refusal
 use Rattle.forms.specs.RowWords.{words_of}
+
+-- a tree, by how many rows it has; or one of 01's refusals 5, 6, 7 and 8
+abbrev pub Answer : Type 0
+Answer = Result ℕ StrictRefusal
 
 -- how many elements count: no more than the table has, and no more than 8,192 (01, "What the reader covers")
 abbrev pub elements_counted : List ℕ → ℕ → ℕ
@@ -34,16 +36,16 @@ reading_in text table n = file_reading (same_name text table) (terminals_of n ta
 
 -- refusals 5, 6 and 7 with their element, and 8 with the rows that the tree table has
 abbrev pub no_file_answer : ℕ → Answer
-no_file_answer k = Refused (refusal.NoFile (record { 0 = k }))
+no_file_answer k = Err (refusal.NoFile (record { 0 = k }))
 
 abbrev pub name_differs_answer : ℕ → Answer
-name_differs_answer k = Refused (refusal.NameDiffers (record { 0 = k }))
+name_differs_answer k = Err (refusal.NameDiffers (record { 0 = k }))
 
 abbrev pub too_deep_answer : ℕ → Answer
-too_deep_answer k = Refused (refusal.TooDeep (record { 0 = k }))
+too_deep_answer k = Err (refusal.TooDeep (record { 0 = k }))
 
 abbrev pub table_short : ℕ → Answer
-table_short rows = Refused (refusal.TreeShort rows)
+table_short rows = Err (refusal.TreeShort rows)
 
 -- an action that stops when k elements were read: refusal 6 or 7, at the last of them
 abbrev pub stopped_at : ℕ → Refusal → StrictRefusal
@@ -52,9 +54,9 @@ stopped_at k too_deep = refusal.TooDeep (record { 0 = k - 1 })
 
 -- the answer, if the tree table has room for `room` words
 abbrev pub tree_answer_of : ℕ → End State Refusal → Answer
-tree_answer_of room (read s) = cond (leb (row_numbers * length (state_rows s)) room) (Tree (length (state_rows s))) (table_short (room / row_numbers))
+tree_answer_of room (read s) = cond (leb (row_numbers * length (state_rows s)) room) (Ok (length (state_rows s))) (table_short (room / row_numbers))
 tree_answer_of room (bad k) = no_file_answer k
-tree_answer_of room (stopped k x) = Refused (stopped_at k x)
+tree_answer_of room (stopped k x) = Err (stopped_at k x)
 tree_answer_of room spent = no_file_answer 0
 
 -- the tree table afterwards: the rows and then zeros; on a refusal zeros

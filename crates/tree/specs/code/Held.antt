@@ -2,7 +2,9 @@
 -- there were when its frame began: `heads` has each base's list, `next` the links, 0 ending one, a row's number and one more else. The
 -- rows of a frame are the lists of the bases from its own to that of the frame inside it. What stands after the base of the next row is
 -- of no account: the arrays are lent, and hold any words at the start. Assumes nothing: these are definitions.
-use Rattle.std.specs.Prelude.{ℕ, suc, ◌+◌, ◌*◌, ◌≤◌, ◌≡◌, ◌⊎◌, Bool, true, false, List, [], ◌∷◌, ◌++◌, leb, length, get_or, drop}
+use Rattle.refusals.specs.declared.StrictRefusal.{StrictRefusal}
+use Rattle.tree.specs.declared.Moved.{Moved}
+use Rattle.std.specs.Prelude.{ℕ, suc, ◌+◌, ◌*◌, ◌≤◌, ◌≡◌, ◌⊎◌, Bool, true, false, List, [], ◌∷◌, ◌++◌, leb, length, get_or, drop, Result, Ok, Err}
 use Rattle.places.specs.Sizes.{most_elements}
 use Rattle.grammars.specs.code.Actions.{Step, go, stop, End, read, bad, stopped, spent}
 use Rattle.forms.specs.code.RuleNames.{first_row, file, constant, subtype}
@@ -11,11 +13,7 @@ use Rattle.forms.specs.Tree.{Row}
 use Rattle.forms.specs.code.RuleActions.{Frame, State, Refusal, state_rows}
 use Rattle.form_table.specs.code.FormBytes.{encode}
 use Rattle.refusals.specs.declared.StrictRefusal.TheVariants as refusal
-use Rattle.tree.specs.declared.Answer.{Answer}
-use Rattle.tree.specs.declared.Answer.TheVariants.{Tree, Refused}
-use Rattle.tree.specs.declared.Did.{Did}
-use Rattle.tree.specs.declared.Did.TheVariants.{Went, Stopped}
-use Rattle.tree.specs.code.Answers.{stopped_at}
+use Rattle.tree.specs.code.Answers.{stopped_at, Answer}
 use Rattle.tree.specs.code.Room.{frame_words}
 
 -- the list of rows that begins at h
@@ -54,21 +52,25 @@ pick_used false u = u
 abbrev pub used_after : ℕ → ℕ → ℕ
 used_after a u = pick_used (leb first_row a) u
 
+-- what an action did: the machine goes on, or refusal 6 or 7
+abbrev pub Did : Type 0
+Did = Result Moved StrictRefusal
+
 -- what an action of the code did, when k elements were read, is what the action makes of the state
 abbrev pub ActionDone : Did → List ℕ → List ℕ → List ℕ → List ℕ → (used k : ℕ) → Step State Refusal → Type 0
-ActionDone (Went m) frames cells next heads used k (go t) = Held frames cells next heads m.fp m.used t.frames × (t.depth ≡ m.depth) × (m.used ≡ used)
-ActionDone (Stopped r) frames cells next heads used k (stop x) = r ≡ stopped_at k x
-ActionDone (Went m) frames cells next heads used k (stop x) = ⊥
-ActionDone (Stopped r) frames cells next heads used k (go t) = ⊥
+ActionDone (Ok m) frames cells next heads used k (go t) = Held frames cells next heads m.fp m.used t.frames × (t.depth ≡ m.depth) × (m.used ≡ used)
+ActionDone (Err r) frames cells next heads used k (stop x) = r ≡ stopped_at k x
+ActionDone (Ok m) frames cells next heads used k (stop x) = ⊥
+ActionDone (Err r) frames cells next heads used k (go t) = ⊥
 
 -- what the scan answers is how the reading ends
 abbrev pub Tells : Answer → List ℕ → List ℕ → List ℕ → End State Refusal → Type 0
-Tells (Tree used) cells next heads (read s) =
+Tells (Ok used) cells next heads (read s) =
     Spans cells next heads used 0 (state_rows s) × (length (state_rows s) ≡ used) × (used ≤ most_elements) × ((i : ℕ) → i ≤ used → get_or heads i 0 ≤ used)
-Tells (Refused r) cells next heads (bad j) = r ≡ refusal.NoFile (record { 0 = j })
-Tells (Refused r) cells next heads (stopped j x) = r ≡ stopped_at j x
-Tells (Tree used) cells next heads (bad j) = ⊥
-Tells (Tree used) cells next heads (stopped j x) = ⊥
-Tells (Tree used) cells next heads spent = ⊥
-Tells (Refused r) cells next heads (read s) = ⊥
-Tells (Refused r) cells next heads spent = ⊥
+Tells (Err r) cells next heads (bad j) = r ≡ refusal.NoFile (record { 0 = j })
+Tells (Err r) cells next heads (stopped j x) = r ≡ stopped_at j x
+Tells (Ok used) cells next heads (bad j) = ⊥
+Tells (Ok used) cells next heads (stopped j x) = ⊥
+Tells (Ok used) cells next heads spent = ⊥
+Tells (Err r) cells next heads (read s) = ⊥
+Tells (Err r) cells next heads spent = ⊥

@@ -1,6 +1,6 @@
 -- What reading each constant and subtype of a package by itself leaves in the lent row table: the rows of a piece stand from its first
 -- element's row on, counted from the piece's first element (01, "Pieces, items, states"). Assumes nothing: these are definitions.
-use Rattle.std.specs.Prelude.{ℕ, ◌-◌, ◌*◌, ◌/◌, min, Bool, false, cond, List, [], ◌∷◌, ◌++◌, eqb, length, get_or, replicate}
+use Rattle.std.specs.Prelude.{ℕ, ◌-◌, ◌*◌, ◌/◌, min, Bool, false, cond, List, [], ◌∷◌, ◌++◌, eqb, length, get_or, replicate, Option, Some, None}
 use Rattle.places.specs.Sizes.{most_elements}
 use Rattle.grammars.specs.code.Actions.{End, read, bad, stopped, spent}
 use Rattle.forms.specs.code.RuleNames.{constant, subtype}
@@ -54,6 +54,6 @@ elements_for_items table count words = min count (min (rows_in table) (min (word
 unfoldable pub item_rows : List ℕ → ℕ → ℕ → List ℕ
 item_rows table count words = pieces_words (kind_pieces (kinds_of (elements_for_items table count words) table)) ++ replicate (words - row_numbers * elements_for_items table count words) 0
 
--- the code of the symbol from which a piece is read that begins with kind k, 0 where it is not read
-abbrev pub scan_start_of : ℕ → ℕ
-scan_start_of k = cond (eqb k word_constant) (encode constant) (cond (eqb k word_subtype) (encode subtype) 0)
+-- the code of the symbol from which a piece is read that begins with kind k, if it is read
+abbrev pub scan_start_of : ℕ → Option ℕ
+scan_start_of k = cond (eqb k word_constant) (Some (encode constant)) (cond (eqb k word_subtype) (Some (encode subtype)) None)

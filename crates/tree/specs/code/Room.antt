@@ -1,6 +1,6 @@
 -- How large the machine's arrays are. Nothing is promised of these numbers: the proofs show that the machine never needs more. Assumes nothing:
 -- these are definitions.
-use Rattle.std.specs.Prelude.{ℕ, ◌+◌, ◌*◌, ◌≡◌, List, length}
+use Rattle.std.specs.Prelude.{ℕ, ◌+◌, ◌*◌}
 use Rattle.forms.specs.RowWords.{row_numbers}
 
 -- the stack's words, and the last of them, where it begins
@@ -36,11 +36,3 @@ most_rows = 10368
 
 abbrev pub cells_words : ℕ
 cells_words = row_numbers * most_rows
-
--- the five arrays that are lent to the machine
-pub record Room (stk frames cells next heads : List ℕ) : Type 0 where
-  pub stack : length stk ≡ stack_words
-  pub framed : length frames ≡ frames_words
-  pub rows : length cells ≡ cells_words
-  pub links : length next ≡ most_rows
-  pub firsts : length heads ≡ most_rows

@@ -1,6 +1,6 @@
 -- What the strict reading promises, as statements: proofs/Promises.antt proves them. `table` is an element table, `n` how many of its
 -- elements count, `room` how many words the lent tree table has. Assumes nothing: these are definitions.
-use Rattle.std.specs.Prelude.{ℕ, ◌*◌, ◌-◌, ◌/◌, ◌≤◌, ◌<◌, ◌≡◌, ◌↔◌, List, ◌++◌, length, replicate}
+use Rattle.std.specs.Prelude.{ℕ, ◌*◌, ◌-◌, ◌/◌, ◌≤◌, ◌<◌, ◌≡◌, ◌↔◌, List, ◌++◌, length, replicate, Ok}
 use Rattle.same_names.specs.Alike.{same_name}
 use Rattle.forms.specs.RowWords.{row_numbers}
 use Rattle.forms.specs.code.RuleActions.{State, state_rows, Reading}
@@ -8,10 +8,8 @@ use Rattle.forms.specs.Files.{Tiled, TreeFits}
 use Rattle.forms.specs.OperatorElements.{OperatorsRight}
 use Rattle.forms.specs.Owners.{AllOwned, OwnedOnce, LeavesAre}
 use Rattle.forms.specs.Labels.{LabelsLead}
-use Rattle.tree.specs.code.Answers.{terminals_of, reading_in, tree_answer_of, tree_table_of, no_file_answer, name_differs_answer, too_deep_answer, table_short}
+use Rattle.tree.specs.code.Answers.{terminals_of, reading_in, tree_answer_of, tree_table_of, no_file_answer, name_differs_answer, too_deep_answer, table_short, Answer}
 use Rattle.forms.specs.RowWords.{words_of}
-use Rattle.tree.specs.declared.Answer.{Answer}
-use Rattle.tree.specs.declared.Answer.TheVariants.{Tree}
 use Rattle.tree_promises.specs.Due.{SomeDue, NoFileFirst, NameFirst, DepthFirst}
 
 -- what the first n elements are to the forms
@@ -33,7 +31,7 @@ tree_left text table n room = tree_table_of room (reading_in text table n)
 abbrev pub Accepts : Type 0
 Accepts =
     (text table : List ℕ) (n room rows : ℕ)
-    → (tree_answer text table n room ≡ Tree rows) ↔ ((s : State) × (ReadsAsFile text table n s × (length (state_rows s) ≡ rows) × (row_numbers * rows ≤ room)))
+    → (tree_answer text table n room ≡ Ok rows) ↔ ((s : State) × (ReadsAsFile text table n s × (length (state_rows s) ≡ rows) × (row_numbers * rows ≤ room)))
 
 -- The table then has the file's rows, parent first, and zeros.
 abbrev pub HasRows : Type 0
@@ -70,7 +68,7 @@ IsShort =
 
 -- On a refusal the tree table is all zeros.
 abbrev pub ZerosElse : Type 0
-ZerosElse = (text table : List ℕ) (n room : ℕ) → ((rows : ℕ) → tree_answer text table n room ≡ Tree rows → ⊥) → tree_left text table n room ≡ replicate room 0
+ZerosElse = (text table : List ℕ) (n room : ℕ) → ((rows : ℕ) → tree_answer text table n room ≡ Ok rows → ⊥) → tree_left text table n room ≡ replicate room 0
 
 -- The rows of a file are trees that stand one right after the other, over all its elements: every row's subtree count and span hold its
 -- children and nothing else.

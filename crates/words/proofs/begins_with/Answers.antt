@@ -1,6 +1,5 @@
 -- The invariant: whether the rest begins with the rest of the word is whether the whole does. Assumes nothing.
 use Rattle.words.proofs.Laws.{begins_all, begins_short, begins_not, begins_more}
-use Prim.Native.Nat.{◌-◌}
 use mathlib.Core.Path.{refl}
 use Rattle.words.proofs.begins_with.Goals as goal
 

@@ -1,7 +1,6 @@
 -- The invariant: the search from here, in the rest of the list, is the search in the whole. Assumes nothing.
 use Rattle.words.proofs.Laws.{search_hit, search_past, search_end}
 use native.Mathlib.Omega.{arith}
-use Prim.Native.Nat.{◌-◌}
 use mathlib.Core.Path.{refl}
 use Rattle.words.proofs.search.Goals as goal
 

@@ -1,7 +1,0 @@
--- Past the end the definition's `get_or` gives 0 too. Assumes nothing.
-use lib.ListN.{get_or-eq_default}
-use mathlib.Core.Path.{sym}
-use Rattle.classes.proofs.byte_or.Goals as goal
-
-pub returns-else-at-s : goal.returns-else-at-s
-returns-else-at-s c = sym (get_or-eq_default c.args.s.now 0 c.if-at-s.false)

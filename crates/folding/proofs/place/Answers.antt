@@ -1,8 +1,0 @@
--- The two truths in their order. Assumes nothing.
-use Rattle.folding.proofs.place.Goals as goal
-
-pub returns-then-t : goal.returns-then-t
-returns-then-t c = rw c.if-t.true
-
-pub returns-else-t : goal.returns-else-t
-returns-else-t c = rw c.if-t.false
