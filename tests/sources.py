@@ -39,8 +39,12 @@ class Function:
         while body >= 0 and (clause := CLAUSE.search(plain, start, body)):
             end = closed(plain, body)
             clauses.append((clause[1], text[body:end]))
+            if plain[end:].lstrip().startswith(';'):  # a method of a trait: its impls have the body
+                body = end = plain.index(';', end) + 1
+                break
             body = plain.find('{', end)
-        end = closed(plain, body) if body >= 0 else len(text)
+        else:
+            end = closed(plain, body) if body >= 0 else len(text)
         self.text, self.contract = text[start:end], text[start:body]
         self.ensures = [clause for word, clause in clauses if word == 'ensures']
         self.requires = [clause for word, clause in clauses if word == 'requires']

@@ -8,7 +8,7 @@ ghost use Rattle.puts.specs.Lines.{Part};
 ghost use Rattle.element_lines.specs.Lines.{kind_word, places_of, element_of, head_of, element_line, element_lines};
 
 use places::{BytePlace, ElementNumber};
-use puts::Filled;
+use puts::{Filled, Listing};
 use refused_line::COUNT;
 
 // The word for a kind's number.
@@ -83,14 +83,27 @@ fn element_lines(table: &[u64], answer: &[u64]) -> usize
     refused_line::lines_by(answer, listed + 1)
 }
 
+// Elements to list, and the answer that they were given with.
+#[derive(Clone, Copy)]
+struct ElementListing<'a> {
+    table: &'a [u64],
+    answer: &'a [u64],
+}
+
+impl<'a> Listing for ElementListing<'a> {
+    ghost line = { λ x. element_line x.table.now x.answer.now };
+
+    fn put_line(&self, i: usize, out: &mut [u8], at: usize) -> usize
+        ensures { Wrote out.old at (element_line self.now.table.now self.now.answer.now i) out.new result }
+    {
+        put_element_line(self.table, self.answer, i, out, at)
+    }
+}
+
 // The listing of a text's elements from a line on, as many whole lines as the buffer has room for. The answer is lent as its words.
 pub fn fill_elements(table: &[u64], answer: &[u64], from: usize, out: &mut [u8]) -> Filled
     ensures { Part (element_line table.now answer.now) from (element_lines table.now answer.now) (length out.old) result out.new }
 {
-    puts::fill(
-        |i, out, at| put_element_line(table, answer, i, out, at),
-        from,
-        element_lines(table, answer),
-        out,
-    )
+    let listing = ElementListing { table, answer };
+    puts::fill(&listing, from, element_lines(table, answer), out)
 }

@@ -10,7 +10,7 @@ ghost use Rattle.item_lines.specs.Lines.{spelled_of, state_word, result_of, item
 
 use pieces::RECORD_WORDS;
 use places::ElementNumber;
-use puts::Filled;
+use puts::{Filled, Listing};
 use refused_line::{COUNT, WHOLE};
 
 // The states, by the words of a record.
@@ -166,6 +166,31 @@ fn survey_lines(items: &[u64], answer: &[u64]) -> usize
     refused_line::lines_by(answer, records + 1)
 }
 
+// A survey to list: the text, its tables, and the answer that they were given with.
+#[derive(Clone, Copy)]
+struct SurveyListing<'a> {
+    text: &'a [u8],
+    elements: &'a [u64],
+    items: &'a [u64],
+    answer: &'a [u64],
+}
+
+impl<'a> Listing for SurveyListing<'a> {
+    ghost line = { λ x. survey_line x.text.now x.elements.now x.items.now x.answer.now };
+
+    fn put_line(&self, i: usize, out: &mut [u8], at: usize) -> usize
+        ensures { Wrote out.old at (survey_line self.now.text.now self.now.elements.now self.now.items.now self.now.answer.now i) out.new result }
+    {
+        let SurveyListing {
+            text,
+            elements,
+            items,
+            answer,
+        } = *self;
+        put_survey_line(text, elements, items, answer, i, out, at)
+    }
+}
+
 // The listing of a survey from a line on, as many whole lines as the buffer has room for. The answer is lent as its words.
 pub fn fill_survey(
     text: &[u8],
@@ -177,10 +202,11 @@ pub fn fill_survey(
 ) -> Filled
     ensures { Part (survey_line text.now elements.now items.now answer.now) from (survey_lines items.now answer.now) (length out.old) result out.new }
 {
-    puts::fill(
-        |i, out, at| put_survey_line(text, elements, items, answer, i, out, at),
-        from,
-        survey_lines(items, answer),
-        out,
-    )
+    let listing = SurveyListing {
+        text,
+        elements,
+        items,
+        answer,
+    };
+    puts::fill(&listing, from, survey_lines(items, answer), out)
 }

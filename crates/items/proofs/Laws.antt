@@ -73,9 +73,12 @@ module _ (rows items : List ℕ) (i from most m : ℕ) (inv : Left rows items i 
         let z : rows_until (most - m) (drop (row_numbers * (from + m)) rows) ≡ suc (rows_until (most - (m + 1)) (drop (row_numbers * (from + (m + 1))) rows)) = opened ∙ rw (ne_eqb (row_at rows (from + m)).form 0 h) in
         omega (arith, inv, z)
 
-  pub held_end : most ≤ m → m ≤ most → most ≡ rows_held rows items i
+  pub held_end : most ≤ m → m ≡ rows_held rows items i
   unfolding rows_until
-  held_end l k = let a : most - m ≡ 0 = omega arith in let b : most ≡ m = omega arith in b ∙ (rw (a, add-zero m) at inv)
+  held_end l = let a : most - m ≡ 0 = omega arith in rw (a, add-zero m) at inv
+
+  pub held_all : most ≤ m → m ≤ most → most ≡ rows_held rows items i
+  held_all l k = let b : most ≡ m = omega arith in b ∙ held_end l
 
 -- ---- the word downto
 

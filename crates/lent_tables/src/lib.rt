@@ -49,5 +49,5 @@ pub fn least(a: usize, b: usize) -> usize
 pub fn front(s: &[u8], n: usize) -> &[u8]
     ensures { result.now ≡ take n s.now }
 {
-    &s[..n.min(s.len())]
+    &s[..least(n, s.len())]
 }

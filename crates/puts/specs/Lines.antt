@@ -1,8 +1,6 @@
 -- Whole lines in a lent buffer: as many as fit, and zeros after them. A listing is its lines by their numbers, from 0. Assumes nothing.
 use Rattle.std.specs.Prelude.{ℕ, zero, suc, ◌+◌, ◌-◌, ◌*◌, ◌/◌, ◌≡◌, cond, List, [], ◌++◌, ltb, length, take, drop, replicate}
-use denote.Ref.{MutBor}
 use Rattle.puts.specs.declared.Filled.{Filled}
-use Rattle.puts.specs.Puts.{Wrote}
 
 -- n lines from line i on
 unfoldable pub lines_from : (ℕ → List ℕ) → ℕ → ℕ → List ℕ
@@ -21,10 +19,6 @@ pub record Part (line : ℕ → List ℕ) (from to size : ℕ) (r : Filled) (out
   pub used : r.used ≡ length (lines_from line from (fitting line from (to - from) size))
   pub left : r.left ≡ to - r.next
   pub bytes : out ≡ lines_from line from (fitting line from (to - from) size) ++ replicate (size - r.used) 0
-
--- What a function of a line's number, a buffer and a place does, where what it may leave and answer is given: it puts the line.
-abbrev pub PutsLines : (ℕ → MutBor (List ℕ) → ℕ → ℕ → MutBor (List ℕ) → Type 0) → (ℕ → List ℕ) → Type 0
-PutsLines Puts line = (i : ℕ) (out : MutBor (List ℕ)) (at r : ℕ) (out' : MutBor (List ℕ)) → Puts i out at r out' → Wrote out.now at (line i) out'.now r
 
 -- the numbers of a row of a table whose rows have so many, none where the table has no such row
 unfoldable pub numbers_in_row : List ℕ → ℕ → ℕ → List ℕ

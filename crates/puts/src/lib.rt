@@ -4,7 +4,7 @@
 
 ghost use Rattle.std.specs.Prelude.{◌≡◌, ℕ, List, [], ◌∷◌, ◌++◌, ◌-◌, ◌≤◌, ◌<◌, length, take, drop, replicate};
 ghost use Rattle.puts.specs.Puts.{Wrote};
-ghost use Rattle.puts.specs.Lines.{Part, PutsLines, numbers_in_row};
+ghost use Rattle.puts.specs.Lines.{Part, numbers_in_row};
 ghost use Rattle.puts.specs.Decimals.{decimal_of, signed_text, field_of, fields_of};
 
 // The line feed, which ends every line.
@@ -123,19 +123,21 @@ pub fn ended(next: usize, to: usize, out: &mut [u8], used: usize) -> Filled
     }
 }
 
-// The part of a listing from a line up to another, whose lines a function puts by their numbers: as many whole lines as the buffer has room for.
-pub fn fill<F: Fn(usize, &mut [u8], usize) -> usize>(
-    put_line: F,
-    from: usize,
-    to: usize,
-    out: &mut [u8],
-) -> Filled
-    requires { F.IsAlwaysCallable put_line }
-    ensures { (line : ℕ → List ℕ) → PutsLines (F.post put_line) line → Part line from to (length out.old) result out.new }
+// A listing is its lines by their numbers, each of which can be put.
+pub trait Listing {
+    ghost line: { Self → ℕ → List ℕ };
+
+    fn put_line(&self, i: usize, out: &mut [u8], at: usize) -> usize
+        ensures { Wrote out.old at (line self.now i) out.new result };
+}
+
+// The part of a listing from a line up to another: as many whole lines as the buffer has room for.
+pub fn fill<L: Listing>(listing: &L, from: usize, to: usize, out: &mut [u8]) -> Filled
+    ensures { Part (L.line listing.now) from to (length out.old) result out.new }
 {
     let mut w = 0;
     for i in from..to {
-        let r = put_line(i, out, w);
+        let r = listing.put_line(i, out, w);
         if out.len() <= r {
             return ended(i, to, out, w);
         }

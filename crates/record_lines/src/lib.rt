@@ -9,7 +9,7 @@ ghost use Rattle.puts.specs.Lines.{Part};
 ghost use Rattle.record_lines.specs.Lines.{frame_text, head_of, first_of, record_fields, tally_text, both_of, pair_text, records_listed, last_of, record_line, record_lines};
 
 use pieces::RECORD_WORDS;
-use puts::Filled;
+use puts::{Filled, Listing};
 use refused_line::{COUNT, WHOLE};
 use states::STATES;
 
@@ -139,14 +139,27 @@ fn record_lines(items: &[u64], answer: &[u64]) -> usize
     refused_line::lines_by(answer, n + BESIDE_RECORDS)
 }
 
+// Records to list, and the answer that they were given with.
+#[derive(Clone, Copy)]
+struct RecordListing<'a> {
+    items: &'a [u64],
+    answer: &'a [u64],
+}
+
+impl<'a> Listing for RecordListing<'a> {
+    ghost line = { λ x. record_line x.items.now x.answer.now };
+
+    fn put_line(&self, i: usize, out: &mut [u8], at: usize) -> usize
+        ensures { Wrote out.old at (record_line self.now.items.now self.now.answer.now i) out.new result }
+    {
+        put_record_line(self.items, self.answer, i, out, at)
+    }
+}
+
 // The records of a survey from a line on, as many whole lines as the buffer has room for. The answer is lent as its words.
 pub fn fill_records(items: &[u64], answer: &[u64], from: usize, out: &mut [u8]) -> Filled
     ensures { Part (record_line items.now answer.now) from (record_lines items.now answer.now) (length out.old) result out.new }
 {
-    puts::fill(
-        |i, out, at| put_record_line(items, answer, i, out, at),
-        from,
-        record_lines(items, answer),
-        out,
-    )
+    let listing = RecordListing { items, answer };
+    puts::fill(&listing, from, record_lines(items, answer), out)
 }

@@ -1,7 +1,8 @@
 -- A refusal's line, and the lines of an answer that may be one. An answer is lent as its words (include/kawhiluhe.h): the refusal's number, 0
 -- for none, its place, and then what was counted. Assumes nothing.
-use Rattle.std.specs.Prelude.{ℕ, ◌≡◌, cond, List, [], ◌∷◌, ◌++◌, eqb, get_or}
+use Rattle.std.specs.Prelude.{ℕ, ◌≡◌, false, cond, List, [], ◌∷◌, ◌++◌, eqb, get_or}
 use Rattle.words.specs.Words.{bytes_of}
+use Rattle.puts.specs.Puts.{Wrote}
 use Rattle.puts.specs.Decimals.{decimal_of, line_feed}
 
 -- where the first words of an answer stand
@@ -38,6 +39,11 @@ lines_by answer lines = cond (eqb (get_or answer refusal 0) 0) lines 1
 pub record Unrefused (answer t t' : List ℕ) : Type 0 where
   pub given : get_or answer refusal 0 ≡ 0
   pub same : t' ≡ t
+
+-- an answer that is one: its line is put, which stands for whatever line the answer would have
+pub record Refusing (answer t : List ℕ) (at : ℕ) (t' : List ℕ) (r : ℕ) : Type 0 where
+  pub given : eqb (get_or answer refusal 0) 0 ≡ false
+  pub put : Wrote t at (refused_of (get_or answer refusal 0) (get_or answer place 0)) t' r
 
 -- "pieces 6 whole no": how a survey's first line ends
 unfoldable pub whole_text : ℕ → List ℕ

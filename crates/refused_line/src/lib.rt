@@ -2,9 +2,9 @@
 // any buffer.
 #![tactic(auto)]
 
-ghost use Rattle.std.specs.Prelude.{◌≡◌, ℕ, List, MatchOption};
+ghost use Rattle.std.specs.Prelude.{◌≡◌, MatchOption};
 ghost use Rattle.puts.specs.Puts.{Wrote};
-ghost use Rattle.refused_line.specs.Refused.{place_text, refused_of, line_by, lines_by, whole_text, Unrefused};
+ghost use Rattle.refused_line.specs.Refused.{place_text, refused_of, lines_by, whole_text, Unrefused, Refusing};
 
 // Where the words of an answer stand that all have: a refusal's number and its place, and how many elements, rows or pieces there are.
 pub const REFUSAL: usize = 0;
@@ -35,7 +35,7 @@ pub fn put_refused(number: u64, place: u64, out: &mut [u8], at: usize) -> usize
 
 // The refusal's line, of an answer that is one: it stands for whatever line the answer would have.
 pub fn put_refusal(answer: &[u64], out: &mut [u8], at: usize) -> Option<usize>
-    ensures { MatchOption result (Unrefused answer.now out.old out.new) (λ end. (line : ℕ → List ℕ) (i : ℕ) → Wrote out.old at (line_by answer.now line i) out.new end) }
+    ensures { MatchOption result (Unrefused answer.now out.old out.new) (λ end. Refusing answer.now out.old at out.new end) }
 {
     let number = lent_tables::word_at(answer, REFUSAL);
     if number == 0 {

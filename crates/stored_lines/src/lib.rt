@@ -8,7 +8,7 @@ ghost use Rattle.puts.specs.Lines.{Part};
 ghost use Rattle.stored_lines.specs.Lines.{row_word, count_text, stored_head, stored_item, stored_line, stored_lines};
 
 use places::BytePlace;
-use puts::Filled;
+use puts::{Filled, Listing};
 use refused_line::COUNT;
 use stored_reading::ROW_WORDS;
 
@@ -89,6 +89,24 @@ fn stored_lines(rows: &[u64], answer: &[u64]) -> usize
     refused_line::lines_by(answer, listed + 1)
 }
 
+// A stored table to list: its bytes, the rows, and the answer that they were given with.
+#[derive(Clone, Copy)]
+struct StoredListing<'a> {
+    bytes: &'a [u8],
+    rows: &'a [u64],
+    answer: &'a [u64],
+}
+
+impl<'a> Listing for StoredListing<'a> {
+    ghost line = { λ x. stored_line x.bytes.now x.rows.now x.answer.now };
+
+    fn put_line(&self, i: usize, out: &mut [u8], at: usize) -> usize
+        ensures { Wrote out.old at (stored_line self.now.bytes.now self.now.rows.now self.now.answer.now i) out.new result }
+    {
+        put_stored_line(self.bytes, self.rows, self.answer, i, out, at)
+    }
+}
+
 // What is printed of a stored table from a line on, as many whole lines as the buffer has room for. The answer is lent as its words.
 pub fn fill_stored(
     bytes: &[u8],
@@ -99,10 +117,10 @@ pub fn fill_stored(
 ) -> Filled
     ensures { Part (stored_line bytes.now rows.now answer.now) from (stored_lines rows.now answer.now) (length out.old) result out.new }
 {
-    puts::fill(
-        |i, out, at| put_stored_line(bytes, rows, answer, i, out, at),
-        from,
-        stored_lines(rows, answer),
-        out,
-    )
+    let listing = StoredListing {
+        bytes,
+        rows,
+        answer,
+    };
+    puts::fill(&listing, from, stored_lines(rows, answer), out)
 }

@@ -8,7 +8,7 @@ ghost use Rattle.puts.specs.Lines.{Part};
 ghost use Rattle.tree_lines.specs.Lines.{fails_of, verdict_text, head_of, row_text, tree_line, tree_lines};
 
 use form_numbers::ROW_NUMBERS;
-use puts::Filled;
+use puts::{Filled, Listing};
 use refused_line::COUNT;
 
 // Where the strict reading's answer has whether the file passes, and the first row that is not supported.
@@ -75,14 +75,27 @@ fn tree_lines(tree: &[u64], answer: &[u64]) -> usize
     refused_line::lines_by(answer, listed + 1)
 }
 
+// A tree to list, and the answer that it was given with.
+#[derive(Clone, Copy)]
+struct TreeListing<'a> {
+    tree: &'a [u64],
+    answer: &'a [u64],
+}
+
+impl<'a> Listing for TreeListing<'a> {
+    ghost line = { λ x. tree_line x.tree.now x.answer.now };
+
+    fn put_line(&self, i: usize, out: &mut [u8], at: usize) -> usize
+        ensures { Wrote out.old at (tree_line self.now.tree.now self.now.answer.now i) out.new result }
+    {
+        put_tree_line(self.tree, self.answer, i, out, at)
+    }
+}
+
 // The listing of a tree from a line on, as many whole lines as the buffer has room for. The answer is lent as its words.
 pub fn fill_tree(tree: &[u64], answer: &[u64], from: usize, out: &mut [u8]) -> Filled
     ensures { Part (tree_line tree.now answer.now) from (tree_lines tree.now answer.now) (length out.old) result out.new }
 {
-    puts::fill(
-        |i, out, at| put_tree_line(tree, answer, i, out, at),
-        from,
-        tree_lines(tree, answer),
-        out,
-    )
+    let listing = TreeListing { tree, answer };
+    puts::fill(&listing, from, tree_lines(tree, answer), out)
 }

@@ -1,5 +1,5 @@
 -- The invariant: the rows counted with those left are the piece's. Assumes nothing.
-use Rattle.items.proofs.Laws.{held_start, held_stop, held_turn, held_end}
+use Rattle.items.proofs.Laws.{held_start, held_stop, held_turn, held_all}
 use Rattle.items.proofs.rows_held.Goals as goal
 
 pub loop-m-init : goal.loop-m-init
@@ -12,4 +12,4 @@ pub loop-m-preserved : goal.loop-m-preserved
 loop-m-preserved c = search held_turn
 
 pub returns : goal.returns
-returns c = search held_end
+returns c = search held_all
