@@ -160,7 +160,11 @@ fn told_sorted(s: &[u8], firsts: &[u64; MOST_ITEMS], sizes: &[u64; MOST_ITEMS], 
     requires { n ≤ most_items }
     ensures { ToldRight (name_at s.now firsts.now sizes.now) n result }
 {
-    let mut order: [usize; MOST_ITEMS] = std::array::from_fn(|k| k);
+    // numbered in place: an array that a function gives is moved by a `memcpy`, which an archive for C would need from outside
+    let mut order = [0usize; MOST_ITEMS];
+    for (k, place) in order.iter_mut().enumerate() {
+        *place = k;
+    }
     sort(s, firsts, sizes, &mut order, n);
     told_by(s, firsts, sizes, &order, n)
 }

@@ -1,6 +1,5 @@
 pub mod Firsts
 pub mod Tables
-pub mod Copying
 pub mod Hashing
 pub mod Chaining
 pub mod Owning

@@ -198,14 +198,21 @@ fn find_twins(own: &[u64; MOST_PIECES], n: usize, flags: &mut [u64; MOST_PIECES]
     any
 }
 
-// The first n words, then zeros.
+fn word_at(from: &[u64; MOST_PIECES], n: usize, i: usize) -> u64
+    requires { n ≤ most_pieces }
+    ensures { result ≡ up_to (λ (k : ℕ). get_or from.now k 0) n i }
+{
+    if i < n { from[i] } else { 0 }
+}
+
+// The first n words, then zeros. Word by word, since a copy of slices is a `memcpy`, which an archive for C would need from outside.
 fn write_words(from: &[u64; MOST_PIECES], n: usize, to: &mut [u64])
     requires { n ≤ most_pieces }
     ensures { to.new ≡ filled (λ (k : ℕ). get_or from.now k 0) n (length to.old) }
 {
-    let size = n.min(to.len());
-    to[..size].copy_from_slice(&from[..size]);
-    to[size..].fill(0);
+    for (i, word) in to.iter_mut().enumerate() {
+        *word = word_at(from, n, i);
+    }
 }
 
 // For each element, the first record that claims its name and one more, 0 where none does or it is no name; for each record the same of
