@@ -29,7 +29,7 @@ def closed(text, place):
 
 class Function:
     """A function of a source: its crate, file and name, the modules and the type that it stands in, whether it is public, its parameters, its
-    contract with the clauses of it, all of its text and its lines."""
+    contract with the clauses of it, whether it has no body of its own, all of its text and its lines."""
 
     def __init__(self, root, path, within, match, text, plain, block=None):
         _, self.crate, _, *parts = path.relative_to(root).with_suffix('').parts
@@ -46,6 +46,7 @@ class Function:
         else:
             end = closed(plain, body) if body >= 0 else len(text)
         self.text, self.contract = text[start:end], text[start:body]
+        self.bodiless = self.text.endswith(';')
         self.ensures = [clause for word, clause in clauses if word == 'ensures']
         self.requires = [clause for word, clause in clauses if word == 'requires']
         given = re.search(rf'\bghost {self.name}_gives = (\{{.*?\}});', text[slice(*block)], re.S) if block else None
